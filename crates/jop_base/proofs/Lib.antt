@@ -1,0 +1,2 @@
+pub mod CountUp
+pub mod TextOrder

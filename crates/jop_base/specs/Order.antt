@@ -1,0 +1,27 @@
+-- The order of files: that of their texts.
+use Rattle.std.specs.Prelude.{ℕ, ◌+◌}
+use Rattle.std.specs.Cmp.Lexicographic.{slice_cmp}
+use Rattle.std.specs.Ordering.{nat_cmp}
+use Rattle.std.specs.declared.cmp.Ordering.{Ordering}
+use Rattle.jop_base.specs.declared.lock_name.LockKind.{LockKind}
+use Rattle.jop_base.specs.declared.lock_name.LockKind.TheVariants.{Sync, Exclusive}
+use Rattle.jop_base.specs.declared.path.Path.{Path}
+use Rattle.jop_base.specs.declared.path.Path.TheVariants.{Info, OldVersion, Item, Blob, Lock, Temp as TempFile}
+use Rattle.jop_base.specs.Paths.{path_text}
+
+-- which text comes first, by bytes
+unfoldable pub path_cmp : Path → Path → Ordering
+path_cmp p q = slice_cmp nat_cmp (path_text p) (path_text q)
+
+abbrev pub lock_rank : LockKind → ℕ → ℕ
+lock_rank Sync client_type = 10 + client_type
+lock_rank Exclusive client_type = 20 + client_type
+
+-- where a path stands among those that differ in more than an id
+abbrev pub rank_of : Path → ℕ
+rank_of (Blob id) = 0
+rank_of OldVersion = 1
+rank_of (Item id) = 2
+rank_of Info = 3
+rank_of (Lock name) = lock_rank name.kind name.client_type
+rank_of (TempFile id) = 30

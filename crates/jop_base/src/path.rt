@@ -1,0 +1,106 @@
+ghost use Rattle.std.specs.Prelude.{◌≡◌, ◌++◌, IfOk, IfSome, MatchOption};
+ghost use Rattle.jop_base.specs.Paths.{IsPath, path_text, file_name, is_guarded, dir_of, id_of};
+
+use crate::copied::Copied;
+use crate::dir::Dir;
+use crate::id::Id;
+use crate::lock_name::LockName;
+use crate::text::Text;
+use std::alloc::{AllocError, Global};
+
+/// A file of a target.
+#[derive(Clone, Copy, Debug, PartialEq, Eq)]
+pub enum Path {
+    /// The settings, keys and version of the target.
+    Info,
+    /// The version of a target from before there was an `Info`.
+    OldVersion,
+    /// The text of a note, a notebook or another item.
+    Item(Id),
+    /// The bytes of a resource.
+    Blob(Id),
+    Lock(LockName),
+    Temp(Id),
+}
+
+impl Path {
+    /// The folder of the file.
+    pub fn dir(&self) -> Dir
+        ensures { result ≡ dir_of self.now }
+    {
+        match self {
+            Path::Info | Path::Item(_) => Dir::Root,
+            Path::OldVersion => Dir::OldSync,
+            Path::Blob(_) => Dir::Resources,
+            Path::Lock(_) => Dir::Locks,
+            Path::Temp(_) => Dir::Temp,
+        }
+    }
+
+    /// The id that the file's name has: that of an item, a blob, a lock's client or a temporary file.
+    pub fn id(&self) -> Option<Id>
+        ensures id { result ≡ id_of self.now }
+        ensures path { IsPath self.now }
+    {
+        match self {
+            Path::Info | Path::OldVersion => None,
+            Path::Item(id) | Path::Blob(id) | Path::Temp(id) => {
+                let _ = id.digits();
+                Some(*id)
+            }
+            Path::Lock(name) => Some(name.client()),
+        }
+    }
+
+    /// Whether the file stands outside the locks and the temporary files, so that only one who holds a lock may change
+    /// it.
+    pub fn is_guarded(&self) -> bool
+        ensures { result ≡ is_guarded self.now }
+    {
+        match self {
+            Path::Lock(_) | Path::Temp(_) => false,
+            Path::Info | Path::OldVersion | Path::Item(_) | Path::Blob(_) => true,
+        }
+    }
+
+    /// The name of the file in its folder.
+    pub fn file_name(&self, alloc: Global) -> Result<Text, AllocError>
+        ensures { IfOk result (λ text. text ≡ file_name self.now) }
+    {
+        match self {
+            Path::Info => Text::of(alloc, "info.json"),
+            Path::OldVersion => Text::of(alloc, "version.txt"),
+            Path::Item(id) => joined(alloc, id.as_str(), ".md"),
+            Path::Blob(id) => Text::of(alloc, id.as_str()),
+            Path::Lock(name) => name.file_name(alloc),
+            Path::Temp(id) => joined(alloc, id.as_str(), ".tmp"),
+        }
+    }
+
+    /// The name of the file on the target, from the root on.
+    pub fn text(&self, alloc: Global) -> Result<Text, AllocError>
+        ensures { IfOk result (λ text. text ≡ path_text self.now) }
+    {
+        let mut text = self.dir().text(alloc)?;
+        if !text.is_empty() {
+            text.push('/')?;
+        }
+        text.append(self.file_name(alloc)?.as_str())?;
+        Ok(text)
+    }
+}
+
+/// Two texts in a row.
+fn joined(alloc: Global, start: &str, end: &str) -> Result<Text, AllocError>
+    ensures { IfOk result (λ text. text ≡ start.now ++ end.now) }
+{
+    let mut text = Text::of(alloc, start)?;
+    text.append(end)?;
+    Ok(text)
+}
+
+impl Copied for Path {
+    fn copy(&self, _alloc: Global) -> Result<Path, AllocError> {
+        Ok(*self)
+    }
+}

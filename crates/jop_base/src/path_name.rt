@@ -1,0 +1,57 @@
+ghost use Rattle.std.specs.Prelude.{◌≡◌, ◌++◌, ℕ, List, IfSome, IfNone};
+ghost use Rattle.jop_base.specs.declared.path.Path.{Path};
+ghost use Rattle.jop_base.specs.Paths.{IsPath, IsNamed};
+
+use crate::dir::Dir;
+use crate::id::Id;
+use crate::lock_name::LockName;
+use crate::path::Path;
+
+impl Path {
+    /// The file that has this name in that folder. None exactly where no file has.
+    pub fn read(dir: Dir, name: &[u8]) -> Option<Path>
+        ensures some { IfSome result (λ path. IsNamed path dir name.now × IsPath path) }
+        ensures none { IfNone result ((path : Path) → IsPath path → ¬ IsNamed path dir name.now) }
+    {
+        match dir {
+            Dir::Root => read_root(name),
+            Dir::Resources => Some(Path::Blob(Id::read(name)?)),
+            Dir::OldSync => read_old(name),
+            Dir::Locks => Some(Path::Lock(LockName::read(name)?)),
+            Dir::Temp => Some(Path::Temp(Id::read(before(name, b".tmp")?)?)),
+        }
+    }
+}
+
+fn read_root(name: &[u8]) -> Option<Path>
+    ensures some { IfSome result (λ path. IsNamed path Dir.Root name.now × IsPath path) }
+    ensures none { IfNone result ((path : Path) → IsPath path → ¬ IsNamed path Dir.Root name.now) }
+{
+    if name == b"info.json".as_slice() {
+        return Some(Path::Info);
+    }
+    Some(Path::Item(Id::read(before(name, b".md")?)?))
+}
+
+fn read_old(name: &[u8]) -> Option<Path>
+    ensures some { IfSome result (λ path. IsNamed path Dir.OldSync name.now × IsPath path) }
+    ensures none { IfNone result ((path : Path) → IsPath path → ¬ IsNamed path Dir.OldSync name.now) }
+{
+    if name == b"version.txt".as_slice() {
+        Some(Path::OldVersion)
+    } else {
+        None
+    }
+}
+
+/// What stands before the ending of a name, where it has that ending.
+pub(crate) fn before<'a>(name: &'a [u8], ending: &[u8]) -> Option<&'a [u8]>
+    ensures some { IfSome result (λ start. start.now ++ ending.now ≡ name.now) }
+    ensures none { IfNone result ((start : List ℕ) → ¬ (start ++ ending.now ≡ name.now)) }
+{
+    if name.len() < ending.len() {
+        return None;
+    }
+    let (start, end) = name.split_at(name.len() - ending.len());
+    if end == ending { Some(start) } else { None }
+}

@@ -1,0 +1,36 @@
+ghost use Rattle.std.specs.Prelude.{◌≡◌};
+ghost use Rattle.jop_base.specs.Order.{path_cmp, rank_of};
+
+use crate::lock_name::LockKind;
+use crate::path::Path;
+use std::cmp::Ordering;
+
+impl Path {
+    /// The order of the texts, by bytes.
+    pub fn compare(&self, other: &Path) -> Ordering
+        ensures { result ≡ path_cmp self.now other.now }
+    {
+        let (own, others) = (self.id(), other.id());
+        match rank(self).cmp(&rank(other)) {
+            Ordering::Equal => own.cmp(&others),
+            unequal => unequal,
+        }
+    }
+}
+
+/// Where a path stands among those that differ in more than an id.
+fn rank(path: &Path) -> u8
+    ensures { result ≡ rank_of path.now }
+{
+    match path {
+        Path::Blob(_) => 0,
+        Path::OldVersion => 1,
+        Path::Item(_) => 2,
+        Path::Info => 3,
+        Path::Lock(name) => match name.kind {
+            LockKind::Sync => 10 + name.client_type,
+            LockKind::Exclusive => 20 + name.client_type,
+        },
+        Path::Temp(_) => 30,
+    }
+}

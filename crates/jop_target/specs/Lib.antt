@@ -1,0 +1,6 @@
+pub mod Pages
+pub mod Replies
+pub mod RunLaws
+pub mod Runs
+pub mod Store
+pub mod Trail

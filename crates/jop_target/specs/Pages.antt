@@ -1,0 +1,7 @@
+use Rattle.std.specs.Prelude.{ℕ, List}
+use Rattle.jop_target.specs.declared.event.Event.{Event}
+
+-- what a diary holds, and how many events more it takes without memory
+pub record Pages : Type 0 where
+  pub events : List Event
+  pub room : ℕ

@@ -1,0 +1,112 @@
+ghost use Rattle.std.specs.Prelude.{◌≡◌, ◌++◌, ◌∷◌, [], ◌≤◌, List, OnOk, OnErr, IsOk};
+ghost use Rattle.jop_target.specs.declared.event.Event.{Event};
+ghost use Rattle.jop_target.specs.declared.event.Event.TheVariants.{Began, Sent, Called, Made, Ended};
+
+use crate::call::Call;
+use crate::event::Event;
+use crate::reply::Reply;
+use std::alloc::{AllocError, Global};
+use std::marker::Model;
+
+/// What a client did, event by event.
+#[derive(Debug, Drop)]
+pub struct Diary {
+    list: Vec<Event>,
+}
+
+impl Model for Diary {
+    ghost use Rattle.std.specs.Prelude.{◌-◌, vec_len, vec_capacity};
+    ghost use Rattle.jop_target.specs.Pages.{Pages};
+
+    ghost Value = { Pages };
+
+    ghost view = { λ d. record { events = d.list.items; room = vec_capacity d.list - vec_len d.list } };
+}
+
+impl Diary {
+    pub fn new(alloc: Global) -> Diary
+        ensures { result.events ≡ [] }
+    {
+        Diary {
+            list: Vec::new(alloc),
+        }
+    }
+
+    /// A session begins.
+    pub fn begin(&mut self) -> Result<(), AllocError>
+        ensures ok { OnOk result (self.new.events ≡ self.old.events ++ Began ∷ []) }
+        ensures err { OnErr result (self.new.events ≡ self.old.events) }
+        ensures sure { 1 ≤ self.old.room → IsOk result }
+    {
+        self.list.push(Event::Began)?;
+        Ok(())
+    }
+
+    /// The session ends.
+    pub fn end(&mut self) -> Result<(), AllocError>
+        ensures ok { OnOk result (self.new.events ≡ self.old.events ++ Ended ∷ []) }
+        ensures err { OnErr result (self.new.events ≡ self.old.events) }
+        ensures sure { 1 ≤ self.old.room → IsOk result }
+    {
+        self.list.push(Event::Ended)?;
+        Ok(())
+    }
+
+    /// The change of this number, counted from 0, was made.
+    pub fn made(&mut self, number: u64) -> Result<(), AllocError>
+        ensures ok { OnOk result (self.new.events ≡ self.old.events ++ Made number ∷ []) }
+        ensures err { OnErr result (self.new.events ≡ self.old.events) }
+        ensures sure { 1 ≤ self.old.room → IsOk result }
+    {
+        self.list.push(Event::Made(number))?;
+        Ok(())
+    }
+
+    /// Makes room for one event more, so that the next one can't be refused.
+    pub fn reserve(&mut self) -> Result<(), AllocError>
+        ensures same { self.new.events ≡ self.old.events }
+        ensures room { OnOk result (1 ≤ self.new.room) }
+    {
+        self.list.reserve(1)?;
+        Ok(())
+    }
+
+    pub fn events(&self) -> &[Event]
+        ensures { result.now ≡ self.now.events }
+    {
+        self.list.as_slice()
+    }
+
+    /// A call is sent.
+    pub(crate) fn send(&mut self, call: Call) -> Result<(), AllocError>
+        ensures ok { OnOk result (self.new.events ≡ self.old.events ++ Sent call ∷ []) }
+        ensures err { OnErr result (self.new.events ≡ self.old.events) }
+    {
+        self.list.push(Event::Sent(call))?;
+        Ok(())
+    }
+
+    /// The call that was sent last and has no reply yet.
+    pub(crate) fn sent(&self) -> &Call
+        requires { (before : List Event) × (call : _) × (self.now.events ≡ before ++ Sent call ∷ []) }
+        ensures { (before : List Event) (call : _) → self.now.events ≡ before ++ Sent call ∷ [] → result.now ≡ call }
+    {
+        match self.list.last() {
+            Some(Event::Sent(call)) => call,
+            _ => unreachable!(),
+        }
+    }
+
+    /// The call that was sent last is answered.
+    pub(crate) fn answer(&mut self, reply: Reply)
+        requires { (before : List Event) × (call : _) × (self.old.events ≡ before ++ Sent call ∷ []) }
+        ensures { (before : List Event) (call : _) → self.old.events ≡ before ++ Sent call ∷ [] → self.new.events ≡ before ++ Called call reply ∷ [] }
+    {
+        match self.list.pop() {
+            Some(Event::Sent(call)) => {
+                let _ = self.list.push(Event::Called(call, reply));
+            }
+            _ => unreachable!(),
+        }
+    }
+}

@@ -1,0 +1,4 @@
+pub mod Discipline
+pub mod Locks
+pub mod Outcomes
+pub mod Phase

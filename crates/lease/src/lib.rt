@@ -1,0 +1,23 @@
+//! Leases on a target, by lock files: who may change what other clients read.
+//!
+//! A client lists the locks, puts its own where none is in the way, and lists again; only the second listing gives it the
+//! lease. `specs/Phase.antt` says where a session stands with its lease by its own calls and their replies alone, and
+//! `specs/Discipline.antt` what a session may do there. Begin with [`acquire`].
+#![tactic(auto)]
+
+mod acquisition;
+mod ask;
+mod content;
+mod error;
+mod lease;
+mod leaving;
+mod lock;
+mod locks;
+mod sight;
+
+pub use acquisition::acquire;
+pub use error::{LeaseErr, Seen};
+pub use lease::Lease;
+pub use leaving::release;
+pub use lock::{CLIENT_TYPE, LIFE, Lock, RENEWAL, live};
+pub use locks::{Locks, blocking, locks_of};
