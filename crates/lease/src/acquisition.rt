@@ -17,8 +17,8 @@ use std::alloc::Global;
 /// where the second doesn't show it in time. Before either the own lock, where it was put, is deleted once, whatever is
 /// answered. `TargetFault` where a call but that one failed.
 pub fn acquire<L: Line>(
-    line: &mut L,
     alloc: Global,
+    line: &mut L,
     kind: LockKind,
     client: &ClientId,
 ) -> Result<Lease, LeaseErr>
@@ -30,7 +30,7 @@ pub fn acquire<L: Line>(
     ensures goes { LeaseGoesOn client.now (L.state line.old) (L.state line.new) }
     ensures keeps { L.keeps line.old line.new }
 {
-    let first = look(line, alloc, kind, client)?;
+    let first = look(alloc, line, kind, client)?;
     let in_way = first.blocking;
     if let Some(lock) = in_way {
         return Err(LeaseErr::Busy {
@@ -38,14 +38,14 @@ pub fn acquire<L: Line>(
             now: first.now,
         });
     }
-    let sight = look_again(line, alloc, kind, client)?;
-    settle(line, alloc, kind, client, sight)
+    let sight = look_again(alloc, line, kind, client)?;
+    settle(alloc, line, kind, client, sight)
 }
 
 /// Keeps the lease that the second listing gives, or leaves.
 fn settle<L: Line>(
-    line: &mut L,
     alloc: Global,
+    line: &mut L,
     kind: LockKind,
     client: &ClientId,
     sight: Sight,
@@ -63,11 +63,11 @@ fn settle<L: Line>(
             stamp,
         }),
         Says::Blocked(lock) => {
-            leave(line, alloc, kind, client)?;
+            leave(alloc, line, kind, client)?;
             Err(LeaseErr::Busy { lock, now })
         }
         Says::Missed(own) => {
-            leave(line, alloc, kind, client)?;
+            leave(alloc, line, kind, client)?;
             Err(LeaseErr::Lost(Seen {
                 own,
                 now,

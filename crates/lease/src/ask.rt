@@ -14,8 +14,8 @@ use std::alloc::Global;
 
 /// Makes one call of a lease.
 pub(crate) fn ask<L: Line>(
-    line: &mut L,
     alloc: Global,
+    line: &mut L,
     client: &ClientId,
     call: Call,
 ) -> Result<(), AskErr>
@@ -35,8 +35,8 @@ pub(crate) fn ask<L: Line>(
 
 /// Makes the folder of locks, and lists it.
 pub(crate) fn look<L: Line>(
-    line: &mut L,
     alloc: Global,
+    line: &mut L,
     kind: LockKind,
     client: &ClientId,
 ) -> Result<Look, AskErr>
@@ -46,8 +46,8 @@ pub(crate) fn look<L: Line>(
     ensures err { IfErr result (GivesUp client.now (L.state line.old) (L.state line.new)) }
     ensures keeps { L.keeps line.old line.new }
 {
-    ask(line, alloc, client, Call::MakeDir(Dir::Locks))?;
-    ask(line, alloc, client, Call::List(Dir::Locks))?;
+    ask(alloc, line, client, Call::MakeDir(Dir::Locks))?;
+    ask(alloc, line, client, Call::List(Dir::Locks))?;
     match line.last() {
         Reply::Listed(listing) => Ok(Look {
             now: listing.now,
@@ -59,8 +59,8 @@ pub(crate) fn look<L: Line>(
 
 /// Puts the own lock, and lists the folder again.
 pub(crate) fn look_again<L: Line>(
-    line: &mut L,
     alloc: Global,
+    line: &mut L,
     kind: LockKind,
     client: &ClientId,
 ) -> Result<Sight, AskErr>
@@ -72,12 +72,12 @@ pub(crate) fn look_again<L: Line>(
 {
     let content = own_content(alloc, kind, client)?;
     ask(
-        line,
         alloc,
+        line,
         client,
         Call::Put(own_path(kind, client), content),
     )?;
-    ask(line, alloc, client, Call::List(Dir::Locks))?;
+    ask(alloc, line, client, Call::List(Dir::Locks))?;
     match line.last() {
         Reply::Listed(listing) => Ok(Sight {
             now: listing.now,

@@ -11,21 +11,21 @@ use std::alloc::{AllocError, Global};
 
 /// Gives a lease up: deletes the own lock. A lock that isn't there is done with too. `TargetFault` where the delete
 /// failed.
-pub fn release<L: Line>(line: &mut L, alloc: Global, lease: Lease) -> Result<(), LeaseErr>
+pub fn release<L: Line>(alloc: Global, line: &mut L, lease: Lease) -> Result<(), LeaseErr>
     requires { StandsIn lease.client (L.state line.old).trail (Held lease.kind lease.stamp) }
     ensures gives { Releases lease (L.state line.old) (L.state line.new) result }
     ensures goes { LeaseGoesOn lease.client (L.state line.old) (L.state line.new) }
     ensures keeps { L.keeps line.old line.new }
 {
     let path = own_path(lease.kind, &lease.client);
-    ask(line, alloc, &lease.client, Call::Delete(path))?;
+    ask(alloc, line, &lease.client, Call::Delete(path))?;
     Ok(())
 }
 
 /// Deletes the own lock, whatever the answer.
 pub(crate) fn leave<L: Line>(
-    line: &mut L,
     alloc: Global,
+    line: &mut L,
     kind: LockKind,
     client: &ClientId,
 ) -> Result<(), AllocError>
@@ -34,7 +34,7 @@ pub(crate) fn leave<L: Line>(
     ensures goes { LeaseGoesOn client.now (L.state line.old) (L.state line.new) }
     ensures keeps { L.keeps line.old line.new }
 {
-    match ask(line, alloc, client, Call::Delete(own_path(kind, client))) {
+    match ask(alloc, line, client, Call::Delete(own_path(kind, client))) {
         Ok(()) | Err(AskErr::Fault) => Ok(()),
         Err(AskErr::NoMemory) => Err(AllocError),
     }

@@ -1,0 +1,3 @@
+pub mod Meaning
+pub mod Sessions
+pub mod Written

@@ -1,0 +1,53 @@
+-- A text that is written piece by piece.
+use Rattle.std.proofs.Common.{◌≡◌, ◌≤◌, ◌∙◌, refl, sym, ap, subst, arith, ℕ, List, [], ◌++◌, take, drop, append_assoc, append-nil, take-append-drop, Option, Some, None, Result, Ok, Err}
+use Rattle.jop_base.specs.Outside.{HasCause, Writes, HasRisen}
+use Rattle.jop_base.specs.declared.failed.Failed.{Failed}
+use Rattle.jop_cli.specs.Output.{Holds, IsCut}
+
+-- so much of the text was written, and this is left
+pub record IsAt (before : Option (List ℕ)) (faults : ℕ) (text : List ℕ) (after : Option (List ℕ)) (now : ℕ) (rest : List ℕ) : Type 0 where
+  pub front : List ℕ
+  pub whole : front ++ rest ≡ text
+  pub written : Holds before front after
+  pub later : faults ≤ now
+
+Holds-nil : (o : Option (List ℕ)) → Holds o [] o
+Holds-nil None = refl
+Holds-nil (Some w) = ap (λ (l : List ℕ). Some l) (sym (append-nil w))
+
+pub at_start : (o : Option (List ℕ)) (faults : ℕ) (text : List ℕ) → IsAt o faults text o faults text
+at_start o faults text = record { front = []; whole = refl; written = Holds-nil o; later = omega arith }
+
+Holds-more : (a b c : Option (List ℕ)) (front from : List ℕ) (count : ℕ) → Holds a front b → Writes b from (Ok count) c → Holds a (front ++ take count from) c
+Holds-more None None c front from count h k = k
+Holds-more None (Some w) c front from count h k = cc
+Holds-more (Some v) None c front from count h k = cc
+Holds-more (Some v) (Some w) c front from count h k =
+    let same : w ≡ v ++ front = cc in
+    k ∙ (ap (λ (l : List ℕ). Some (l ++ take count from)) same ∙ ap (λ (l : List ℕ). Some l) (append_assoc v front (take count from)))
+
+pub at_next : (a b c : Option (List ℕ)) (faults mid now : ℕ) (text rest : List ℕ) (count : ℕ) → IsAt a faults text b mid rest → Writes b rest (Ok count) c → mid ≤ now → IsAt a faults text c now (drop count rest)
+at_next a b c faults mid now text rest count at writes later = record {
+  front = at.front ++ take count rest;
+  whole = append_assoc at.front (take count rest) (drop count rest) ∙ (ap (λ (l : List ℕ). at.front ++ l) (take-append-drop count rest) ∙ at.whole);
+  written = Holds-more a b c at.front rest count at.written writes;
+  later = omega (arith, at.later, later);
+}
+
+kept : (a b c : Option (List ℕ)) (front from : List ℕ) (e : Failed) → Holds a front b → Writes b from (Err e) c → Holds a front c
+kept None None c front from e h k = k
+kept None (Some w) c front from e h k = cc
+kept (Some v) None c front from e h k = cc
+kept (Some v) (Some w) c front from e h k = k ∙ h
+
+pub is_cut : (a b c : Option (List ℕ)) (faults mid now : ℕ) (text rest : List ℕ) (e : Failed) → IsAt a faults text b mid rest → Writes b rest (Err e) c → HasRisen mid now → IsCut a faults text c now
+is_cut a b c faults mid now text rest e at writes rose = record {
+  front = at.front;
+  rest = rest;
+  whole = at.whole;
+  written = kept a b c at.front rest e at.written writes;
+  rose = omega (arith, at.later, rose);
+}
+
+pub at_end : (a b : Option (List ℕ)) (faults now : ℕ) (text : List ℕ) → IsAt a faults text b now [] → Holds a text b
+at_end a b faults now text at = let same : at.front ≡ text = sym (append-nil at.front) ∙ at.whole in subst (λ (l : List ℕ). Holds a l b) same at.written

@@ -1,0 +1,4 @@
+pub mod Check
+pub mod Output
+pub mod Run
+pub mod Words
