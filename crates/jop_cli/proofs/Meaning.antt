@@ -2,12 +2,10 @@
 use Rattle.std.proofs.Common.{◌≡◌, ◌≤◌, ◌<◌, ◌∙◌, ap, arith, subst, ℕ, List, [], ◌∷◌, length, get_or, true, codes}
 use Rattle.std.specs.Prelude.{bytes_eq}
 use Rattle.std.proofs.lemmas.Slice.Eq.{bytes_eq-Decides}
-use Rattle.jop_base.specs.Id.{IsIdText}
-use Rattle.jop_cli.specs.declared.command.Command.{Command}
 use Rattle.jop_cli.specs.declared.command.Verb.{Verb}
 use Rattle.jop_cli.specs.declared.command.Verb.TheVariants.{Check}
 use Rattle.jop_cli.specs.declared.command.TargetName.{TargetName}
-use Rattle.jop_cli.specs.Words.{IsMeaningless, MeansVerb, MeansCheck, Names, check_words}
+use Rattle.jop_cli.specs.Words.{IsMeaningless, MeansVerb, Names, check_words}
 
 pub no_target : (word client : List ℕ) → ((target : TargetName) → ¬ Names word target) → IsMeaningless (check_words word client)
 no_target word client none command means = by_verb command.verb means where

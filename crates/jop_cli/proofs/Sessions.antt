@@ -1,15 +1,15 @@
 -- A session from its begin to its end.
-use Rattle.std.proofs.Common.{◌≡◌, ◌≤◌, ◌⊎◌, ◌∙◌, refl, sym, ap, subst, inl, inr, arith, ℕ, zero, suc, List, [], ◌∷◌, ◌++◌, Bool, true, false, ◌&&◌, append_assoc, append-nil, length, Option, Some, None, Result, Ok, Err}
+use Rattle.std.proofs.Common.{◌≡◌, ◌∙◌, refl, sym, ap, subst, inl, inr, arith, ℕ, zero, suc, List, [], ◌∷◌, ◌++◌, Bool, true, false, ◌&&◌, append_assoc, append-nil, Option, Some, None, Result, Ok, Err}
 use Rattle.std.specs.Prelude.{All}
 use Rattle.jop_target.specs.declared.event.Event.{Event}
 use Rattle.jop_target.specs.declared.event.Event.TheVariants.{Began, Sent, Called, Made, Ended}
 use Rattle.jop_target.specs.Runs.{Continues, LeadsTo, TellsRun, has_failed}
-use Rattle.jop_target.specs.RunLaws.{continues_on, continues_same, continues_weaker}
+use Rattle.jop_target.specs.RunLaws.{continues_same, continues_weaker}
 use Rattle.jop_target.specs.Store.{Store}
 use Rattle.jop_target.specs.Trail.{LineNow}
 use Rattle.lease.specs.Discipline.{Session, session_of, phase_of, session_from, session_after, begun, outside, ends_released, lawful_from, ObeysLocks}
 use Rattle.lease.specs.Outcomes.{StandsIn, IsLeaseEvent, LeaseGoesOn}
-use Rattle.lease.specs.Phase.{Phase, Free}
+use Rattle.lease.specs.Phase.{Free}
 use Rattle.lease.proofs.Sessions.{session_from-last}
 use Rattle.jop_cli.specs.declared.session_err.SessionErr.{SessionErr}
 use Rattle.jop_cli.specs.declared.session_err.SessionErr.TheVariants.{Busy, LeaseLost, TargetFault, NoMemory}
@@ -112,7 +112,6 @@ continues_marked P old new faults store e mark each is = record {
 
 pub continues_unmarked : (P : Event → Type 0) (old new : List Event) (faults : ℕ) (store : Option Store) → new ≡ old → Continues P (line_of old faults store) (line_of new faults store)
 continues_unmarked P old new faults store is = subst (λ (t : List Event). Continues P (line_of old faults store) (line_of t faults store)) (sym is) (continues_same P (line_of old faults store))
-
 
 -- ---- the session in the trail
 

@@ -1,6 +1,6 @@
 -- A text that is written piece by piece.
-use Rattle.std.proofs.Common.{◌≡◌, ◌≤◌, ◌∙◌, refl, sym, ap, subst, arith, ℕ, List, [], ◌++◌, take, drop, append_assoc, append-nil, take-append-drop, Option, Some, None, Result, Ok, Err}
-use Rattle.jop_base.specs.Outside.{HasCause, Writes, HasRisen}
+use Rattle.std.proofs.Common.{◌≡◌, ◌≤◌, ◌∙◌, refl, sym, ap, subst, arith, ℕ, List, [], ◌++◌, take, drop, append_assoc, append-nil, take-append-drop, Option, Some, None, Ok, Err}
+use Rattle.jop_base.specs.Outside.{Writes, HasRisen}
 use Rattle.jop_base.specs.declared.failed.Failed.{Failed}
 use Rattle.jop_cli.specs.Output.{Holds, IsCut}
 

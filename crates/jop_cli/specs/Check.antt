@@ -1,6 +1,5 @@
 -- A session that takes a sync lock and releases it.
-use Rattle.std.specs.Prelude.{ℕ, ◌≤◌, ◌≡◌, ◌⊎◌, List, [], ◌∷◌, ◌++◌, All, Option, Result, Ok, Err, Bool, true, false}
-use Rattle.jop_base.specs.Outside.{HasRisen}
+use Rattle.std.specs.Prelude.{ℕ, ◌≡◌, ◌⊎◌, List, [], ◌∷◌, ◌++◌, All, Result, Ok, Err, Bool, true, false}
 use Rattle.jop_base.specs.declared.lock_name.LockKind.TheVariants.{Sync}
 use Rattle.jop_base.specs.declared.path.Path.TheVariants.{Lock as LockFile}
 use Rattle.jop_target.specs.declared.call.Call.TheVariants.{Delete}
@@ -9,12 +8,8 @@ use Rattle.jop_target.specs.declared.reply.Reply.TheVariants.{Failed}
 use Rattle.jop_target.specs.declared.event.Event.{Event}
 use Rattle.jop_target.specs.declared.event.Event.TheVariants.{Began, Called, Ended}
 use Rattle.jop_target.specs.Replies.{IsReplyTo}
-use Rattle.jop_target.specs.Runs.{Continues, TellsRun, has_failed}
-use Rattle.jop_target.specs.Store.{Store}
-use Rattle.jop_target.specs.Trail.{LineNow}
 use Rattle.lease.specs.declared.error.LeaseErr.{LeaseErr}
 use Rattle.lease.specs.declared.error.LeaseErr.TheVariants.{Busy as IsBusy, Lost as HasLost, TargetFault as HasFault, NoMemory as HasNoMemory}
-use Rattle.lease.specs.declared.error.Seen.{Seen}
 use Rattle.lease.specs.declared.lock.Lock.{Lock}
 use Rattle.lease.specs.Discipline.{ObeysLocks, ends_released, phase_of}
 use Rattle.lease.specs.Locks.{own_name}
@@ -50,7 +45,7 @@ abbrev pub Comes : List ℕ → List Event → Result (Unit {0}) SessionErr → 
 Comes client trail (Ok done) = HasChecked client trail
 Comes client trail (Err (Busy lock now)) = IsBlocked client trail lock now
 Comes client trail (Err (LeaseLost seen)) = HasMissed Sync client trail seen
-Comes client trail (Err TargetFault) = EndsFailed trail
+Comes client trail (Err TargetFault) = EndsFailed client trail
 Comes client trail (Err NoMemory) = Unit {0}
 
 -- a session ends with every answer but want of memory

@@ -128,16 +128,16 @@ pub continues_unheard : (P : Event → Type 0) (old new : LineNow) (call : Call)
 unfolding has_failed
 continues_unheard P old new call before after e may h each = elim h.trail [
   | inl sent ↦ record {
-      more = Sent call ∷ [];
-      trail = sent;
-      each = one P _ each;
-      later = h.later;
-      fault = λ failed. cc;
-      store = elim h.answers [
-        | inl told ↦ unheard_run old.store new.store call before e may told
-        | inr same ↦ absurd (never old.trail (Sent call) (sym (ap (λ (s : LineNow). s.trail) same) ∙ sent))
-      ];
-    }
+    more = Sent call ∷ [];
+    trail = sent;
+    each = one P _ each;
+    later = h.later;
+    fault = λ failed. cc;
+    store = elim h.answers [
+      | inl told ↦ unheard_run old.store new.store call before e may told
+      | inr same ↦ absurd (never old.trail (Sent call) (sym (ap (λ (s : LineNow). s.trail) same) ∙ sent))
+    ];
+  }
   | inr same ↦ subst (λ (s : LineNow). Continues P old s) (sym same) (continues_same P old)
 ]
 

@@ -5,14 +5,21 @@
 //! [`Line`], the one place where a call and its reply are written down.
 #![tactic(auto)]
 
+mod answers;
+mod blobs;
 mod call;
 mod diary;
 mod event;
+mod files;
+mod folders;
 mod limits;
 mod line;
+mod mem_target;
 mod reply;
 mod target;
 mod target_line;
+#[cfg(test)]
+mod tests;
 mod tree;
 
 pub use call::Call;
@@ -20,6 +27,7 @@ pub use diary::Diary;
 pub use event::Event;
 pub use limits::{BLOB_LIMIT, FILE_LIMIT, MAX_TIME, limit_of};
 pub use line::Line;
+pub use mem_target::MemTarget;
 pub use reply::{Entry, Listing, Reply};
 pub use target::Target;
 pub use target_line::TargetLine;

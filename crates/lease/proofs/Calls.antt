@@ -19,7 +19,7 @@ use Rattle.lease.specs.declared.error.AskErr.{AskErr}
 use Rattle.lease.specs.declared.error.AskErr.TheVariants.{Fault, NoMemory}
 use Rattle.lease.specs.Discipline.{phase_of, keeps_lock_order}
 use Rattle.lease.specs.Locks.{own_name, is_own, same_kind, content_of}
-use Rattle.lease.specs.Outcomes.{StandsIn, MayAsk, Hears, IsHeard, IsRefused, GivesUp, MayPut, is_held}
+use Rattle.lease.specs.Outcomes.{StandsIn, MayAsk, Hears, IsHeard, IsRefused, GivesUp, MayPut, is_held, is_leaving, EndsFailed}
 use Rattle.lease.specs.Phase.{Phase, Free, Looked, Asked, Held, Leaving, Over, Role, MakesLocks, ListsLocks, PutsOwn, DeletesOwn, Judgement, Holds, Blocked, Missed, role_of, putting_role, deleting_role, heard, judge, judged_phase}
 use Rattle.lease.proofs.Sessions.{may_ask, hears_at}
 
@@ -191,13 +191,18 @@ heard-failed client at role = refl
 pub not_held : (client : List ℕ) (trail : List Event) (at : Phase) → StandsIn client trail at → is_held at ≡ false → is_held (phase_of client trail) ≡ false
 not_held client trail at s h = rw (s.phase) h
 
-pub gives_up : (client : List ℕ) (old mid new : LineNow) (call : Call) (at : Phase) (e : AskErr) → old.faults ≤ mid.faults → StandsIn client mid.trail at → is_held at ≡ false → IsRefused client call mid new e → GivesUp client old new e
-gives_up client old mid new call at Fault later s free refused = record {
-  over = subst (λ (p : Phase). StandsIn client new.trail p) (heard-failed client (phase_of client mid.trail) (role_of client call)) refused.0.stands;
-  reply = (mid.trail, call, refused.0.trail);
-  rose = omega (arith, later, refused.1);
+pub ends_failed : (client : List ℕ) (old new : LineNow) (call : Call) (at : Phase) → StandsIn client old.trail at → is_leaving at ≡ false → Hears client call old new Failed → EndsFailed client new.trail
+ends_failed client old new call at s stays h = record {
+  before = old.trail;
+  call = call;
+  ends = h.trail;
+  matters = rw (s.phase) stays;
+  over = subst (λ (p : Phase). StandsIn client new.trail p) (heard-failed client (phase_of client old.trail) (role_of client call)) h.stands;
 }
-gives_up client old mid new call at NoMemory later s free refused = elim refused [
+
+pub gives_up : (client : List ℕ) (old mid new : LineNow) (call : Call) (at : Phase) (e : AskErr) → old.faults ≤ mid.faults → StandsIn client mid.trail at → is_held at ≡ false → is_leaving at ≡ false → IsRefused client call mid new e → GivesUp client old new e
+gives_up client old mid new call at Fault later s free stays refused = record { failed = ends_failed client mid new call at s stays refused.0; rose = omega (arith, later, refused.1) }
+gives_up client old mid new call at NoMemory later s free stays refused = elim refused [
   | inl same ↦ not_held client new.trail (phase_of client mid.trail) same (not_held client mid.trail at s free)
   | inr over ↦ not_held client new.trail Over over refl
 ]

@@ -29,7 +29,7 @@ use Rattle.lease.specs.declared.sight.Says.TheVariants.{Holds as SaysHeld, Block
 use Rattle.lease.specs.declared.sight.Sight.{Sight}
 use Rattle.lease.specs.Discipline.{session_of, phase_of, keeps_lock_order, renews_in_time}
 use Rattle.lease.specs.Locks.{own_name, blocking_in, content_of}
-use Rattle.lease.specs.Phase.{Phase, Looked, Asked, Held, Over, Judgement, Holds, Blocked, Missed, judge, judged_phase, role_of, allows, heard}
+use Rattle.lease.specs.Phase.{Phase, Looked, Asked, Held, Leaving, Over, Judgement, Holds, Blocked, Missed, judge, judged_phase, role_of, allows, heard}
 
 -- ---- the code's own words for what it sees
 
@@ -100,14 +100,22 @@ abbrev pub is_held : Phase → Bool
 is_held (Held kind stamp) = true
 is_held phase = false
 
--- the trail ends in a call that was answered `Failed`
-abbrev pub EndsFailed : List Event → Type 0
-EndsFailed trail = (before : List Event) × (call : Call) × (trail ≡ before ++ Called call Failed ∷ [])
+abbrev pub is_leaving : Phase → Bool
+is_leaving (Leaving kind) = true
+is_leaving phase = false
 
--- the target failed at the last call, and the session is over
+-- The trail ends in a call that was answered `Failed`, other than the delete of a lock that no longer matters, and the
+-- session is over.
+pub record EndsFailed (client : List ℕ) (trail : List Event) : Type 0 where
+  pub before : List Event
+  pub call : Call
+  pub ends : trail ≡ before ++ Called call Failed ∷ []
+  pub matters : is_leaving (phase_of client before) ≡ false
+  pub over : StandsIn client trail Over
+
+-- the target failed at the last call, and has counted it
 pub record Fails (client : List ℕ) (old new : LineNow) : Type 0 where
-  pub over : StandsIn client new.trail Over
-  pub reply : EndsFailed new.trail
+  pub failed : EndsFailed client new.trail
   pub rose : HasRisen old.faults new.faults
 
 -- why calls that take a lease gave nothing
@@ -207,8 +215,7 @@ pub record HasReleased (lease : Lease) (old new : LineNow) : Type 0 where
 -- the delete of the own lock was answered `Failed`
 pub record HasFailed (lease : Lease) (old new : LineNow) : Type 0 where
   pub trail : new.trail ≡ old.trail ++ Called (Delete (LockFile (own_name lease.kind lease.client))) Failed ∷ []
-  pub over : StandsIn lease.client new.trail Over
-  pub rose : HasRisen old.faults new.faults
+  pub fails : Fails lease.client old new
 
 -- each answer, by its cause
 abbrev pub Releases : Lease → LineNow → LineNow → Result (Unit {0}) LeaseErr → Type 0

@@ -1,4 +1,4 @@
-use Rattle.std.proofs.Common.{◌≡◌, ◌∙◌, refl, sym}
+use Rattle.std.proofs.Common.{◌∙◌, refl, sym}
 use Rattle.std.proofs.lemmas.Result.{err_from_is_err_and}
 use Rattle.jop_target.specs.RunLaws.{continues_on}
 use Rattle.jop_cli.proofs.Sessions.{begun_stands, adds_whole, adds_starved, starved_none, starved_begun, continues_marked, continues_unmarked, as_session}

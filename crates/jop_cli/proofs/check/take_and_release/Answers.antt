@@ -1,4 +1,4 @@
-use Rattle.std.proofs.Common.{◌≡◌, ap, subst, List, ℕ}
+use Rattle.std.proofs.Common.{ap, subst, List, ℕ}
 use Rattle.lease.specs.Outcomes.{LeaseGoesOn}
 use Rattle.lease.specs.declared.lease.Lease.{Lease}
 use Rattle.lease.proofs.Sessions.{goes_on}

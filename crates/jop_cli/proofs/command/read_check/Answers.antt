@@ -1,4 +1,4 @@
-use Rattle.std.proofs.Common.{◌≡◌, subst, Option}
+use Rattle.std.proofs.Common.{subst, Option}
 use Rattle.jop_cli.specs.Words.{IsTarget}
 use Rattle.jop_cli.specs.declared.command.TargetName.{TargetName}
 use Rattle.jop_cli.proofs.Meaning.{no_target}

@@ -1,4 +1,4 @@
-use Rattle.std.proofs.Common.{◌≡◌, sym, subst, ℕ, List}
+use Rattle.std.proofs.Common.{sym, subst, ℕ, List}
 use Rattle.jop_cli.proofs.Written.{IsAt, at_next}
 use Rattle.jop_cli.proofs.output.write_all.Goals as goal
 

@@ -14,7 +14,7 @@ ask-requires-2 g c = asks_list _ _ (after_make _ _ _ c.requires c.in_ok-ask.ensu
 pub returns-in_err-ask-clause-err : goal.returns-in_err-ask-clause-err
 returns-in_err-ask-clause-err g c =
     let p = err_from_is_err_and c.from_residual.result c.from_residual.ensures.1 in
-    rw (p.1, p.2) (gives_up _ _ _ _ _ Free _ (omega arith) c.requires refl c.in_err-ask.ensures.err)
+    rw (p.1, p.2) (gives_up _ _ _ _ _ Free _ (omega arith) c.requires refl refl c.in_err-ask.ensures.err)
 
 pub returns-in_err-ask-2-clause-goes : goal.returns-in_err-ask-2-clause-goes
 returns-in_err-ask-2-clause-goes g c = goes_on _ _ _ _ c.ask.ensures.goes c.ask-2.ensures.goes
@@ -22,7 +22,7 @@ returns-in_err-ask-2-clause-goes g c = goes_on _ _ _ _ c.ask.ensures.goes c.ask-
 pub returns-in_err-ask-2-clause-err : goal.returns-in_err-ask-2-clause-err
 returns-in_err-ask-2-clause-err g c =
     let p = err_from_is_err_and c.from_residual-in_err-ask-2.result c.from_residual-in_err-ask-2.ensures.1 in
-    rw (p.1, p.2) (gives_up _ _ _ _ _ Free _ c.ask.ensures.goes.line.later (after_make _ _ _ c.requires c.in_ok-ask.ensures.ok) refl c.in_err-ask-2.ensures.err)
+    rw (p.1, p.2) (gives_up _ _ _ _ _ Free _ c.ask.ensures.goes.line.later (after_make _ _ _ c.requires c.in_ok-ask.ensures.ok) refl refl c.in_err-ask-2.ensures.err)
 
 pub unreachable-requires : goal.unreachable-requires
 unreachable-requires g c =

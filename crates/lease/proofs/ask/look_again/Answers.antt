@@ -22,7 +22,7 @@ returns-in_err-content-clause-err g c =
 pub returns-in_err-ask-clause-err : goal.returns-in_err-ask-clause-err
 returns-in_err-ask-clause-err g c =
     let p = err_from_is_err_and c.from_residual-in_err-ask.result c.from_residual-in_err-ask.ensures.1 in
-    rw (p.1, p.2) (gives_up _ _ _ _ _ (Looked c.requires.listing) _ (omega arith) c.requires.looked refl c.in_err-ask.ensures.err)
+    rw (p.1, p.2) (gives_up _ _ _ _ _ (Looked c.requires.listing) _ (omega arith) c.requires.looked refl refl c.in_err-ask.ensures.err)
 
 pub returns-in_err-ask-2-clause-goes : goal.returns-in_err-ask-2-clause-goes
 returns-in_err-ask-2-clause-goes g c = goes_on _ _ _ _ c.ask.ensures.goes c.ask-2.ensures.goes
@@ -30,7 +30,7 @@ returns-in_err-ask-2-clause-goes g c = goes_on _ _ _ _ c.ask.ensures.goes c.ask-
 pub returns-in_err-ask-2-clause-err : goal.returns-in_err-ask-2-clause-err
 returns-in_err-ask-2-clause-err g c =
     let p = err_from_is_err_and c.from_residual-in_err-ask-2.result c.from_residual-in_err-ask-2.ensures.1 in
-    rw (p.1, p.2) (gives_up _ _ _ _ _ (Asked c.args.kind) _ c.ask.ensures.goes.line.later (after_put _ _ _ _ _ _ c.requires c.own_path.ensures c.in_ok-ask.ensures.ok) refl c.in_err-ask-2.ensures.err)
+    rw (p.1, p.2) (gives_up _ _ _ _ _ (Asked c.args.kind) _ c.ask.ensures.goes.line.later (after_put _ _ _ _ _ _ c.requires c.own_path.ensures c.in_ok-ask.ensures.ok) refl refl c.in_err-ask-2.ensures.err)
 
 pub unreachable-requires : goal.unreachable-requires
 unreachable-requires g c =

@@ -1,0 +1,10 @@
+pub mod Days
+pub mod Moments
+pub mod Numerals
+pub mod Stamps
+pub mod Named
+pub mod Visible
+pub mod Fielded
+pub mod Escaping
+pub mod NewItems
+pub mod OneTime

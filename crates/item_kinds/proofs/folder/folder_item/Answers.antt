@@ -1,0 +1,17 @@
+use Rattle.std.proofs.Common.{◌∙◌}
+use Rattle.item_kinds.proofs.NewItems.{id_field, time_field, id_first, folder_valid, folder_kind, two_is_type, two_counts, two_field}
+use Rattle.item_kinds.proofs.folder.folder_item.Goals as goal
+
+pub returns-clause-valid : goal.returns-clause-valid
+returns-clause-valid c =
+    folder_valid _ _ _ _ _ c.args.title _ c.in_ok-props.ensures
+    (id_field _ _ c.as_str.ensures.same c.as_str.ensures.digits)
+    c.parent_text.ensures.field
+    (time_field _ _ c.args.now c.as_str-2.ensures c.in_ok-stamp.ensures.written c.requires.time)
+    two_field two_is_type c.requires.title.no_feed
+
+pub returns-clause-kind : goal.returns-clause-kind
+returns-clause-kind c = folder_kind _ _ _ _ _ c.in_ok-props.ensures ∙ two_counts
+
+pub returns-clause-id : goal.returns-clause-id
+returns-clause-id c = (id_first _ _ _ _ c.in_ok-props.ensures c.as_str.ensures.same, c.as_str.ensures.digits)

@@ -1,0 +1,5 @@
+pub mod Calendar
+pub mod Times
+pub mod Moment
+pub mod Kinds
+pub mod Made

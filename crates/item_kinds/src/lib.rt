@@ -1,0 +1,34 @@
+//! What the pairs of an item say: its kind, its ids, its times, whether it is sealed. And new items of the kinds that
+//! this client makes.
+//!
+//! Begin with [`Kind`], [`read_time`] and [`note_item`]. It stands on `item_text`, and on the calendar of `jiff`.
+#![tactic(auto)]
+
+mod digits;
+mod fields;
+mod folder;
+mod ids;
+mod kind;
+mod laws;
+mod moment;
+mod note;
+mod note_tag;
+mod number;
+mod pairs;
+mod resource;
+mod stamp;
+mod tag;
+#[cfg(test)]
+mod tests;
+mod time;
+
+pub use fields::{is_sealed, updated_of};
+pub use folder::folder_item;
+pub use ids::{id_of, note_of, parent_of, tag_of};
+pub use kind::{Kind, kind_of};
+pub use laws::{reads_as_one_time, reads_the_time_written};
+pub use note::note_item;
+pub use note_tag::note_tag_item;
+pub use resource::resource_item;
+pub use tag::tag_item;
+pub use time::{MAX_TIME, read_time, write_time};

@@ -1,0 +1,100 @@
+ghost use Rattle.std.specs.Prelude.{◌≡◌, ◌≤◌, Some, IfOk, codes};
+ghost use Rattle.std.specs.Fmt.{decimal};
+ghost use Rattle.item_text.specs.Lines.{trimmed};
+ghost use Rattle.item_text.specs.Escape.{escaped};
+ghost use Rattle.item_text.specs.Valid.{IsItem};
+ghost use Rattle.item_kinds.specs.Kinds.{IsKind, GivesId};
+ghost use Rattle.item_kinds.specs.Made.{IsLine, resource, resource_props};
+
+use crate::kind::Kind;
+use crate::pairs::{add, add_fixed};
+use crate::time::{MAX_TIME, write_time};
+use item_text::{Item, Prop, escape_value, trimmed};
+use jop_base::{Id, Seq, Text};
+use std::alloc::{AllocError, Global};
+
+fn resource_props(
+    alloc: Global,
+    id: &str,
+    mime: &str,
+    name: &str,
+    stamp: &str,
+    size: &str,
+) -> Result<Seq<Prop>, AllocError>
+    ensures { IfOk result (λ props. props ≡ resource_props id.now mime.now name.now stamp.now size.now) }
+{
+    let mut props = Seq::new(alloc);
+    add(alloc, &mut props, "id", id)?;
+    add(alloc, &mut props, "mime", mime)?;
+    add(alloc, &mut props, "filename", name)?;
+    add(alloc, &mut props, "created_time", stamp)?;
+    add(alloc, &mut props, "updated_time", stamp)?;
+    add(alloc, &mut props, "user_created_time", stamp)?;
+    add(alloc, &mut props, "user_updated_time", stamp)?;
+    add_fixed(
+        alloc,
+        &mut props,
+        &[
+            ("file_extension", ""),
+            ("encryption_cipher_text", ""),
+            ("encryption_applied", "0"),
+            ("encryption_blob_encrypted", "0"),
+        ],
+    )?;
+    add(alloc, &mut props, "size", size)?;
+    add_fixed(alloc, &mut props, &[("is_shared", "0"), ("type_", "4")])?;
+    Ok(props)
+}
+
+/// The name without blanks at its ends, escaped.
+fn file_name(alloc: Global, name: &Text) -> Result<Text, AllocError>
+    ensures { IfOk result (λ file. file ≡ escaped (trimmed name.now)) }
+{
+    let name = Text::of(alloc, trimmed(name.as_str()))?;
+    escape_value(alloc, &name)
+}
+
+fn decimal(alloc: Global, number: u64) -> Result<Text, AllocError>
+    ensures { IfOk result (λ text. text ≡ decimal number) }
+{
+    let digits = format!(in alloc; "{number}")?;
+    Text::of(alloc, digits.as_str())
+}
+
+/// A new resource of that many bytes. Its title is the name.
+pub fn resource_item(
+    alloc: Global,
+    id: &Id,
+    name: Text,
+    mime: Text,
+    len: u64,
+    now: u64,
+) -> Result<Item, AllocError>
+    requires name { IsLine name }
+    requires mime { IsLine mime }
+    requires trimmed { trimmed mime ≡ mime }
+    requires time { now ≤ MAX_TIME }
+
+    ensures made { IfOk result (λ item. item ≡ resource id.now name mime len now) }
+    ensures valid { IfOk result IsItem }
+    ensures kind { IfOk result (λ item. IsKind item.props (Some Kind.RESOURCE)) }
+    ensures id { IfOk result (λ item. GivesId (codes "id") item.props (Some id.now)) }
+{
+    let stamp = write_time(alloc, now)?;
+    let mime = escape_value(alloc, &mime)?;
+    let file = file_name(alloc, &name)?;
+    let size = decimal(alloc, len)?;
+    let props = resource_props(
+        alloc,
+        id.as_str(),
+        mime.as_str(),
+        file.as_str(),
+        stamp.as_str(),
+        size.as_str(),
+    )?;
+    Ok(Item {
+        title: Some(name),
+        body: Text::new(alloc),
+        props,
+    })
+}

@@ -1,0 +1,13 @@
+pub mod Joined
+pub mod Escaped
+pub mod Cut
+pub mod Blanks
+pub mod Head
+pub mod Pair
+pub mod Walked
+pub mod Answered
+pub mod Again
+pub mod ReadValid
+pub mod One
+pub mod Keys
+pub mod Setting

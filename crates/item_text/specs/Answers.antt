@@ -1,0 +1,18 @@
+-- What reading may answer.
+use Rattle.std.specs.Prelude.{◌≡◌, ℕ, List, None, Some, Result, Ok, Err}
+use Rattle.item_text.specs.declared.item.Item.{Item}
+use Rattle.item_text.specs.declared.bad_item.ItemErr.{ItemErr}
+use Rattle.item_text.specs.declared.bad_item.ItemErr.TheVariants as errors
+use Rattle.item_text.specs.Grammar.{Reads, first_fault}
+
+-- the item that the bytes read as, where nothing refuses them; else the first refusal; or memory ran out
+unfoldable pub Answers : List ℕ → Result Item ItemErr → Type 0
+Answers bytes (Ok item) = Reads bytes item × (first_fault bytes ≡ None)
+Answers bytes (Err (errors.Bad refusal)) = first_fault bytes ≡ Some refusal
+Answers bytes (Err errors.NoMemory) = Unit {0}
+
+-- this item was read, unless memory ran out
+unfoldable pub IsOrMemory : Item → Result Item ItemErr → Type 0
+IsOrMemory item (Ok found) = found ≡ item
+IsOrMemory item (Err (errors.Bad refusal)) = ⊥
+IsOrMemory item (Err errors.NoMemory) = Unit {0}

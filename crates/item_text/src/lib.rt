@@ -1,0 +1,32 @@
+//! Joplin's text of an item, written and read exactly: a title, a body and pairs of a key and a value.
+//!
+//! Begin with [`Item`], [`read_item`] and [`write_item`]. It stands on the texts and lists of `jop_base`.
+#![tactic(auto)]
+
+mod bad_item;
+mod block;
+mod escape;
+mod item;
+mod laws;
+mod line;
+mod props;
+mod read;
+#[cfg(test)]
+mod tests;
+mod trim;
+mod type_value;
+mod valid;
+mod write;
+
+pub use bad_item::{BadItem, BadWhy, ItemErr};
+pub use escape::{escape_value, unescape_value};
+pub use item::{Item, Prop};
+pub use laws::{
+    reads_as_one, reads_what_is_written, sets_one_key, setting_keeps_valid,
+    unescapes_what_is_escaped, what_is_read_is_valid,
+};
+pub use props::{prop, set_prop};
+pub use read::read_item;
+pub use trim::trimmed;
+pub use valid::is_item;
+pub use write::write_item;

@@ -1,0 +1,4 @@
+pub mod BlobBytes
+pub mod FileOrder
+pub mod FolderOrder
+pub mod SoundStore

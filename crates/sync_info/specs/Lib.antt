@@ -1,0 +1,5 @@
+pub mod Info
+pub mod Json
+pub mod Merge
+pub mod Read
+pub mod Version

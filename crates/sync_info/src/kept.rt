@@ -1,0 +1,45 @@
+ghost use Rattle.std.specs.Prelude.{◌≡◌, ◌≤◌, false, suc, IfOk};
+ghost use Rattle.serde_json.specs.Data.{depth, members_depth};
+ghost use Rattle.serde_json.specs.View.{view, members_view};
+ghost use Rattle.serde_json.specs.Written.{has_float, members_have_float};
+ghost use Rattle.sync_info.specs.Info.{AreKept, room};
+ghost use Rattle.sync_info.specs.Read.{kept_of, kept_in};
+
+use crate::holder::Holder;
+use crate::member::Member;
+use jop_base::Seq;
+use serde_json::{Map, Value};
+use std::alloc::{AllocError, Global};
+
+/// The members that are not the holder's own.
+fn kept_of(
+    alloc: Global,
+    members: &Map<String, Value>,
+    of: Holder,
+) -> Result<Seq<Member>, AllocError>
+    requires whole { members_have_float (members_view members.now.entries) ≡ false }
+    requires nests { members_depth (members_view members.now.entries) ≤ room of }
+    ensures kept { IfOk result (λ kept. kept ≡ kept_of of (members_view members.now.entries)) }
+    ensures valid { IfOk result (AreKept of) }
+{
+    let mut kept = Seq::new(alloc);
+    for (name, value) in members.iter() {
+        if !of.is_own(name.as_str()) {
+            kept.push(Member::new(alloc, name.as_str(), value)?)?;
+        }
+    }
+    Ok(kept)
+}
+
+/// The members of an object that are not its own. What is no object has none.
+pub(crate) fn kept_in(alloc: Global, value: &Value, of: Holder) -> Result<Seq<Member>, AllocError>
+    requires whole { has_float (view value.now) ≡ false }
+    requires nests { depth (view value.now) ≤ suc (room of) }
+    ensures kept { IfOk result (λ kept. kept ≡ kept_in of (view value.now)) }
+    ensures valid { IfOk result (AreKept of) }
+{
+    match value.as_object() {
+        Some(members) => kept_of(alloc, members, of),
+        None => Ok(Seq::new(alloc)),
+    }
+}

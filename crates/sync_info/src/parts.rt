@@ -1,0 +1,110 @@
+ghost use Rattle.std.specs.Prelude.{◌≡◌, ◌≤◌, true, IfOk, IfSome, option_map, Some};
+ghost use Rattle.jop_base.specs.Id.{IsIdText};
+ghost use Rattle.serde_json.specs.View.{view};
+ghost use Rattle.sync_info.specs.Info.{IsActive, is_id, is_key_name, max_time};
+ghost use Rattle.sync_info.specs.Read.{option_filter, version_in, time_of, id_of, key_name_of, e2ee_of, e2ee_in, active_of, active_in};
+
+use crate::timed::Timed;
+use jop_base::{Id, Text};
+use serde_json::Value;
+use std::alloc::{AllocError, Global};
+
+/// The last millisecond of the year 9999, counted from 1970.
+const MAX_TIME: u64 = 253_402_300_799_999;
+
+pub(crate) fn time_of(value: &Value) -> Option<u64>
+    ensures time { result ≡ time_of (view value.now) }
+    ensures bound { IfSome result (λ time. time ≤ max_time) }
+{
+    let time = value.as_u64()?;
+    if time <= MAX_TIME { Some(time) } else { None }
+}
+
+fn read_id(text: &str) -> Option<Id>
+    ensures id { result ≡ option_filter is_id (Some text.now) }
+    ensures valid { IfSome result IsIdText }
+{
+    Id::read(text.as_bytes())
+}
+
+pub(crate) fn id_of(value: &Value) -> Option<Id>
+    ensures id { result ≡ id_of (view value.now) }
+    ensures valid { IfSome result IsIdText }
+{
+    read_id(value.as_str()?)
+}
+
+fn is_key_name(name: &str) -> bool
+    ensures { result ≡ is_key_name name.now }
+{
+    name.is_empty() || read_id(name).is_some()
+}
+
+/// The id of a key, or the empty text.
+fn key_name_of(value: &Value) -> Option<&str>
+    ensures name { option_map (λ s. s.now) result ≡ key_name_of (view value.now) }
+    ensures valid { IfSome result (λ name. is_key_name name.now ≡ true) }
+{
+    let name = value.as_str()?;
+    if is_key_name(name) { Some(name) } else { None }
+}
+
+pub(crate) fn version_in(value: &Value) -> Option<u64>
+    ensures { result ≡ version_in (view value.now) }
+{
+    value.get("version")?.as_u64()
+}
+
+fn e2ee_of(value: &Value) -> Option<Timed<bool>>
+    ensures e2ee { result ≡ e2ee_of (view value.now) }
+    ensures bound { IfSome result (λ e2ee. e2ee.updated ≤ max_time) }
+{
+    Some(Timed {
+        value: value.get("value")?.as_bool()?,
+        updated: time_of(value.get("updatedTime")?)?,
+    })
+}
+
+fn active_of(alloc: Global, value: &Value) -> Result<Option<Timed<Text>>, AllocError>
+    ensures active { IfOk result (λ active. active ≡ active_of (view value.now)) }
+    ensures valid { IfOk result (λ active. IfSome active IsActive) }
+{
+    let Some(name) = value.get("value").and_then(key_name_of) else {
+        return Ok(None);
+    };
+    let Some(updated) = value.get("updatedTime").and_then(time_of) else {
+        return Ok(None);
+    };
+    Ok(Some(Timed {
+        value: Text::of(alloc, name)?,
+        updated,
+    }))
+}
+
+/// Where it is absent, sealing was never asked for.
+pub(crate) fn e2ee_in(value: &Value) -> Option<Timed<bool>>
+    ensures e2ee { result ≡ e2ee_in (view value.now) }
+    ensures bound { IfSome result (λ e2ee. e2ee.updated ≤ max_time) }
+{
+    match value.get("e2ee") {
+        Some(e2ee) => e2ee_of(e2ee),
+        None => Some(Timed {
+            value: false,
+            updated: 0,
+        }),
+    }
+}
+
+/// Where it is absent, no key was ever chosen.
+pub(crate) fn active_in(alloc: Global, value: &Value) -> Result<Option<Timed<Text>>, AllocError>
+    ensures active { IfOk result (λ active. active ≡ active_in (view value.now)) }
+    ensures valid { IfOk result (λ active. IfSome active IsActive) }
+{
+    match value.get("activeMasterKeyId") {
+        Some(active) => active_of(alloc, active),
+        None => Ok(Some(Timed {
+            value: Text::new(alloc),
+            updated: 0,
+        })),
+    }
+}

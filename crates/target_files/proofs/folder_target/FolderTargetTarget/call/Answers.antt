@@ -1,0 +1,24 @@
+use Rattle.std.proofs.Common.{◌≡◌, ℕ, le_of_eq, sym, subst, Result, Ok, Err, IfOk}
+use Rattle.std.specs.declared.alloc.AllocError.{AllocError}
+use Rattle.jop_base.specs.Outside.{HasRisen}
+use Rattle.jop_target.specs.declared.call.Call.{Call}
+use Rattle.jop_target.specs.declared.reply.Reply.{Reply}
+use Rattle.jop_target.specs.declared.reply.Reply.TheVariants.{Failed}
+use Rattle.target_files.specs.Outcome.{IsAnswerTo, Counts}
+use Rattle.target_files.specs.declared.trouble.Trouble.{Trouble}
+use Rattle.target_files.specs.declared.trouble.Trouble.TheVariants.{Fault, NoMemory}
+use Rattle.target_files.proofs.folder_target.FolderTargetTarget.call.Goals as goal
+
+failed : (call : Call) (before after : ℕ) (answer : Result Reply Trouble) (result : Result Reply AllocError)
+    → IfOk answer (IsAnswerTo call) → Counts before answer result after → result ≡ Ok Failed → HasRisen before after
+failed call before after (Ok reply) result fits counts is =
+    let same : reply ≡ Failed = cc (counts.0, is) in
+    absurd (subst (IsAnswerTo call) same fits)
+failed call before after (Err Fault) result fits counts is = le_of_eq (sym counts.1)
+failed call before after (Err NoMemory) result fits counts is = cc (counts.0, is)
+
+pub returns-clause-cause : goal.returns-clause-cause
+returns-clause-cause g c = record {
+  later = c.counted.ensures.later;
+  failed = failed c.args.call.now _ _ c.answer-answer.result _ c.answer-answer.ensures.fits c.counted.ensures.counts;
+}

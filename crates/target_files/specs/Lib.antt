@@ -1,0 +1,4 @@
+pub mod Listed
+pub mod Outcome
+pub mod Reading
+pub mod Trouble

@@ -1,0 +1,149 @@
+ghost use Rattle.std.specs.Prelude.{◌≡◌, ◌≤◌, IfOk, None};
+ghost use Rattle.jop_target.specs.declared.call.Call.TheVariants.{Get, Delete, GetBlob};
+ghost use Rattle.target_files.specs.Outcome.{IsAnswerTo, LeavesBlob, Counts};
+
+use crate::files::Reading;
+use crate::folder::Folder;
+use crate::trouble::Trouble;
+use jop_base::{Bytes, Id, Path, Text};
+use jop_target::{Call, Reply, Target};
+use std::alloc::{AllocError, Global};
+use std::rt::Files;
+
+/// A target over a folder of the system, which other programs see too. It tells no store, since no clause can say what
+/// stands in a folder.
+///
+/// **Files.** A file has its path's text as its name below the root. A lock is written in place. Any other file is
+/// written to `temp/<temp>.tmp` and renamed over its place, so it is whole or not there, also where the program is
+/// killed in the middle. `temp`, and the folder of a file that is put, are made where they are missing. The root never
+/// is.
+///
+/// **Where the machine stops.** A put flushes its file (fsync) before the rename and before its reply, so each file
+/// that was renamed is whole afterwards, and the server of a shared folder has a lock's bytes and its time. The folders
+/// aren't flushed, since each put would wait a second time: the last puts and deletes may be undone. Nor is the empty
+/// file flushed that tells the time, since nobody reads it.
+///
+/// **Times** are those of the file system, in whole milliseconds since 1970, rounded down: 0 before 1970, and at most
+/// `MAX_TIME`. Each call but a put first makes the temporary file, takes its time as `now`, and removes it. The `now`
+/// of a put is the time of its own file: that of its writing, a little before a rename makes it appear.
+///
+/// **What isn't there.** A missing file is `Absent`, a missing folder has no files, and `MakeDir` of a folder that is
+/// there is `Done`. A directory is no file, whatever its name. A listing leaves out names that no path has, and files
+/// that are gone before their time is read.
+///
+/// **Limits.** A file that is longer than its limit is `TooLarge` by its length, and isn't read. If a file grows while
+/// it is read, only what it was long at first is.
+///
+/// **Faults.** Every other error of the system raises the count and is `Failed`: a root that isn't there or is a file,
+/// a full disk, a file that is cut short while it is read. So does a listing of a folder that holds a name that isn't
+/// UTF-8, or in which the system names a file twice. Nothing else is `Failed`. Want of memory is no fault.
+#[derive(Drop)]
+pub struct FolderTarget<R> {
+    folder: Folder<R>,
+    /// How often it has failed. At 2^64 - 1 it stays.
+    pub faults: u64,
+}
+
+impl<R: Files + Alloc + Clone + Drop> FolderTarget<R> {
+    /// A target over the folder `root`, whose temporary file has the id `temp`: no two targets over one folder may
+    /// have the same. The folder isn't looked at yet.
+    pub fn new(rt: R, root: Text, temp: Id) -> FolderTarget<R>
+        ensures { result.faults ≡ 0 }
+    {
+        FolderTarget {
+            folder: Folder { rt, root, temp },
+            faults: 0,
+        }
+    }
+
+    fn answer(&self, alloc: Global, call: &Call, blob: &mut Bytes) -> Result<Reply, Trouble>
+        ensures fits { IfOk result (IsAnswerTo call.now) }
+        ensures blob { LeavesBlob blob.old result blob.new }
+    {
+        match call {
+            Call::List(dir) => Ok(Reply::Listed(self.folder.list(alloc, *dir)?)),
+            Call::Get(path) => self.get(alloc, path),
+            Call::Put(path, content) => {
+                let now = self.folder.put(alloc, path, content.as_slice())?;
+                Ok(Reply::Done { now })
+            }
+            Call::Delete(path) => self.delete(alloc, path),
+            Call::MakeDir(dir) => {
+                let now = self.folder.moment(alloc)?;
+                self.folder.make(alloc, *dir)?;
+                Ok(Reply::Done { now })
+            }
+            Call::GetBlob(id) => self.get_blob(alloc, *id, blob),
+            Call::PutBlob { id, .. } => {
+                let now = self.folder.put(alloc, &Path::Blob(*id), blob.as_slice())?;
+                Ok(Reply::Done { now })
+            }
+        }
+    }
+
+    fn get(&self, alloc: Global, path: &Path) -> Result<Reply, Trouble>
+        ensures fits { IfOk result (IsAnswerTo (Get path.now)) }
+    {
+        let now = self.folder.moment(alloc)?;
+        match self.folder.get(alloc, path)? {
+            None => Ok(Reply::Absent { now }),
+            Some(Reading::TooLarge(len)) => Ok(Reply::TooLarge { len }),
+            Some(Reading::Whole(bytes)) => Ok(Reply::Got {
+                now,
+                content: Bytes::from_vec(bytes),
+            }),
+        }
+    }
+
+    fn get_blob(&self, alloc: Global, id: Id, blob: &mut Bytes) -> Result<Reply, Trouble>
+        ensures fits { IfOk result (IsAnswerTo (GetBlob id)) }
+        ensures blob { LeavesBlob blob.old result blob.new }
+    {
+        let now = self.folder.moment(alloc)?;
+        match self.folder.get(alloc, &Path::Blob(id))? {
+            None => Ok(Reply::Absent { now }),
+            Some(Reading::TooLarge(len)) => Ok(Reply::TooLarge { len }),
+            Some(Reading::Whole(bytes)) => {
+                let len = bytes.len() as u64;
+                *blob = Bytes::from_vec(bytes);
+                Ok(Reply::GotBlob { now, len })
+            }
+        }
+    }
+
+    fn delete(&self, alloc: Global, path: &Path) -> Result<Reply, Trouble>
+        ensures { IfOk result (IsAnswerTo (Delete path.now)) }
+    {
+        let now = self.folder.moment(alloc)?;
+        match self.folder.delete(alloc, path)? {
+            Some(()) => Ok(Reply::Done { now }),
+            None => Ok(Reply::Absent { now }),
+        }
+    }
+
+    /// The reply, or one fault more and `Failed`.
+    fn counted(&mut self, answer: Result<Reply, Trouble>) -> Result<Reply, AllocError>
+        ensures counts { Counts self.old.faults answer result self.new.faults }
+        ensures later { self.old.faults ≤ self.new.faults }
+    {
+        match answer {
+            Ok(reply) => Ok(reply),
+            Err(Trouble::NoMemory) => Err(AllocError),
+            Err(Trouble::Fault) => {
+                self.faults = self.faults.saturating_add(1);
+                Ok(Reply::Failed)
+            }
+        }
+    }
+}
+
+impl<R: Files + Alloc + Clone + Drop> Target for FolderTarget<R> {
+    ghost faults = { λ t. t.faults };
+
+    ghost store = { λ _. None };
+
+    fn call(&mut self, alloc: Global, call: &Call, blob: &mut Bytes) -> Result<Reply, AllocError> {
+        let answer = self.answer(alloc, call, blob);
+        self.counted(answer)
+    }
+}

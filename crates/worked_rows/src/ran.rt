@@ -1,0 +1,35 @@
+use crate::trail::trail_text;
+use jop_base::{MemSink, Seq, Text};
+use jop_cli::{Status, Words, run};
+use jop_target::{Diary, MemTarget};
+use std::alloc::{AllocError, Global};
+
+/// What a run came to: its status, what it wrote on standard error, and its trail.
+#[derive(Drop)]
+pub struct Ran {
+    pub status: Status,
+    pub err: MemSink,
+    pub trail: String,
+}
+
+pub fn words_of(alloc: Global, list: &[&str]) -> Result<Words, AllocError> {
+    let mut words = Seq::new(alloc);
+    for word in list {
+        words.push(Text::of(alloc, word)?)?;
+    }
+    Ok(Words { list: words })
+}
+
+/// Runs the program once, with an empty diary.
+pub fn run_once(
+    alloc: Global,
+    words: &Words,
+    target: &mut MemTarget,
+    out: &mut MemSink,
+) -> Result<Ran, AllocError> {
+    let mut err = MemSink::new(alloc);
+    let mut diary = Diary::new(alloc);
+    let status = run(alloc, words, target, out, &mut err, &mut diary);
+    let trail = trail_text(alloc, diary.events())?;
+    Ok(Ran { status, err, trail })
+}
