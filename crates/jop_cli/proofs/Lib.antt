@@ -1,3 +1,4 @@
+pub mod Causes
 pub mod Meaning
 pub mod Sessions
 pub mod Written

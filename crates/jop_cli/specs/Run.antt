@@ -12,6 +12,7 @@ use Rattle.jop_cli.specs.declared.session_err.SessionErr.{SessionErr}
 use Rattle.jop_cli.specs.declared.session_err.SessionErr.TheVariants.{Busy as IsBusy, LeaseLost as HasLost, TargetFault as HasFault}
 use Rattle.jop_cli.specs.declared.status.Status.{Status}
 use Rattle.jop_cli.specs.declared.status.Status.TheVariants.{Ok as WentWell, Usage, Busy, LeaseLost, TargetFault, SinkFault, NoMemory}
+use Rattle.lease.specs.declared.error.Seen.{Seen}
 use Rattle.lease.specs.declared.lock.Lock.{Lock}
 
 -- the words mean a check for this client
@@ -47,6 +48,14 @@ Answers words trail (LeaseLost seen) = HasRun words trail (Err (HasLost seen))
 Answers words trail TargetFault = HasRun words trail (Err HasFault)
 Answers words trail Usage = IsMeaningless words × (trail ≡ [])
 Answers words trail NoMemory = LacksMemory words trail
+
+-- No count rose, and neither the words nor the trail is a cause for another answer.
+pub record HasNoCause (words : List (List ℕ)) (trail : List Event) (faults risen out_faults out_risen : ℕ) : Type 0 where
+  pub means : ¬ IsMeaningless words
+  pub unblocked : (lock : Lock) (now : ℕ) → ¬ HasRun words trail (Err (IsBusy lock now))
+  pub unmissed : (seen : Seen) → ¬ HasRun words trail (Err (HasLost seen))
+  pub sound : ¬ HasRisen faults risen
+  pub writable : ¬ HasRisen out_faults out_risen
 
 -- ---- what is printed
 

@@ -1,7 +1,8 @@
 ghost use Rattle.std.specs.Prelude.{◌≡◌, ◌≤◌, ◌⊎◌, [], ℕ, List};
+ghost use Rattle.jop_base.specs.Outside.{HasRisen};
 ghost use Rattle.lease.specs.Discipline.{ObeysLocks};
 ghost use Rattle.lease.specs.declared.lock.Lock.{Lock};
-ghost use Rattle.jop_cli.specs.Run.{Answers, ChecksFor, ChecksOut, Prints, Reports, UsesTarget, WritesLine};
+ghost use Rattle.jop_cli.specs.Run.{Answers, ChecksFor, ChecksOut, HasNoCause, Prints, Reports, UsesTarget, WritesLine};
 
 use crate::check::check_on;
 use crate::command::{WordsErr, read_words};
@@ -27,10 +28,14 @@ pub fn run<T: Target, O: Sink, E: Sink>(
     // Why it ends so, and what its one session was.
     ensures answers { Answers words.now.list diary.new.events result }
 
+    // Where nothing failed and nothing was in the way, it went well, or memory was wanting.
+    ensures complete { HasNoCause words.now.list diary.new.events (T.faults target.old) (T.faults target.new) (O.faults out.old) (O.faults out.new) → (result ≡ Status.Ok) ⊎ (result ≡ Status.NoMemory) }
+
     // Whatever the target answers, the client of the words puts and deletes its own lock alone, each in its turn.
     ensures discipline { (client : List ℕ) → ChecksFor words.now.list client → ObeysLocks client diary.new.events }
 
     ensures target { UsesTarget (T.store target.old) (T.faults target.old) diary.new.events (T.store target.new) (T.faults target.new) }
+    ensures fault { result ≡ Status.TargetFault → HasRisen (T.faults target.old) (T.faults target.new) }
     ensures out { Prints (O.written out.old) (O.faults out.old) result (O.written out.new) (O.faults out.new) }
     ensures err { Reports (E.written err.old) (E.faults err.old) result (E.written err.new) (E.faults err.new) }
 {

@@ -1,0 +1,18 @@
+use Rattle.std.proofs.Common.{◌∙◌, sym, subst, inl, inr, ◌≡◌, ◌⊎◌}
+use Rattle.jop_cli.proofs.Causes.{rises, completes}
+use Rattle.jop_cli.specs.Run.{Answers}
+use Rattle.jop_cli.specs.declared.status.Status.{Status}
+use Rattle.jop_cli.specs.declared.status.Status.TheVariants.{Ok as WentWell, NoMemory}
+use Rattle.jop_cli.proofs.program.run.Goals as goal
+
+pub returns-clause-complete : goal.returns-clause-complete
+returns-clause-complete g c = λ none. elim c.report.ensures.status [
+  | inl same ↦ subst (λ (s : Status). (s ≡ WentWell) ⊎ (s ≡ NoMemory)) (sym same) (completes _ _ _ _ _ _ _ _ _ _ _ c.perform-status.ensures.answers c.perform-status.ensures.target c.perform-status.ensures.out none)
+  | inr other ↦ inr other.0
+]
+
+pub returns-clause-fault : goal.returns-clause-fault
+returns-clause-fault g c = λ is. elim c.report.ensures.status [
+  | inl same ↦ rises _ _ _ _ _ _ (subst (Answers _ _) (sym same ∙ is) c.perform-status.ensures.answers) c.perform-status.ensures.target
+  | inr other ↦ cc (other.0, is)
+]
