@@ -6,13 +6,13 @@ use std::alloc::{AllocError, Global};
 
 /// What a run came to: its status, what it wrote on standard error, and its trail.
 #[derive(Drop)]
-pub struct Ran {
+pub(crate) struct Ran {
     pub status: Status,
     pub err: MemSink,
     pub trail: String,
 }
 
-pub fn words_of(alloc: Global, list: &[&str]) -> Result<Words, AllocError> {
+pub(crate) fn words_of(alloc: Global, list: &[&str]) -> Result<Words, AllocError> {
     let mut words = Seq::new(alloc);
     for word in list {
         words.push(Text::of(alloc, word)?)?;
@@ -21,7 +21,7 @@ pub fn words_of(alloc: Global, list: &[&str]) -> Result<Words, AllocError> {
 }
 
 /// Runs the program once, with an empty diary.
-pub fn run_once(
+pub(crate) fn run_once(
     alloc: Global,
     words: &Words,
     target: &mut MemTarget,

@@ -2,7 +2,7 @@ use jop_target::{Call, Event, Reply};
 use std::alloc::{AllocError, Global};
 
 /// The events of a trail, one a line, with the moments that the replies tell.
-pub fn trail_text(alloc: Global, events: &[Event]) -> Result<String, AllocError> {
+pub(crate) fn trail_text(alloc: Global, events: &[Event]) -> Result<String, AllocError> {
     let mut text = String::new(alloc);
     for event in events {
         text.push_str(event_text(alloc, event)?.as_str())?;
