@@ -1,5 +1,6 @@
 use crate::{
-    Bytes, Copied, Dir, Failed, Id, LockKind, LockName, MemSink, Path, Plan, Seq, Sink, Text,
+    Bytes, Copied, Dir, Failed, Id, LockKind, LockName, MemSink, MemSource, Path, Plan, Seq, Sink,
+    Source, Text,
 };
 use std::cmp::Ordering;
 use std::test::Fail;
@@ -121,6 +122,26 @@ fn a_sink_fails_where_it_is_planned(rt: HostRuntime) -> Result<(), Fail> {
     assert_eq!(rt; sink.write(b"ef"), Ok(2));
     assert_eq!(rt; sink.written.as_slice(), b"abef".as_slice());
     assert_eq!(rt; sink.faults, 1);
+    Ok(())
+}
+
+#[test]
+fn a_source_gives_what_it_was_made_with(rt: HostRuntime) -> Result<(), Fail> {
+    let mut bytes = Bytes::new(rt.alloc());
+    bytes.append(b"abcdef")?;
+    let mut source = MemSource::new(rt.alloc(), bytes);
+    source.fail(3)?;
+    let mut piece = [b'-'; 4];
+    assert_eq!(rt; source.read(&mut []), Ok(0));
+    assert_eq!(rt; source.read(&mut piece[..1]), Ok(1));
+    assert_eq!(rt; source.read(&mut piece), Err(Failed));
+    assert_eq!(rt; source.left.as_slice(), b"bcdef".as_slice());
+    assert_eq!(rt; source.faults, 1);
+    assert_eq!(rt; source.read(&mut piece), Ok(4));
+    assert_eq!(rt; piece.as_slice(), b"bcde".as_slice());
+    assert_eq!(rt; source.read(&mut piece), Ok(1));
+    assert_eq!(rt; piece.as_slice(), b"fcde".as_slice());
+    assert_eq!(rt; source.read(&mut piece), Ok(0));
     Ok(())
 }
 
