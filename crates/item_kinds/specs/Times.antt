@@ -1,7 +1,7 @@
 -- Times: whole milliseconds since the beginning of 1970, and how they are written.
 use Rattle.std.specs.Prelude.{◌≡◌, ◌≤◌, ℕ, ◌+◌, ◌/◌, ◌%◌, List, [], ◌∷◌, ◌++◌, length, ◌⊎◌}
 use Rattle.std.specs.Str.Parse.{IsNumeral, digits_value}
-use Rattle.item_kinds.specs.declared.time.TheConstants.{MAX_TIME}
+use Rattle.jop_base.specs.declared.time.TheConstants.{MAX_TIME}
 use Rattle.item_kinds.specs.Calendar.{Date, date_after}
 
 -- the last two, three and four decimal digits of a number

@@ -5,9 +5,9 @@ ghost use Rattle.item_kinds.specs.Made.{IsLine, folder, folder_props};
 
 use crate::kind::Kind;
 use crate::pairs::{add, add_fixed};
-use crate::time::{MAX_TIME, write_time};
+use crate::time::write_time;
 use item_text::{Item, Prop};
-use jop_base::{Id, Seq, Text};
+use jop_base::{Id, MAX_TIME, Seq, Text};
 use std::alloc::{AllocError, Global};
 
 /// The pairs of a folder or a tag.

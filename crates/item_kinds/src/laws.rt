@@ -3,7 +3,7 @@
 ghost use Rattle.std.specs.Prelude.{◌≡◌, ◌≤◌, ℕ, List};
 ghost use Rattle.item_kinds.specs.Times.{time_text, IsTime};
 
-use crate::time::MAX_TIME;
+use jop_base::MAX_TIME;
 
 /// What is written of a time reads as that time.
 pub fn reads_the_time_written()

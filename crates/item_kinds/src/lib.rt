@@ -31,4 +31,4 @@ pub use note::note_item;
 pub use note_tag::note_tag_item;
 pub use resource::resource_item;
 pub use tag::tag_item;
-pub use time::{MAX_TIME, read_time, write_time};
+pub use time::{read_time, write_time};

@@ -2,9 +2,9 @@ ghost use Rattle.std.specs.Prelude.{◌≡◌, ◌≤◌, ◌*◌, ℕ, pos, Som
 ghost use Rattle.jiff.specs.Words.{civil_nanos};
 ghost use Rattle.item_kinds.specs.Moment.{Shows};
 
-use crate::time::MAX_TIME;
 use jiff::SignedDuration;
 use jiff::civil::{DateTime, datetime};
+use jop_base::MAX_TIME;
 
 /// The beginning of 1970.
 fn beginning() -> DateTime

@@ -5,9 +5,9 @@ ghost use Rattle.item_kinds.specs.Made.{note_tag, note_tag_props};
 
 use crate::kind::Kind;
 use crate::pairs::{add, add_fixed};
-use crate::time::{MAX_TIME, write_time};
+use crate::time::write_time;
 use item_text::{Item, Prop};
-use jop_base::{Id, Seq, Text};
+use jop_base::{Id, MAX_TIME, Seq, Text};
 use std::alloc::{AllocError, Global};
 
 fn note_tag_props(

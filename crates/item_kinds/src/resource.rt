@@ -8,9 +8,9 @@ ghost use Rattle.item_kinds.specs.Made.{IsLine, resource, resource_props};
 
 use crate::kind::Kind;
 use crate::pairs::{add, add_fixed};
-use crate::time::{MAX_TIME, write_time};
+use crate::time::write_time;
 use item_text::{Item, Prop, escape_value, trimmed};
-use jop_base::{Id, Seq, Text};
+use jop_base::{Id, MAX_TIME, Seq, Text};
 use std::alloc::{AllocError, Global};
 
 fn resource_props(

@@ -5,8 +5,8 @@ ghost use Rattle.item_kinds.specs.Times.{date_text, clock_text, time_text};
 
 use crate::digits::{four_digits, read_four, read_three, read_two, three_digits, two_digits};
 use crate::moment::{moment_at, time_at};
-use crate::time::MAX_TIME;
 use jiff::civil::{Date, Time};
+use jop_base::MAX_TIME;
 
 /// The time as it is written.
 pub(crate) fn stamp(time: u64) -> [u8; 24]

@@ -5,9 +5,9 @@ ghost use Rattle.item_kinds.specs.Made.{IsLine, tag};
 
 use crate::folder::folder_props;
 use crate::kind::Kind;
-use crate::time::{MAX_TIME, write_time};
+use crate::time::write_time;
 use item_text::Item;
-use jop_base::{Id, Text};
+use jop_base::{Id, MAX_TIME, Text};
 use std::alloc::{AllocError, Global};
 
 /// A new tag.

@@ -8,9 +8,9 @@ use crate::note::note_item;
 use crate::note_tag::note_tag_item;
 use crate::resource::resource_item;
 use crate::tag::tag_item;
-use crate::time::{MAX_TIME, read_time, write_time};
+use crate::time::{read_time, write_time};
 use item_text::{Item, read_item, write_item};
-use jop_base::{Id, Text};
+use jop_base::{Id, MAX_TIME, Text};
 use std::alloc::AllocError;
 use std::test::*;
 

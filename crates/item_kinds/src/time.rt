@@ -4,11 +4,8 @@ ghost use Rattle.item_kinds.specs.Times.{time_text, IsCount, IsTime};
 
 use crate::number::read_number;
 use crate::stamp::{read_stamp, stamp};
-use jop_base::Text;
+use jop_base::{MAX_TIME, Text};
 use std::alloc::{AllocError, Global};
-
-/// The last moment of the year 9999, in milliseconds since the beginning of 1970.
-pub const MAX_TIME: u64 = 253_402_300_799_999;
 
 /// The time that one to fifteen digits count.
 fn read_count(text: &[u8]) -> Option<u64>

@@ -22,6 +22,7 @@ mod source;
 #[cfg(test)]
 mod tests;
 mod text;
+mod time;
 mod unread;
 
 pub use bytes::Bytes;
@@ -38,4 +39,5 @@ pub use seq::Seq;
 pub use sink::Sink;
 pub use source::Source;
 pub use text::Text;
+pub use time::MAX_TIME;
 pub use unread::Unread;

@@ -1,5 +1,5 @@
-ghost use Rattle.std.specs.Prelude.{◌≡◌, ◌++◌, [], ◌∷◌, ◌<◌, ◌≤◌, ◌↔◌, IfOk, OnOk, OnErr, IsTrue, length, slice_set};
-ghost use Rattle.std.specs.List.{insert};
+ghost use Rattle.std.specs.Prelude.{◌≡◌, ◌++◌, [], ◌∷◌, ◌<◌, ◌≤◌, ◌↔◌, IfOk, OnOk, OnErr, IsTrue, length, slice_index_or, slice_set};
+ghost use Rattle.std.specs.List.{insert, remove};
 
 use crate::copied::Copied;
 use std::alloc::{AllocError, Global};
@@ -86,6 +86,15 @@ impl<T: Drop> Seq<T> {
     {
         self.items.insert(place, item)?;
         Ok(())
+    }
+
+    /// Takes out the item at a place, counted from 0. The others keep their order.
+    pub fn remove(&mut self, place: usize) -> T
+        requires { place < length self.old }
+        ensures item { result ≡ slice_index_or self.old place result }
+        ensures rest { self.new ≡ remove self.old place }
+    {
+        self.items.remove(place)
     }
 }
 

@@ -47,6 +47,8 @@ fn lists_grow_in_place(rt: HostRuntime) -> Result<(), Fail> {
         list.copy(alloc)?.as_slice(),
         [Path::Info, Path::OldVersion].as_slice()
     );
+    assert_eq!(rt; list.remove(0), Path::Info);
+    assert_eq!(rt; list.as_slice(), [Path::OldVersion].as_slice());
     Ok(())
 }
 

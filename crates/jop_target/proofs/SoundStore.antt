@@ -9,9 +9,9 @@ use Rattle.jop_base.specs.Plan.{next_fate}
 use Rattle.jop_base.specs.declared.dir.Dir.{Dir}
 use Rattle.jop_base.specs.declared.path.Path.{Path}
 use Rattle.jop_base.specs.declared.path.Path.TheVariants.{Blob}
+use Rattle.jop_base.specs.declared.time.TheConstants.{MAX_TIME}
 use Rattle.jop_target.specs.declared.call.Call.{Call}
 use Rattle.jop_target.specs.declared.call.Call.TheVariants.{Get, Delete, GetBlob}
-use Rattle.jop_target.specs.declared.limits.TheConstants.{MAX_TIME}
 use Rattle.jop_target.specs.declared.reply.Entry.{Entry}
 use Rattle.jop_target.specs.declared.reply.Reply.{Reply}
 use Rattle.jop_target.specs.declared.reply.Reply.TheVariants.{Got, GotBlob, Failed, TooLarge}

@@ -7,9 +7,9 @@ use Rattle.jop_base.specs.Plan.{Calls, after_call, next_fate}
 use Rattle.jop_base.specs.declared.dir.Dir.{Dir}
 use Rattle.jop_base.specs.declared.path.Path.{Path}
 use Rattle.jop_base.specs.declared.path.Path.TheVariants.{Blob as BlobPath}
+use Rattle.jop_base.specs.declared.time.TheConstants.{MAX_TIME}
 use Rattle.jop_target.specs.declared.blobs.Blob.{Blob}
 use Rattle.jop_target.specs.declared.call.Call.{Call}
-use Rattle.jop_target.specs.declared.limits.TheConstants.{MAX_TIME}
 use Rattle.jop_target.specs.declared.tree.Content.{Content}
 use Rattle.jop_target.specs.declared.tree.Content.TheVariants.{Whole, Sized}
 use Rattle.jop_target.specs.declared.tree.File.{File}

@@ -8,13 +8,13 @@ use Rattle.jop_base.specs.Paths.{dir_of}
 use Rattle.jop_base.specs.declared.dir.Dir.{Dir}
 use Rattle.jop_base.specs.declared.path.Path.{Path}
 use Rattle.jop_base.specs.declared.path.Path.TheVariants.{Blob}
+use Rattle.jop_base.specs.declared.time.TheConstants.{MAX_TIME}
 use Rattle.jop_target.specs.declared.call.Call.{Call}
 use Rattle.jop_target.specs.declared.call.Call.TheVariants.{List as ListDir, Get, Put, Delete, MakeDir, GetBlob, PutBlob}
 use Rattle.jop_target.specs.declared.reply.Reply.{Reply}
 use Rattle.jop_target.specs.declared.reply.Reply.TheVariants.{Listed, Got, GotBlob, Absent, Done, Failed, TooLarge}
 use Rattle.jop_target.specs.declared.reply.Entry.{Entry}
 use Rattle.jop_target.specs.declared.reply.Listing.{Listing}
-use Rattle.jop_target.specs.declared.limits.TheConstants.{MAX_TIME}
 use Rattle.jop_target.specs.Store.{Store, limit_of, store_after, store_reply, bytes_of}
 
 -- ---- which calls may be made

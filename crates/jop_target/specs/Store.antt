@@ -8,7 +8,8 @@ use Rattle.jop_base.specs.declared.dir.Dir.{Dir}
 use Rattle.jop_base.specs.declared.dir.Dir.TheVariants.{Root, Resources, OldSync, Locks, Temp}
 use Rattle.jop_base.specs.declared.path.Path.{Path}
 use Rattle.jop_base.specs.declared.path.Path.TheVariants.{Blob}
-use Rattle.jop_target.specs.declared.limits.TheConstants.{MAX_TIME, FILE_LIMIT, BLOB_LIMIT}
+use Rattle.jop_base.specs.declared.time.TheConstants.{MAX_TIME}
+use Rattle.jop_target.specs.declared.limits.TheConstants.{FILE_LIMIT, BLOB_LIMIT}
 use Rattle.jop_target.specs.declared.call.Call.{Call}
 use Rattle.jop_target.specs.declared.call.Call.TheVariants.{List as ListDir, Get, Put, Delete, MakeDir, GetBlob, PutBlob}
 use Rattle.jop_target.specs.declared.reply.Reply.{Reply}

@@ -25,7 +25,7 @@ mod tree;
 pub use call::Call;
 pub use diary::Diary;
 pub use event::Event;
-pub use limits::{BLOB_LIMIT, FILE_LIMIT, MAX_TIME, limit_of};
+pub use limits::{BLOB_LIMIT, FILE_LIMIT, limit_of};
 pub use line::Line;
 pub use mem_target::MemTarget;
 pub use reply::{Entry, Listing, Reply};

@@ -3,9 +3,6 @@ ghost use Rattle.jop_target.specs.Store.{limit_of};
 
 use jop_base::Path;
 
-/// The greatest moment, in milliseconds since 1970: 9999-12-31T23:59:59.999Z.
-pub const MAX_TIME: u64 = 253_402_300_799_999;
-
 /// The most bytes of a file that is read and isn't a blob: 16 MiB.
 pub const FILE_LIMIT: u64 = 16_777_216;
 

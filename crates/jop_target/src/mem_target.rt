@@ -6,12 +6,11 @@ ghost use Rattle.jop_target.specs.Store.{reply_of, store_reply};
 use crate::answers::{deleted, got, got_blob, listed};
 use crate::blobs::{self, Blob};
 use crate::call::Call;
-use crate::limits::MAX_TIME;
 use crate::reply::Reply;
 use crate::target::Target;
 use crate::tree::{Content, File, Tree};
 use crate::{files, folders};
-use jop_base::{Bytes, Copied, Dir, Id, Path, Plan, Seq};
+use jop_base::{Bytes, Copied, Dir, Id, MAX_TIME, Path, Plan, Seq};
 use std::alloc::{AllocError, Global};
 use std::marker::Model;
 

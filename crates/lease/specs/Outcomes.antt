@@ -5,6 +5,7 @@ use Rattle.jop_base.specs.Outside.{HasRisen}
 use Rattle.jop_base.specs.declared.lock_name.LockKind.{LockKind}
 use Rattle.jop_base.specs.declared.dir.Dir.TheVariants.{Locks}
 use Rattle.jop_base.specs.declared.path.Path.TheVariants.{Lock as LockFile}
+use Rattle.jop_base.specs.declared.time.TheConstants.{MAX_TIME}
 use Rattle.jop_target.specs.declared.call.Call.{Call}
 use Rattle.jop_target.specs.declared.call.Call.TheVariants.{List as ListDir, Put, Delete, MakeDir}
 use Rattle.jop_target.specs.declared.reply.Reply.{Reply}
@@ -12,7 +13,6 @@ use Rattle.jop_target.specs.declared.reply.Reply.TheVariants.{Listed, Failed}
 use Rattle.jop_target.specs.declared.reply.Listing.{Listing}
 use Rattle.jop_target.specs.declared.event.Event.{Event}
 use Rattle.jop_target.specs.declared.event.Event.TheVariants.{Sent, Called}
-use Rattle.jop_target.specs.declared.limits.TheConstants.{MAX_TIME}
 use Rattle.jop_target.specs.Replies.{IsReplyTo, IsListing}
 use Rattle.jop_target.specs.Runs.{Continues}
 use Rattle.jop_target.specs.Trail.{LineNow}

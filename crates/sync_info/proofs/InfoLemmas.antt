@@ -3,11 +3,12 @@ use Rattle.std.proofs.Common.{◌≡◌, ℕ, ◌≤◌, List, [], ◌∷◌, Bo
 use Rattle.std.proofs.lemmas.Bool.{or_from, cond-true, le-leb}
 use Rattle.std.specs.List.{AllByRecursion}
 use Rattle.std.specs.Option.{option_map_or}
+use Rattle.jop_base.specs.declared.time.TheConstants.{MAX_TIME}
 use Rattle.serde_json.specs.Data.{Data, boolean, number, string, array, unsigned, depth, items_depth}
 use Rattle.serde_json.specs.Find.{get, as_str}
 use Rattle.serde_json.specs.Read.{max_depth}
 use Rattle.serde_json.specs.Written.{has_float, items_have_float}
-use Rattle.sync_info.specs.Info.{max_time, is_id, is_key_name, are_distinct, room, IsKeyRecord, AreKeys, IsActive, IsInfo}
+use Rattle.sync_info.specs.Info.{is_id, is_key_name, are_distinct, room, IsKeyRecord, AreKeys, IsActive, IsInfo}
 use Rattle.sync_info.specs.Json.{members_of, setting_json, record_members, record_json, records_json, info_members, info_json}
 use Rattle.sync_info.specs.Read.{option_filter, count_of, time_of, id_of, setting, e2ee_of, active_of, kept_in, record_of, before, records_of, keys_of, info_of, id_in, content_in, updated_in, version_in, e2ee_in, active_in, keys_in}
 use Rattle.sync_info.specs.declared.holder.Holder.TheVariants as holder
@@ -20,8 +21,8 @@ use Rattle.sync_info.proofs.MemberLemmas.{whole-put_all, depth-put_all, named, g
 
 -- ---- times and ids
 
-time_of-number : (t : ℕ) → t ≤ max_time → time_of (number (unsigned t)) ≡ Some t
-time_of-number t within = cond-true _ _ _ (le-leb t max_time within)
+time_of-number : (t : ℕ) → t ≤ MAX_TIME → time_of (number (unsigned t)) ≡ Some t
+time_of-number t within = cond-true _ _ _ (le-leb t MAX_TIME within)
 
 -- ---- a record
 
@@ -76,7 +77,7 @@ keys_of-records_json ks valid = ap (option_filter are_distinct) (records_of-reco
 
 -- ---- settings
 
-e2ee_of-setting_json : (s : Timed Bool) → s.updated ≤ max_time → e2ee_of (setting_json (boolean s.value) s.updated) ≡ Some s
+e2ee_of-setting_json : (s : Timed Bool) → s.updated ≤ MAX_TIME → e2ee_of (setting_json (boolean s.value) s.updated) ≡ Some s
 e2ee_of-setting_json s within = ap (setting (Some s.value)) (time_of-number s.updated within)
 
 active_of-setting_json : (s : Timed (List ℕ)) → IsActive s → active_of (setting_json (string s.value) s.updated) ≡ Some s

@@ -7,7 +7,8 @@ use Rattle.std.proofs.lemmas.List.Folds.{list_any-append}
 use Rattle.std.proofs.lemmas.Slice.Eq.{bytes_eq-Decides}
 use Rattle.std.specs.List.{AllByRecursion, filter, find, list_any}
 use Rattle.std.specs.Str.{bytes_eq}
-use Rattle.sync_info.specs.Info.{has_id, are_distinct, IsKeyRecord, AreKeys, IsActive, IsInfo, max_time}
+use Rattle.jop_base.specs.declared.time.TheConstants.{MAX_TIME}
+use Rattle.sync_info.specs.Info.{has_id, are_distinct, IsKeyRecord, AreKeys, IsActive, IsInfo}
 use Rattle.sync_info.specs.Merge.{later, later_record, renewed, missing, joined, merged}
 use Rattle.sync_info.specs.declared.info.Info.{Info}
 use Rattle.sync_info.specs.declared.key_record.KeyRecord.{KeyRecord}
@@ -271,7 +272,7 @@ AreKeys-joined local remote own others = record {
 pub IsInfo-merged : (l r : Info) → IsInfo l → IsInfo r → IsInfo (merged l r)
 IsInfo-merged l r local remote = record {
   version = remote.version;
-  e2ee = cond_both (nat_lt r.e2ee.updated l.e2ee.updated) l.e2ee r.e2ee (λ s. s.updated ≤ max_time) (λ e. local.e2ee) (λ e. remote.e2ee);
+  e2ee = cond_both (nat_lt r.e2ee.updated l.e2ee.updated) l.e2ee r.e2ee (λ s. s.updated ≤ MAX_TIME) (λ e. local.e2ee) (λ e. remote.e2ee);
   active = cond_both (nat_lt r.active.updated l.active.updated) l.active r.active IsActive (λ e. local.active) (λ e. remote.active);
   keys = AreKeys-joined l.keys r.keys local.keys remote.keys;
   others = remote.others;

@@ -6,6 +6,7 @@ use Rattle.std.specs.List.Sorted.{IsStrictlySortedBy}
 use Rattle.std.specs.Ordering.{nat_cmp}
 use Rattle.std.specs.Str.{bytes_eq}
 use Rattle.jop_base.specs.Id.{IsIdText, is_digit}
+use Rattle.jop_base.specs.declared.time.TheConstants.{MAX_TIME}
 use Rattle.serde_json.specs.Data.{Data, depth}
 use Rattle.serde_json.specs.Read.{read}
 use Rattle.serde_json.specs.Written.{has_float, compact_text}
@@ -15,10 +16,6 @@ use Rattle.sync_info.specs.declared.info.Info.{Info}
 use Rattle.sync_info.specs.declared.key_record.KeyRecord.{KeyRecord}
 use Rattle.sync_info.specs.declared.member.Member.{Member}
 use Rattle.sync_info.specs.declared.timed.Timed.{Timed}
-
--- the last millisecond of the year 9999, counted from 1970
-abbrev pub max_time : ℕ
-max_time = 253402300799999
 
 -- the text is an id
 abbrev pub is_id : List ℕ → Bool
@@ -64,7 +61,7 @@ pub record AreKept (of : Holder) (others : List Member) : Type 0 where
 
 pub record IsKeyRecord (key : KeyRecord) : Type 0 where
   pub id : IsIdText key.id
-  pub updated : key.updated ≤ max_time
+  pub updated : key.updated ≤ MAX_TIME
   pub others : AreKept holder.KeyRecord key.others
 
 -- records of which no two have one id
@@ -75,12 +72,12 @@ pub record AreKeys (keys : List KeyRecord) : Type 0 where
 -- the choice of a key: its id or none, and when it was made
 pub record IsActive (active : Timed (List ℕ)) : Type 0 where
   pub name : is_key_name active.value ≡ true
-  pub updated : active.updated ≤ max_time
+  pub updated : active.updated ≤ MAX_TIME
 
 -- an info that some text holds
 pub record IsInfo (info : Info) : Type 0 where
   pub version : info.version < 2 ^ 64
-  pub e2ee : info.e2ee.updated ≤ max_time
+  pub e2ee : info.e2ee.updated ≤ MAX_TIME
   pub active : IsActive info.active
   pub keys : AreKeys info.keys
   pub others : AreKept holder.Info info.others

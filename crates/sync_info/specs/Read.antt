@@ -2,11 +2,12 @@
 use Rattle.std.specs.Prelude.{ℕ, Bool, false, not, List, [], ◌∷◌, Option, Some, None, nat_le, if◌then◌else◌, option_and_then, codes}
 use Rattle.std.specs.Option.{option_map_or}
 use Rattle.std.specs.Str.{is_utf8}
+use Rattle.jop_base.specs.declared.time.TheConstants.{MAX_TIME}
 use Rattle.serde_json.specs.Data.{Data, Items, no_items, item, Members, no_members, member}
 use Rattle.serde_json.specs.Find.{get, as_bool, as_number, as_str, as_array, as_object, as_u64}
 use Rattle.serde_json.specs.Read.{read}
 use Rattle.serde_json.specs.Written.{has_float, compact_text}
-use Rattle.sync_info.specs.Info.{max_time, is_id, is_key_name, are_distinct, is_own}
+use Rattle.sync_info.specs.Info.{is_id, is_key_name, are_distinct, is_own}
 use Rattle.sync_info.specs.declared.holder.Holder.{Holder}
 use Rattle.sync_info.specs.declared.holder.Holder.TheVariants as holder
 use Rattle.sync_info.specs.declared.info.Info.{Info}
@@ -27,7 +28,7 @@ count_of d = option_and_then as_u64 (as_number d)
 
 -- a time up to the end of the year 9999
 abbrev pub time_of : Data → Option ℕ
-time_of d = option_filter (λ t. nat_le t max_time) (count_of d)
+time_of d = option_filter (λ t. nat_le t MAX_TIME) (count_of d)
 
 abbrev pub id_of : Data → Option (List ℕ)
 id_of d = option_filter is_id (as_str d)

@@ -1,10 +1,11 @@
 ghost use Rattle.std.specs.Prelude.{◌≡◌, ◌≤◌, suc, false, IfOk, IfSome};
 ghost use Rattle.std.specs.List.{AllByRecursion};
+ghost use Rattle.jop_base.specs.declared.time.TheConstants.{MAX_TIME};
 ghost use Rattle.serde_json.specs.Data.{depth, items_depth};
 ghost use Rattle.serde_json.specs.Read.{max_depth};
 ghost use Rattle.serde_json.specs.View.{view, items_view};
 ghost use Rattle.serde_json.specs.Written.{has_float, items_have_float};
-ghost use Rattle.sync_info.specs.Info.{max_time, are_distinct, room, IsKeyRecord, AreKeys};
+ghost use Rattle.sync_info.specs.Info.{are_distinct, room, IsKeyRecord, AreKeys};
 ghost use Rattle.sync_info.specs.Read.{updated_in, record_of, records_of, keys_of, keys_in};
 
 use crate::holder::Holder;
@@ -19,7 +20,7 @@ use std::collections::BTreeSet;
 /// 0 where it is absent.
 fn updated_in(value: &Value) -> Option<u64>
     ensures time { result ≡ updated_in (view value.now) }
-    ensures bound { IfSome result (λ time. time ≤ max_time) }
+    ensures bound { IfSome result (λ time. time ≤ MAX_TIME) }
 {
     match value.get("updated_time") {
         Some(time) => time_of(time),

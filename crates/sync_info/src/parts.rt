@@ -1,20 +1,17 @@
 ghost use Rattle.std.specs.Prelude.{◌≡◌, ◌≤◌, true, IfOk, IfSome, option_map, Some};
 ghost use Rattle.jop_base.specs.Id.{IsIdText};
 ghost use Rattle.serde_json.specs.View.{view};
-ghost use Rattle.sync_info.specs.Info.{IsActive, is_id, is_key_name, max_time};
+ghost use Rattle.sync_info.specs.Info.{IsActive, is_id, is_key_name};
 ghost use Rattle.sync_info.specs.Read.{option_filter, version_in, time_of, id_of, key_name_of, e2ee_of, e2ee_in, active_of, active_in};
 
 use crate::timed::Timed;
-use jop_base::{Id, Text};
+use jop_base::{Id, MAX_TIME, Text};
 use serde_json::Value;
 use std::alloc::{AllocError, Global};
 
-/// The last millisecond of the year 9999, counted from 1970.
-const MAX_TIME: u64 = 253_402_300_799_999;
-
 pub(crate) fn time_of(value: &Value) -> Option<u64>
     ensures time { result ≡ time_of (view value.now) }
-    ensures bound { IfSome result (λ time. time ≤ max_time) }
+    ensures bound { IfSome result (λ time. time ≤ MAX_TIME) }
 {
     let time = value.as_u64()?;
     if time <= MAX_TIME { Some(time) } else { None }
@@ -57,7 +54,7 @@ pub(crate) fn version_in(value: &Value) -> Option<u64>
 
 fn e2ee_of(value: &Value) -> Option<Timed<bool>>
     ensures e2ee { result ≡ e2ee_of (view value.now) }
-    ensures bound { IfSome result (λ e2ee. e2ee.updated ≤ max_time) }
+    ensures bound { IfSome result (λ e2ee. e2ee.updated ≤ MAX_TIME) }
 {
     Some(Timed {
         value: value.get("value")?.as_bool()?,
@@ -84,7 +81,7 @@ fn active_of(alloc: Global, value: &Value) -> Result<Option<Timed<Text>>, AllocE
 /// Where it is absent, sealing was never asked for.
 pub(crate) fn e2ee_in(value: &Value) -> Option<Timed<bool>>
     ensures e2ee { result ≡ e2ee_in (view value.now) }
-    ensures bound { IfSome result (λ e2ee. e2ee.updated ≤ max_time) }
+    ensures bound { IfSome result (λ e2ee. e2ee.updated ≤ MAX_TIME) }
 {
     match value.get("e2ee") {
         Some(e2ee) => e2ee_of(e2ee),

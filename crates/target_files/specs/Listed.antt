@@ -2,7 +2,7 @@
 use Rattle.std.specs.Prelude.{◌≡◌, ◌≤◌, List, All}
 use Rattle.jop_base.specs.Paths.{dir_of}
 use Rattle.jop_base.specs.declared.dir.Dir.{Dir}
-use Rattle.jop_target.specs.declared.limits.TheConstants.{MAX_TIME}
+use Rattle.jop_base.specs.declared.time.TheConstants.{MAX_TIME}
 use Rattle.jop_target.specs.declared.reply.Entry.{Entry}
 
 -- a file of that folder, with a time that may stand in a listing

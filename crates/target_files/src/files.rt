@@ -1,5 +1,5 @@
 ghost use Rattle.std.specs.Prelude.{◌≤◌, IfOk, IfSome};
-ghost use Rattle.jop_target.specs.declared.limits.TheConstants.{MAX_TIME};
+ghost use Rattle.jop_base.specs.declared.time.TheConstants.{MAX_TIME};
 ghost use Rattle.target_files.specs.Reading.{IsWithin};
 
 use crate::moment::stamp_of;

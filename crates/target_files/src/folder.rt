@@ -1,9 +1,9 @@
 ghost use Rattle.std.specs.Prelude.{◌≡◌, ◌≤◌, IfOk, IfSome};
 ghost use Rattle.std.specs.Path.{path_buf_bytes, path_join};
 ghost use Rattle.jop_base.specs.Paths.{path_text};
+ghost use Rattle.jop_base.specs.declared.time.TheConstants.{MAX_TIME};
 ghost use Rattle.jop_target.specs.Replies.{IsListing};
 ghost use Rattle.jop_target.specs.Store.{limit_of};
-ghost use Rattle.jop_target.specs.declared.limits.TheConstants.{MAX_TIME};
 ghost use Rattle.target_files.specs.Reading.{IsWithin};
 
 use crate::files::{Reading, make_folder, read, write};

@@ -1,7 +1,6 @@
 ghost use Rattle.std.specs.Prelude.{◌≡◌, ◌≤◌, ◌+◌, ◌*◌, ◌/◌, min};
-ghost use Rattle.jop_target.specs.declared.limits.TheConstants.{MAX_TIME};
 
-use jop_target::MAX_TIME;
+use jop_base::MAX_TIME;
 use std::fs::Metadata;
 use std::os::unix::fs::MetadataExt;
 

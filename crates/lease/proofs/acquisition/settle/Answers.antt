@@ -1,5 +1,5 @@
 use Rattle.std.proofs.Common.{◌≡◌, ◌∙◌, refl, ap, subst}
-use Rattle.jop_target.specs.declared.limits.TheConstants.{MAX_TIME}
+use Rattle.jop_base.specs.declared.time.TheConstants.{MAX_TIME}
 use Rattle.lease.specs.Outcomes.{StandsIn, as_judgement}
 use Rattle.lease.specs.Phase.{Judgement, judged_phase, judge, Holds}
 use Rattle.lease.proofs.Sessions.{goes_nowhere}
