@@ -122,12 +122,6 @@ got_blob_fits s id sound is = by (file_at s.tree.files (Blob id)) refl where
   by None absent = sound.moment
   by (Some f) there = subst (λ (c : Content). IsReplyTo (GetBlob id) (got_size s.moment (limit_of (Blob id)) c)) (sym (fits_at s (Blob id) f sound is there)) (got_sized id s.moment (length (bytes_of s.blobs id)) sound.moment)
 
-pub deleted_fits : (s : Store) (path : Path) → IsSound s → IsReplyTo (Delete path) (deleted s.moment (file_at s.tree.files path))
-deleted_fits s path sound = by (file_at s.tree.files path) where
-  by : (o : Option File) → IsReplyTo (Delete path) (deleted s.moment o)
-  by None = sound.moment
-  by (Some f) = sound.moment
-
 -- ---- a blob that was got is as long as the reply says
 
 sized_len : (limit now at len m : ℕ) → got_size at limit (Sized m) ≡ GotBlob now len → len ≡ m

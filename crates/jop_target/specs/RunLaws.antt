@@ -1,7 +1,7 @@
 -- How runs of a line join.
-use Rattle.std.specs.Prelude.{ℕ, ◌≤◌, ◌≡◌, ◌⊎◌, List, [], ◌∷◌, ◌++◌, length, All, Bool, true, false, ◌||◌, Option, Some, None, Ok, Err, refl}
+use Rattle.std.specs.Prelude.{ℕ, ◌≤◌, ◌≡◌, ◌⊎◌, List, [], ◌∷◌, ◌++◌, All, Bool, true, false, ◌||◌, Option, Some, None, Ok, Err, refl}
 use Rattle.std.specs.declared.alloc.AllocError.{AllocError}
-use Rattle.std.proofs.Common.{sym, ap, subst, ◌∙◌, inl, inr, arith, append_assoc, append-nil, length-append, zero, suc}
+use Rattle.std.proofs.Common.{sym, ap, subst, ◌∙◌, inl, inr, arith, append_assoc, append-nil, zero, suc}
 use Rattle.std.proofs.lemmas.List.Elements.{All-append}
 use Rattle.jop_base.specs.Outside.{HasRisen}
 use Rattle.jop_target.specs.declared.call.Call.{Call}
@@ -121,24 +121,18 @@ continues_answered P old new call before after reply may h each = record {
   store = answered_run old.store new.store call before reply may h.answers;
 }
 
-never : (xs : List Event) (e : Event) → xs ≡ xs ++ e ∷ [] → ⊥
-never xs e h = omega (arith, ap length h, length-append xs (e ∷ []))
-
 pub continues_unheard : (P : Event → Type 0) (old new : LineNow) (call : Call) (before after : List ℕ) (e : AllocError) → IsCallable call before → IsUnheard old call before new after e → P (Sent call) → Continues P old new
 unfolding has_failed
-continues_unheard P old new call before after e may h each = elim h.trail [
-  | inl sent ↦ record {
+continues_unheard P old new call before after e may h each = elim h [
+  | inl same ↦ subst (λ (s : LineNow). Continues P old s) (sym same.0) (continues_same P old)
+  | inr sent ↦ record {
     more = Sent call ∷ [];
-    trail = sent;
+    trail = sent.trail;
     each = one P _ each;
-    later = h.later;
+    later = sent.later;
     fault = λ failed. cc;
-    store = elim h.answers [
-      | inl told ↦ unheard_run old.store new.store call before e may told
-      | inr same ↦ absurd (never old.trail (Sent call) (sym (ap (λ (s : LineNow). s.trail) same) ∙ sent))
-    ];
+    store = unheard_run old.store new.store call before e may sent.answers;
   }
-  | inr same ↦ subst (λ (s : LineNow). Continues P old s) (sym same) (continues_same P old)
 ]
 
 pub continues_weaker : (P Q : Event → Type 0) (old new : LineNow) → ((e : Event) → P e → Q e) → Continues P old new → Continues Q old new

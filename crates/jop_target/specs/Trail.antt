@@ -25,12 +25,16 @@ pub record IsAnswered (old : LineNow) (call : Call) (before : List ℕ) (new : L
   pub answers : Answers old.store call before (Ok reply) new.store
   pub blob : KeepsBlob old.store call before (Ok reply) after
 
--- there was no memory: the call stands in the trail without a reply, or the target was not asked
-pub record IsUnheard (old : LineNow) (call : Call) (before : List ℕ) (new : LineNow) (after : List ℕ) (e : AllocError) : Type 0 where
-  pub trail : (new.trail ≡ old.trail ++ Sent call ∷ []) ⊎ (new ≡ old)
+-- the target was asked, and its reply is not known: the call stands in the trail without one
+pub record IsSent (old : LineNow) (call : Call) (before : List ℕ) (new : LineNow) (after : List ℕ) (e : AllocError) : Type 0 where
+  pub trail : new.trail ≡ old.trail ++ Sent call ∷ []
   pub later : old.faults ≤ new.faults
-  pub answers : Answers old.store call before (Err e) new.store ⊎ (new ≡ old)
-  pub blob : KeepsBlob old.store call before (Err e) after ⊎ (after ≡ before)
+  pub answers : Answers old.store call before (Err e) new.store
+  pub blob : KeepsBlob old.store call before (Err e) after
+
+-- there was no memory: the target was not asked, and all is as it was; or its reply is not known
+abbrev pub IsUnheard : LineNow → Call → List ℕ → LineNow → List ℕ → AllocError → Type 0
+IsUnheard old call before new after e = ((new ≡ old) × (after ≡ before)) ⊎ IsSent old call before new after e
 
 abbrev pub Asks : {R : Type 0} → LineNow → Call → List ℕ → Result R AllocError → LineNow → List ℕ → Type 0
 Asks old call before (Ok done) new after = (reply : Reply) × IsAnswered old call before new after reply

@@ -7,7 +7,6 @@ use crate::reply::Entry;
 use crate::tree::File;
 use jop_base::{Dir, Path, Seq};
 use std::alloc::{AllocError, Global};
-use std::mem;
 
 /// Whether both are the same file.
 fn is_same(one: &Path, other: &Path) -> bool
@@ -60,20 +59,12 @@ pub(crate) fn place(files: &mut Seq<File>, file: File) -> Result<(), AllocError>
 }
 
 /// Takes the file at a path out, where there is one.
-pub(crate) fn remove(alloc: Global, files: &mut Seq<File>, path: &Path)
+#[tactic(auto, unfolding(crate::specs::Store::without_file))]
+pub(crate) fn remove(files: &mut Seq<File>, path: &Path)
     ensures { files.new ≡ without_file files.old path.now }
 {
-    let mut items = mem::replace(files, Seq::new(alloc)).into_vec();
-    take_out(&mut items, path);
-    *files = Seq::from_vec(items);
-}
-
-#[tactic(auto, unfolding(crate::specs::Store::without_file))]
-fn take_out(files: &mut Vec<File>, path: &Path)
-    ensures { files.new.items ≡ without_file files.old.items path.now }
-{
     for index in 0..files.len() {
-        if is_same(&files[index].path, path) {
+        if is_same(&files.as_slice()[index].path, path) {
             let _file = files.remove(index);
             return;
         }

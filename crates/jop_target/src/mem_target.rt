@@ -126,10 +126,10 @@ impl MemTarget {
     }
 
     #[tactic(auto, unfolding(crate::specs::Store::tree_after))]
-    fn delete(&mut self, alloc: Global, path: &Path)
+    fn delete(&mut self, path: &Path)
         ensures { (bytes : List ℕ) → self.new ≡ after_change self.old (Call.Delete path.now) bytes }
     {
-        files::remove(alloc, &mut self.tree.files, path);
+        files::remove(&mut self.tree.files, path);
         blobs::remove_file(&mut self.blobs, path);
     }
 
@@ -146,7 +146,7 @@ impl MemTarget {
             Call::PutBlob { id, len: _ } => self.place(Path::Blob(*id), blob.copy(alloc)?, now),
             Call::MakeDir(dir) => self.make_dir(*dir),
             Call::Delete(path) => {
-                self.delete(alloc, path);
+                self.delete(path);
                 Ok(())
             }
             Call::List(_) | Call::Get(_) | Call::GetBlob(_) => Ok(()),

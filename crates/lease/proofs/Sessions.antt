@@ -80,9 +80,9 @@ goes_answered client old new call before after reply may h =
     }
 
 pub unheard_stands : (client : List ℕ) (old new : LineNow) (call : Call) (before after : List ℕ) (e : AllocError) → MayAsk client old.trail call → IsUnheard old call before new after e → StandsIn client new.trail (phase_of client old.trail) ⊎ StandsIn client new.trail Over
-unheard_stands client old new call before after e may h = elim h.trail [
-  | inl sent ↦ inr (stands_unheard client old.trail new.trail (phase_of client old.trail) call may.stands sent may.allowed may.in_time)
-  | inr same ↦ inl (subst (λ (s : LineNow). StandsIn client s.trail (phase_of client old.trail)) (sym same) may.stands)
+unheard_stands client old new call before after e may h = elim h [
+  | inl same ↦ inl (subst (λ (s : LineNow). StandsIn client s.trail (phase_of client old.trail)) (sym same.0) may.stands)
+  | inr sent ↦ inr (stands_unheard client old.trail new.trail (phase_of client old.trail) call may.stands sent.trail may.allowed may.in_time)
 ]
 
 pub goes_unheard : (client : List ℕ) (old new : LineNow) (call : Call) (before after : List ℕ) (e : AllocError) → MayAsk client old.trail call → IsUnheard old call before new after e → LeaseGoesOn client old new
