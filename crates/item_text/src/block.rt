@@ -1,4 +1,4 @@
-ghost use Rattle.std.specs.Prelude.{◌≡◌, true, false, reverse, IfOk, MatchOption, MatchResult};
+ghost use Rattle.std.specs.Prelude.{◌≡◌, true, false, length, reverse, IfOk, MatchOption, MatchResult};
 ghost use Rattle.item_text.specs.Lines.{has, lines};
 ghost use Rattle.item_text.specs.Grammar.{pair_of};
 ghost use Rattle.item_text.specs.Steps.{lines_of, IsBlock, IsRefusal};
@@ -23,6 +23,16 @@ fn read_pair(alloc: Global, line: &str) -> Result<Option<Prop>, AllocError>
     }
 }
 
+/// The last line of this text has no colon. Lines are counted from 1.
+fn no_colon(text: &str) -> ItemErr
+    ensures { result ≡ ItemErr.Bad (record { line = length (lines text.now); why = BadWhy.NoColon }) }
+{
+    ItemErr::Bad(BadItem {
+        line: line_count(text),
+        why: BadWhy::NoColon,
+    })
+}
+
 fn reversed(mut props: Vec<Prop>) -> Seq<Prop>
     ensures { result ≡ reverse props.items }
 {
@@ -42,15 +52,10 @@ pub(crate) fn read_block(alloc: Global, text: &str) -> Result<(Option<&str>, Seq
         if !has_text(line) {
             return Ok((above, reversed(props)));
         }
-        match read_pair(alloc, line)? {
-            None => {
-                return Err(ItemErr::Bad(BadItem {
-                    line: line_count(part),
-                    why: BadWhy::NoColon,
-                }));
-            }
-            Some(pair) => props.push(pair)?,
-        }
+        let Some(pair) = read_pair(alloc, line)? else {
+            return Err(no_colon(part));
+        };
+        props.push(pair)?;
         rest = above;
     }
     Ok((None, reversed(props)))

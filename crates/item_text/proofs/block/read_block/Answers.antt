@@ -12,21 +12,22 @@ returns-then-not-has_text c =
     let P : List Prop → Type 0 = λ ps. IsBlock (lines c.args.text.now) (lines_of c.last_line.result.0) ps in
     subst P (sym c.reversed.ensures) (walked_empty _ _ _ _ c.last_line.result.1.now c.loop-rest.invariant cut (sym c.if-not-has_text.ensures))
 
-pub returns-in-None : goal.returns-in-None
+pub returns-in_default-2 : goal.returns-in_default-2
 unfolding IsRefusal
-returns-in-None c =
+returns-in_default-2 c =
     let cut = ap lines_of c.in-Some.is ∙ c.last_line.ensures.cut in
-    let lacks = rw c.in-None.is at c.in_ok-read_pair.ensures in
-    let number = ap (λ (ls : List (List ℕ)). length ls) (ap lines_of c.in-Some.is) ∙ sym c.line_count.ensures in
-    walked_fault _ _ _ _ c.last_line.result.1.now c.loop-rest.invariant cut (sym c.if-not-has_text.ensures) lacks
-    ∙ ap (λ (n : ℕ). Some (record { line = n; why = NoColon })) number
+    let lacks = rw c.in_default-2.is at c.in_ok-pair.ensures in
+    let number = ap (λ (ls : List (List ℕ)). length ls) (ap lines_of c.in-Some.is) in
+    rw c.no_colon.ensures
+    (walked_fault _ _ _ _ c.last_line.result.1.now c.loop-rest.invariant cut (sym c.if-not-has_text.ensures) lacks
+    ∙ ap (λ (n : ℕ). Some (record { line = n; why = NoColon })) number)
 
 pub loop-rest-preserved : goal.loop-rest-preserved
 loop-rest-preserved c =
     let cut = ap lines_of c.in-Some.is ∙ c.last_line.ensures.cut in
-    let pair = rw c.in-Some-2.is at c.in_ok-read_pair.ensures in
+    let pair = rw c.in-Some-2.is at c.in_ok-pair.ensures in
     let P : List Prop → Type 0 = λ ps. Walked (lines c.args.text.now) (lines_of c.last_line.result.0) ps in
-    subst P (sym c.in_ok-push-in-Some-2.ensures.items) (walked_more _ _ _ _ c.last_line.result.1.now c.in-Some-2.pair c.loop-rest.invariant cut (sym c.if-not-has_text.ensures) pair)
+    subst P (sym c.in_ok-push.ensures.items) (walked_more _ _ _ _ c.last_line.result.1.now c.in-Some-2.pair c.loop-rest.invariant cut (sym c.if-not-has_text.ensures) pair)
 
 pub returns : goal.returns
 returns c =
