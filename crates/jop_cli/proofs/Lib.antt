@@ -1,4 +1,5 @@
 pub mod Causes
+pub mod Histories
 pub mod Meaning
 pub mod Sessions
 pub mod Written

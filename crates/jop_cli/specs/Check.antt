@@ -10,10 +10,9 @@ use Rattle.jop_target.specs.declared.event.Event.TheVariants.{Began, Called, End
 use Rattle.jop_target.specs.Replies.{IsReplyTo}
 use Rattle.lease.specs.declared.error.LeaseErr.{LeaseErr}
 use Rattle.lease.specs.declared.error.LeaseErr.TheVariants.{Busy as IsBusy, Lost as HasLost, TargetFault as HasFault, NoMemory as HasNoMemory}
-use Rattle.lease.specs.declared.lock.Lock.{Lock}
 use Rattle.lease.specs.Discipline.{ObeysLocks, ends_released, phase_of}
 use Rattle.lease.specs.Locks.{own_name}
-use Rattle.lease.specs.Outcomes.{EndsFailed, HasMissed, IsBlockedAtOnce, IsBlockedAfterwards, IsLeaseEvent, StandsIn}
+use Rattle.lease.specs.Outcomes.{EndsFailed, HasMissed, IsBlocked, IsLeaseEvent, StandsIn}
 use Rattle.lease.specs.Phase.{Held}
 use Rattle.jop_cli.specs.declared.session_err.SessionErr.{SessionErr}
 use Rattle.jop_cli.specs.declared.session_err.SessionErr.TheVariants.{Busy, LeaseLost, TargetFault, NoMemory}
@@ -36,14 +35,10 @@ pub record HasChecked (client : List ℕ) (trail : List Event) : Type 0 where
   pub shape : IsReplyTo (Delete (LockFile (own_name Sync client))) reply
   pub heard : ¬ (reply ≡ Failed)
 
--- a lock was in the way, at once or behind the put
-abbrev pub IsBlocked : List ℕ → List Event → Lock → ℕ → Type 0
-IsBlocked client trail lock now = IsBlockedAtOnce Sync client trail lock now ⊎ IsBlockedAfterwards Sync client trail lock now
-
 -- each answer, by its cause
 abbrev pub Comes : List ℕ → List Event → Result (Unit {0}) SessionErr → Type 0
 Comes client trail (Ok done) = HasChecked client trail
-Comes client trail (Err (Busy lock now)) = IsBlocked client trail lock now
+Comes client trail (Err (Busy lock now)) = IsBlocked Sync client trail lock now
 Comes client trail (Err (LeaseLost seen)) = HasMissed Sync client trail seen
 Comes client trail (Err TargetFault) = EndsFailed client trail
 Comes client trail (Err NoMemory) = Unit {0}

@@ -1,6 +1,8 @@
 ghost use Rattle.std.specs.Prelude.{◌≡◌, ◌≤◌, ◌⊎◌, [], ℕ, List};
 ghost use Rattle.jop_base.specs.Outside.{HasRisen};
+ghost use Rattle.lease.specs.Blocked.{NamesALiveLock};
 ghost use Rattle.lease.specs.Discipline.{ObeysLocks};
+ghost use Rattle.lease.specs.Exclusion.{KeepsApart};
 ghost use Rattle.lease.specs.declared.lock.Lock.{Lock};
 ghost use Rattle.jop_cli.specs.Run.{Answers, ChecksFor, ChecksOut, HasNoCause, Prints, Reports, UsesTarget, WritesLine};
 
@@ -9,9 +11,9 @@ use crate::command::{WordsErr, read_words};
 use crate::output::write_all;
 use crate::status::{Status, busy_line};
 use crate::words::Words;
-use jop_base::{ClientId, Sink};
+use jop_base::{ClientId, LockKind, Sink};
 use jop_target::{Diary, Target};
-use lease::Lock;
+use lease::{Lock, blocked, held_apart};
 use std::alloc::Global;
 
 /// Does what the words say, with these things of the outside, and writes the status's line on `err`.
@@ -34,11 +36,21 @@ pub fn run<T: Target, O: Sink, E: Sink>(
     // Whatever the target answers, the client of the words puts and deletes its own lock alone, each in its turn.
     ensures discipline { (client : List ℕ) → ChecksFor words.now.list client → ObeysLocks client diary.new.events }
 
+    // Whatever history this trail is that client's last part of, where the store is honest, each write lands before the end
+    // of its lease and all other clients keep the discipline: no other client's write falls within an upgrade, and no two
+    // upgrades overlap.
+    ensures exclusive { (client : List ℕ) → ChecksFor words.now.list client → KeepsApart client diary.new.events }
+
+    // In each honest history of that kind, the lock that a busy answer names stood in the way, live, with that stamp.
+    ensures busy { (client : List ℕ) (lock : Lock) (now : ℕ) → ChecksFor words.now.list client → result ≡ Status.Busy lock now → NamesALiveLock LockKind.Sync client diary.new.events lock now }
+
     ensures target { UsesTarget (T.store target.old) (T.faults target.old) diary.new.events (T.store target.new) (T.faults target.new) }
     ensures fault { result ≡ Status.TargetFault → HasRisen (T.faults target.old) (T.faults target.new) }
     ensures out { Prints (O.written out.old) (O.faults out.old) result (O.written out.new) (O.faults out.new) }
     ensures err { Reports (E.written err.old) (E.faults err.old) result (E.written err.new) (E.faults err.new) }
 {
+    held_apart();
+    blocked();
     let status = perform(alloc, words, target, out, diary);
     report(alloc, status, err)
 }

@@ -2,7 +2,6 @@
 use Rattle.std.proofs.Common.{◌≡◌, ◌≤◌, ◌∙◌, refl, sym, ap, subst, inl, inr, arith, ℕ, List, [], ◌∷◌, ◌++◌, true, false}
 use Rattle.std.proofs.lemmas.Slice.Eq.{bytes_eq-Decides}
 use Rattle.jop_base.specs.declared.lock_name.LockKind.{LockKind}
-use Rattle.jop_base.specs.declared.lock_name.LockKind.TheVariants.{Sync, Exclusive}
 use Rattle.jop_base.specs.declared.dir.Dir.TheVariants.{Locks}
 use Rattle.jop_base.specs.declared.path.Path.{Path}
 use Rattle.jop_base.specs.declared.path.Path.TheVariants.{Lock as LockFile}
@@ -18,19 +17,16 @@ use Rattle.jop_target.specs.Trail.{LineNow, EndsWith}
 use Rattle.lease.specs.declared.error.AskErr.{AskErr}
 use Rattle.lease.specs.declared.error.AskErr.TheVariants.{Fault, NoMemory}
 use Rattle.lease.specs.Discipline.{phase_of, keeps_lock_order}
-use Rattle.lease.specs.Locks.{own_name, is_own, same_kind, content_of}
+use Rattle.lease.specs.Locks.{own_name, is_own, content_of}
 use Rattle.lease.specs.Outcomes.{StandsIn, MayAsk, Hears, IsHeard, IsRefused, GivesUp, MayPut, is_held, is_leaving, EndsFailed}
 use Rattle.lease.specs.Phase.{Phase, Free, Looked, Asked, Held, Leaving, Over, Role, MakesLocks, ListsLocks, PutsOwn, DeletesOwn, Judgement, Holds, Blocked, Missed, role_of, putting_role, deleting_role, heard, judge, judged_phase}
+use Rattle.lease.proofs.LockFiles.{same_kind-itself}
 use Rattle.lease.proofs.Sessions.{may_ask, hears_at}
 
 -- ---- roles
 
 is_own-own : (kind : LockKind) (client : List ℕ) → is_own client (own_name kind client) ≡ true
 is_own-own kind client = (bytes_eq-Decides client client).1 refl
-
-same_kind-same : (kind : LockKind) → same_kind kind kind ≡ true
-same_kind-same Sync = refl
-same_kind-same Exclusive = refl
 
 pub role_of-put : (kind : LockKind) (client : List ℕ) (path : Path) (content : List ℕ) → path ≡ LockFile (own_name kind client) → role_of client (Put path content) ≡ PutsOwn kind
 role_of-put kind client path content is = ap (putting_role client) is ∙ rw (is_own-own kind client) refl
@@ -145,7 +141,7 @@ after_put kind client old new path content may is h =
 
 -- ---- the own lock is deleted
 
-over_leaving : (client : List ℕ) (kind own : LockKind) (reply : Reply) → heard client (Leaving kind) (DeletesOwn own) reply ≡ Over
+pub over_leaving : (client : List ℕ) (kind own : LockKind) (reply : Reply) → heard client (Leaving kind) (DeletesOwn own) reply ≡ Over
 over_leaving client kind own Failed = refl
 over_leaving client kind own (Listed l) = refl
 over_leaving client kind own (Got now bytes) = refl
@@ -154,7 +150,7 @@ over_leaving client kind own (Absent now) = refl
 over_leaving client kind own (Done now) = refl
 over_leaving client kind own (TooLarge len) = refl
 
-over_held : (client : List ℕ) (kind own : LockKind) (stamp : ℕ) (reply : Reply) → heard client (Held kind stamp) (DeletesOwn own) reply ≡ Over
+pub over_held : (client : List ℕ) (kind own : LockKind) (stamp : ℕ) (reply : Reply) → heard client (Held kind stamp) (DeletesOwn own) reply ≡ Over
 over_held client kind own stamp Failed = refl
 over_held client kind own stamp (Listed l) = refl
 over_held client kind own stamp (Got now bytes) = refl
@@ -165,7 +161,7 @@ over_held client kind own stamp (TooLarge len) = refl
 
 pub asks_leave : (kind : LockKind) (client : List ℕ) (trail : List Event) (path : Path) → StandsIn client trail (Leaving kind) → path ≡ LockFile (own_name kind client) → MayAsk client trail (Delete path)
 asks_leave kind client trail path s is =
-    may_ask client trail (Leaving kind) (Delete path) s (kind, is) (rw (role_of-delete kind client path is, same_kind-same kind) refl) refl (λ reply shape. rw (role_of-delete kind client path is, over_leaving client kind kind reply) refl)
+    may_ask client trail (Leaving kind) (Delete path) s (kind, is) (rw (role_of-delete kind client path is, same_kind-itself kind) refl) refl (λ reply shape. rw (role_of-delete kind client path is, over_leaving client kind kind reply) refl)
 
 pub after_leave : (kind : LockKind) (client : List ℕ) (old new : LineNow) (path : Path) (reply : Reply) → StandsIn client old.trail (Leaving kind) → path ≡ LockFile (own_name kind client) → Hears client (Delete path) old new reply → StandsIn client new.trail Over
 after_leave kind client old new path reply s is h =
@@ -175,7 +171,7 @@ after_leave kind client old new path reply s is h =
 
 pub asks_release : (kind : LockKind) (client : List ℕ) (stamp : ℕ) (trail : List Event) (path : Path) → StandsIn client trail (Held kind stamp) → path ≡ LockFile (own_name kind client) → MayAsk client trail (Delete path)
 asks_release kind client stamp trail path s is =
-    may_ask client trail (Held kind stamp) (Delete path) s (kind, is) (rw (role_of-delete kind client path is, same_kind-same kind) refl) (rw (role_of-delete kind client path is) refl) (λ reply shape. rw (role_of-delete kind client path is, over_held client kind kind stamp reply) refl)
+    may_ask client trail (Held kind stamp) (Delete path) s (kind, is) (rw (role_of-delete kind client path is, same_kind-itself kind) refl) (rw (role_of-delete kind client path is) refl) (λ reply shape. rw (role_of-delete kind client path is, over_held client kind kind stamp reply) refl)
 
 pub after_release : (kind : LockKind) (client : List ℕ) (stamp : ℕ) (old new : LineNow) (path : Path) (reply : Reply) → StandsIn client old.trail (Held kind stamp) → path ≡ LockFile (own_name kind client) → Hears client (Delete path) old new reply → StandsIn client new.trail Over
 after_release kind client stamp old new path reply s is h =

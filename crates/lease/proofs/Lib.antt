@@ -1,3 +1,13 @@
+pub mod Blocks
 pub mod Calls
+pub mod Example
+pub mod Invariant
+pub mod Joins
+pub mod Law
+pub mod LockFiles
+pub mod Moves
+pub mod Named
 pub mod Sessions
+pub mod Shown
 pub mod Stamps
+pub mod World

@@ -7,7 +7,7 @@ use Rattle.jop_base.specs.declared.path.Path.TheVariants.{Info, OldVersion, Item
 use Rattle.jop_target.specs.declared.reply.Entry.{Entry}
 use Rattle.jop_target.specs.declared.reply.Listing.{Listing}
 use Rattle.lease.specs.declared.lock.Lock.{Lock}
-use Rattle.lease.specs.declared.lock.TheConstants.{RENEWAL}
+use Rattle.lease.specs.Locks.{RENEWAL}
 use Rattle.lease.specs.Locks.{locks_in, with_lock, is_own_of}
 use Rattle.lease.specs.Phase.{Holds, Missed, judged, in_way_of, judge}
 

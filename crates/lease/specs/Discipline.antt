@@ -5,7 +5,7 @@ use Rattle.jop_target.specs.declared.reply.Reply.{Reply}
 use Rattle.jop_target.specs.declared.reply.Reply.TheVariants.{Listed, Got, GotBlob, Absent, Done, Failed, TooLarge}
 use Rattle.jop_target.specs.declared.event.Event.{Event}
 use Rattle.jop_target.specs.declared.event.Event.TheVariants.{Began, Sent, Called, Made, Ended}
-use Rattle.lease.specs.declared.lock.TheConstants.{RENEWAL}
+use Rattle.lease.specs.Locks.{RENEWAL}
 use Rattle.lease.specs.Phase.{Phase, Free, Looked, Held, Over, Broken, Role, PutsOwn, DeletesOwn, role_of, phase_after, phase_unheard}
 
 -- What is seen of the last session of a trail: whether it goes on; its phase; the last moment that it was told, 0 before

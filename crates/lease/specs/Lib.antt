@@ -1,4 +1,7 @@
+pub mod Blocked
 pub mod Discipline
+pub mod Exclusion
 pub mod Locks
 pub mod Outcomes
 pub mod Phase
+pub mod Stories

@@ -8,7 +8,18 @@ use Rattle.jop_base.specs.declared.path.Path.TheVariants.{Lock as LockFile}
 use Rattle.jop_target.specs.declared.reply.Entry.{Entry}
 use Rattle.jop_target.specs.declared.reply.Listing.{Listing}
 use Rattle.lease.specs.declared.lock.Lock.{Lock}
-use Rattle.lease.specs.declared.lock.TheConstants.{LIFE, CLIENT_TYPE}
+
+-- how long a lock lives from its stamp on, in milliseconds
+abbrev pub LIFE : ℕ
+LIFE = 180000
+
+-- how long a lease is used from its lock's stamp on before it is renewed, in milliseconds
+abbrev pub RENEWAL : ℕ
+RENEWAL = 60000
+
+-- the digit by which this program's locks differ from those of other programs for the same client
+abbrev pub CLIENT_TYPE : ℕ
+CLIENT_TYPE = 3
 
 -- a lock is live until its life after its stamp is over
 abbrev pub is_live : Lock → ℕ → Bool

@@ -15,7 +15,7 @@ use Rattle.jop_target.specs.declared.event.Event.{Event}
 use Rattle.jop_target.specs.declared.event.Event.TheVariants.{Sent, Called}
 use Rattle.jop_target.specs.Replies.{IsReplyTo, IsListing}
 use Rattle.jop_target.specs.Runs.{Continues}
-use Rattle.jop_target.specs.Trail.{LineNow}
+use Rattle.jop_target.specs.Trail.{LineNow, EndsWith}
 use Rattle.lease.specs.declared.error.AskErr.{AskErr}
 use Rattle.lease.specs.declared.error.AskErr.TheVariants.{Fault, NoMemory as WantsMemory}
 use Rattle.lease.specs.declared.error.LeaseErr.{LeaseErr}
@@ -127,6 +127,7 @@ GivesUp client old new WantsMemory = is_held (phase_of client new.trail) ≡ fal
 pub record HasLooked (kind : LockKind) (client : List ℕ) (trail : List Event) (look : Look) : Type 0 where
   pub listing : Listing
   pub at : listing.now ≡ look.now
+  pub ends : EndsWith trail (ListDir Locks) (Listed listing)
   pub looked : StandsIn client trail (Looked listing)
   pub blocking : blocking_in kind client listing ≡ look.blocking
 
@@ -170,6 +171,7 @@ pub record HasLeft (kind : LockKind) (client : List ℕ) (trail : List Event) (l
 pub record IsBlockedAtOnce (kind : LockKind) (client : List ℕ) (trail : List Event) (lock : Lock) (now : ℕ) : Type 0 where
   pub listing : Listing
   pub at : listing.now ≡ now
+  pub ends : EndsWith trail (ListDir Locks) (Listed listing)
   pub looked : StandsIn client trail (Looked listing)
   pub blocking : blocking_in kind client listing ≡ Some lock
 
@@ -179,6 +181,10 @@ pub record IsBlockedAfterwards (kind : LockKind) (client : List ℕ) (trail : Li
   pub at : listing.now ≡ now
   pub left : HasLeft kind client trail listing
   pub blocking : judge kind client listing ≡ Blocked lock
+
+-- a lock was in the way, at once or behind the put
+abbrev pub IsBlocked : LockKind → List ℕ → List Event → Lock → ℕ → Type 0
+IsBlocked kind client trail lock now = IsBlockedAtOnce kind client trail lock now ⊎ IsBlockedAfterwards kind client trail lock now
 
 -- the listing behind the put shows the own lock too late, or not at all
 pub record HasMissed (kind : LockKind) (client : List ℕ) (trail : List Event) (seen : Seen) : Type 0 where
@@ -197,7 +203,7 @@ pub record HasAcquired (kind : LockKind) (client : List ℕ) (trail : List Event
 -- each answer, by its cause
 abbrev pub Acquires : LockKind → List ℕ → LineNow → LineNow → Result Lease LeaseErr → Type 0
 Acquires kind client old new (Ok lease) = HasAcquired kind client new.trail lease
-Acquires kind client old new (Err (Busy lock now)) = IsBlockedAtOnce kind client new.trail lock now ⊎ IsBlockedAfterwards kind client new.trail lock now
+Acquires kind client old new (Err (Busy lock now)) = IsBlocked kind client new.trail lock now
 Acquires kind client old new (Err (Lost seen)) = HasMissed kind client new.trail seen
 Acquires kind client old new (Err TargetFault) = Fails client old new
 Acquires kind client old new (Err NoMemory) = is_held (phase_of client new.trail) ≡ false

@@ -12,8 +12,7 @@ use Rattle.jop_target.specs.declared.reply.Reply.{Reply}
 use Rattle.jop_target.specs.declared.reply.Reply.TheVariants.{Listed, Done, Failed}
 use Rattle.jop_target.specs.declared.reply.Listing.{Listing}
 use Rattle.lease.specs.declared.lock.Lock.{Lock}
-use Rattle.lease.specs.declared.lock.TheConstants.{LIFE, RENEWAL}
-use Rattle.lease.specs.Locks.{is_own, same_kind, blocking_in, own_stamp}
+use Rattle.lease.specs.Locks.{LIFE, RENEWAL, is_own, same_kind, blocking_in, own_stamp}
 
 -- ---- what a call is for a client
 

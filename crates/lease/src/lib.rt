@@ -9,6 +9,7 @@ mod acquisition;
 mod ask;
 mod content;
 mod error;
+mod laws;
 mod lease;
 mod leaving;
 mod lock;
@@ -17,6 +18,7 @@ mod sight;
 
 pub use acquisition::acquire;
 pub use error::{LeaseErr, Seen};
+pub use laws::{blocked, can_upgrade, held_apart};
 pub use lease::Lease;
 pub use leaving::release;
 pub use lock::{CLIENT_TYPE, LIFE, Lock, RENEWAL, live};

@@ -1,9 +1,16 @@
-//! Worked cases of the whole program, each a run of [`jop_cli::run`] over a target and sinks in memory.
+//! Worked cases: runs of [`jop_cli::run`] over a target and sinks in memory, leases, and histories of all clients.
 #![tactic(auto)]
 
 #[cfg(test)]
 mod checks;
 #[cfg(test)]
+mod exclusive;
+mod histories;
+#[cfg(test)]
 mod ran;
 #[cfg(test)]
 mod trail;
+
+pub use histories::{
+    a_sync_lock_blocks_an_upgrade, renews_before_the_end_alone, two_upgraders_block_each_other,
+};

@@ -1,5 +1,6 @@
 use Rattle.std.proofs.Common.{◌∙◌, sym, subst, inl, inr, ◌≡◌, ◌⊎◌}
 use Rattle.jop_cli.proofs.Causes.{rises, completes}
+use Rattle.jop_cli.proofs.Histories.{names_busy}
 use Rattle.jop_cli.specs.Run.{Answers}
 use Rattle.jop_cli.specs.declared.status.Status.{Status}
 use Rattle.jop_cli.specs.declared.status.Status.TheVariants.{Ok as WentWell, NoMemory}
@@ -15,4 +16,13 @@ pub returns-clause-fault : goal.returns-clause-fault
 returns-clause-fault g c = λ is. elim c.report.ensures.status [
   | inl same ↦ rises _ _ _ _ _ _ (subst (Answers _ _) (sym same ∙ is) c.perform-status.ensures.answers) c.perform-status.ensures.target
   | inr other ↦ cc (other.0, is)
+]
+
+pub returns-clause-exclusive : goal.returns-clause-exclusive
+returns-clause-exclusive g c = λ client means. c.held_apart.ensures.joined client _ (c.perform-status.ensures.discipline client means)
+
+pub returns-clause-busy : goal.returns-clause-busy
+returns-clause-busy g c = λ client lock now means busy. elim c.report.ensures.status [
+  | inl same ↦ names_busy _ _ client lock now c.blocked.ensures.named (subst (Answers _ _) (sym same ∙ busy) c.perform-status.ensures.answers) means
+  | inr other ↦ cc (other.0, busy)
 ]

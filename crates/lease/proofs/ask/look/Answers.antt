@@ -36,4 +36,4 @@ pub returns-clause-ok : goal.returns-clause-ok
 returns-clause-ok g c =
     let heard = after_list _ Free _ _ (after_make _ _ _ c.requires c.in_ok-ask.ensures.ok) c.in_ok-ask-2.ensures.ok in
     let listed = listed_as _ Free _ _ _ c.in-Listed.listing heard c.last.ensures c.in-Listed.is in
-    record { listing = c.in-Listed.listing; at = refl; looked = listed.stands; blocking = sym c.blocking.ensures }
+    record { listing = c.in-Listed.listing; at = refl; ends = (_, listed.ends); looked = listed.stands; blocking = sym c.blocking.ensures }

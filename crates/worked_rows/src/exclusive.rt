@@ -1,0 +1,87 @@
+use jop_base::{Bytes, Id, LockKind, LockName, Path};
+use jop_target::{Diary, MemTarget, TargetLine};
+use lease::{Lease, LeaseErr, Lock, acquire, release};
+use std::alloc::Global;
+use std::test::Fail;
+
+const ONE: &[u8; 32] = b"11111111111111111111111111111111";
+
+const TWO: &[u8; 32] = b"22222222222222222222222222222222";
+
+fn id(digits: &[u8; 32]) -> Result<Id, Fail> {
+    Ok(Id::read(digits).ok_or("an id")?)
+}
+
+fn lock_name(kind: LockKind, digits: &[u8; 32]) -> Result<LockName, Fail> {
+    Ok(LockName {
+        kind,
+        client_type: 3,
+        client: id(digits)?,
+    })
+}
+
+/// A target on which another's sync lock was put at 5000, and whose next moment is this one.
+fn behind_a_sync_lock(alloc: Global, next: u64) -> Result<MemTarget, Fail> {
+    let mut target = MemTarget::new(alloc, next, 1);
+    let path = Path::Lock(lock_name(LockKind::Sync, TWO)?);
+    target.place(path, Bytes::new(alloc), 5000)?;
+    Ok(target)
+}
+
+/// Goes for an exclusive lock in a session of its own.
+fn go_for_an_upgrade(
+    alloc: Global,
+    target: &mut MemTarget,
+) -> Result<Result<Lease, LeaseErr>, Fail> {
+    let mut diary = Diary::new(alloc);
+    diary.begin()?;
+    let mut line = TargetLine {
+        target,
+        diary: &mut diary,
+    };
+    Ok(acquire(alloc, &mut line, LockKind::Exclusive, &id(ONE)?))
+}
+
+#[test]
+fn takes_an_exclusive_lock(rt: HostRuntime) -> Result<(), Fail> {
+    let alloc = rt.alloc();
+    let mut target = MemTarget::new(alloc, 0, 1);
+    let lease = Lease {
+        client: id(ONE)?,
+        kind: LockKind::Exclusive,
+        stamp: 2,
+    };
+    assert_eq!(rt; go_for_an_upgrade(alloc, &mut target)?, Ok(lease));
+    assert_eq!(rt; target.tree().files.len(), 1);
+    Ok(())
+}
+
+#[test]
+fn finds_a_sync_lock_in_the_way_to_the_end_of_its_life(rt: HostRuntime) -> Result<(), Fail> {
+    let alloc = rt.alloc();
+    let lock = Lock {
+        name: lock_name(LockKind::Sync, TWO)?,
+        stamp: 5000,
+    };
+    let mut busy = behind_a_sync_lock(alloc, 184_998)?;
+    let busy_err = LeaseErr::Busy { lock, now: 184_999 };
+    assert_eq!(rt; go_for_an_upgrade(alloc, &mut busy)?, Err(busy_err));
+    let mut free = behind_a_sync_lock(alloc, 184_999)?;
+    assert!(rt; go_for_an_upgrade(alloc, &mut free)?.is_ok());
+    Ok(())
+}
+
+#[test]
+fn a_lease_ends_with_its_lock_and_is_due_before(rt: HostRuntime) -> Result<(), Fail> {
+    for (stamp, end, due) in [(1000, 181_000, 61_000), (180_999, 360_999, 240_999)] {
+        let lease = Lease {
+            client: id(ONE)?,
+            kind: LockKind::Sync,
+            stamp,
+        };
+        assert_eq!(rt; lease.end(), end);
+        assert!(rt; lease.due(due));
+        assert!(rt; !lease.due(due - 1));
+    }
+    Ok(())
+}

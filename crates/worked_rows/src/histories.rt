@@ -1,0 +1,35 @@
+//! Worked histories of all clients. Each is a law with nothing to do, over a list of what the clients do.
+
+ghost use Rattle.std.specs.Prelude.{◌≡◌, ◌∷◌, [], ℕ, List, None};
+ghost use Rattle.jop_base.specs.declared.lock_name.LockKind.TheVariants.{Exclusive, Sync};
+ghost use Rattle.jop_target.specs.History.{IsHonest, Writes, part_of};
+ghost use Rattle.lease.specs.Exclusion.{AllObey, phase_at};
+ghost use Rattle.lease.specs.Locks.{blocking_in};
+ghost use Rattle.lease.specs.Outcomes.{IsBlocked};
+ghost use Rattle.lease.specs.Phase.{Held, Leaving};
+ghost use Rattle.lease.specs.Stories.{one, two, shown};
+ghost use Rattle.worked_rows.specs.Histories.{behind_a_sync_lock, lock, renewed_in_time, renewed_too_late, two_upgraders};
+
+/// Two clients that go for an upgrade at once both find the other's lock in the way, and neither writes.
+pub fn two_upgraders_block_each_other()
+    ensures honest { IsHonest two_upgraders }
+    ensures obey { AllObey two_upgraders }
+    ensures first { IsBlocked Exclusive one (part_of one two_upgraders.steps) (lock Exclusive two 5) 6 }
+    ensures second { IsBlocked Exclusive two (part_of two two_upgraders.steps) (lock Exclusive one 4) 7 }
+    ensures quiet { (place : ℕ) (client : List ℕ) → Writes two_upgraders place client → ⊥ }
+{}
+
+/// A lease is kept by a put before the end of its lock, and lost by one at that moment.
+pub fn renews_before_the_end_alone()
+    ensures kept { phase_at one renewed_in_time.steps ≡ Held Sync 180999 }
+    ensures lost { phase_at one renewed_too_late.steps ≡ Leaving Sync }
+    ensures honest { IsHonest renewed_in_time × IsHonest renewed_too_late }
+    ensures obey { AllObey renewed_in_time × AllObey renewed_too_late }
+{}
+
+/// Another's sync lock keeps a client from an upgrade until its life is over.
+pub fn a_sync_lock_blocks_an_upgrade()
+    ensures honest { IsHonest (behind_a_sync_lock 184999) }
+    ensures busy { IsBlocked Exclusive one (part_of one (behind_a_sync_lock 184999).steps) (lock Sync two 5000) 184999 }
+    ensures free { blocking_in Exclusive one (record { now = 185000; entries = shown Sync two 5000 ∷ [] }) ≡ None }
+{}
