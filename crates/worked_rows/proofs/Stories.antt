@@ -10,7 +10,7 @@ use Rattle.jop_target.specs.History.{IsHonest, part_of}
 use Rattle.jop_target.specs.Replies.{IsListing}
 use Rattle.jop_target.specs.Store.{reply_of, tree_after, file_at, with_file, without_file, entries_in, with_dir}
 use Rattle.jop_target.specs.declared.event.Event.TheVariants.{Began}
-use Rattle.jop_target.specs.declared.limits.TheConstants.{MAX_TIME}
+use Rattle.jop_base.specs.declared.time.TheConstants.{MAX_TIME}
 use Rattle.jop_target.specs.declared.reply.Entry.{Entry}
 use Rattle.jop_target.specs.declared.reply.Reply.TheVariants.{Done}
 use Rattle.lease.specs.Discipline.{ObeysLocks, lawful_from, session_from}
