@@ -1,4 +1,6 @@
 pub mod Causes
 pub mod Meaning
+pub mod Printed
+pub mod Reading
 pub mod Sessions
 pub mod Written

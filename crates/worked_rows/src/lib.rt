@@ -6,4 +6,6 @@ mod checks;
 #[cfg(test)]
 mod ran;
 #[cfg(test)]
+mod tidying;
+#[cfg(test)]
 mod trail;
