@@ -2,10 +2,12 @@
 #![tactic(auto)]
 
 mod random_id;
+mod reader_source;
 mod words;
 mod writer_sink;
 
 use crate::random_id::random_id;
+use crate::reader_source::ReaderSource;
 use crate::words::read_args;
 use crate::writer_sink::WriterSink;
 use jop_base::Text;
@@ -61,10 +63,21 @@ fn on_folder(rt: &HostRuntime, words: &Words, root: Text) -> u8 {
 
 fn run_on<T: Target>(rt: &HostRuntime, words: &Words, mut target: T) -> u8 {
     let alloc = rt.alloc();
+    // A locked standard input would read a pipe byte by byte.
+    let mut input = ReaderSource::new(rt.stdin());
     let mut out = WriterSink::new(rt.stdout());
     let mut err = WriterSink::new(rt.stderr());
     let mut diary = Diary::new(alloc);
-    run(alloc, words, &mut target, &mut out, &mut err, &mut diary).exit()
+    run(
+        alloc,
+        words,
+        &mut target,
+        &mut input,
+        &mut out,
+        &mut err,
+        &mut diary,
+    )
+    .exit()
 }
 
 fn no_memory(rt: &HostRuntime) -> u8 {

@@ -1,5 +1,5 @@
 -- What an added session comes to in the histories of all clients.
-use Rattle.std.proofs.Common.{◌≡◌, ◌∙◌, refl, sym, subst, ℕ, List, [], ◌∷◌, ◌++◌, Result, Ok, Err}
+use Rattle.std.proofs.Common.{◌≡◌, ◌∙◌, refl, sym, subst, inl, inr, ℕ, List, [], ◌∷◌, ◌++◌, Result, Ok, Err}
 use Rattle.std.proofs.lemmas.List.{append_cancel_left}
 use Rattle.jop_base.specs.declared.lock_name.LockKind.{LockKind}
 use Rattle.jop_base.specs.declared.lock_name.LockKind.TheVariants.{Sync}
@@ -12,7 +12,13 @@ use Rattle.lease.specs.Outcomes.{IsBlocked}
 use Rattle.jop_cli.specs.declared.session_err.SessionErr.{SessionErr}
 use Rattle.jop_cli.specs.declared.session_err.SessionErr.TheVariants.{Busy, LeaseLost, TargetFault, NoMemory}
 use Rattle.jop_cli.specs.Check.{AddsSession, IsWhole}
-use Rattle.jop_cli.specs.Run.{ChecksFor, HasRun}
+use Rattle.jop_cli.specs.Input.{InputNow}
+use Rattle.jop_cli.specs.Run.{Answers, ChecksFor, ComesTo}
+use Rattle.jop_cli.specs.Words.{MeansVerb}
+use Rattle.jop_cli.specs.declared.command.Verb.{Verb}
+use Rattle.jop_cli.specs.declared.command.Verb.TheVariants.{Help, Check, Tidy}
+use Rattle.jop_cli.specs.declared.status.Status.{Status}
+use Rattle.jop_cli.specs.declared.status.Status.TheVariants.{Busy as IsBusy}
 
 obeys_whole : (client : List ℕ) (old new added : List Event) (result : Result (Unit {0}) SessionErr) → IsWhole client old new result → new ≡ old ++ added → ObeysLocks client added
 obeys_whole client old new added result h is = subst (ObeysLocks client) (append_cancel_left old _ added (sym h.trail ∙ is)) h.obeys
@@ -36,6 +42,13 @@ names_added client old new added lock now law h is = subst (λ (es : List Event)
 one_client : (words : List (List ℕ)) (a b : List ℕ) → ChecksFor words a → ChecksFor words b → a ≡ b
 one_client words a b h k = cc (h.1.list, k.1.list)
 
-pub names_busy : (words : List (List ℕ)) (trail : List Event) (client : List ℕ) (lock : Lock) (now : ℕ) → NamesBlocked → HasRun words trail (Err (Busy lock now)) → ChecksFor words client → NamesALiveLock Sync client trail lock now
-names_busy words trail client lock now law ran means =
-    subst (λ (c : List ℕ). NamesALiveLock Sync c trail lock now) (one_client words ran.0 client ran.1 means) (names_added ran.0 [] trail trail lock now law ran.2 refl)
+pub names_busy : (words : List (List ℕ)) (old new : InputNow) (trail : List Event) (status : Status) (client : List ℕ) (lock : Lock) (now : ℕ) → NamesBlocked → status ≡ IsBusy lock now → Answers words old trail status new → ChecksFor words client → NamesALiveLock Sync client trail lock now
+names_busy words old new trail status client lock now law busy answers means = by_verb (subst (λ (s : Status). Answers words old trail s new) busy answers)
+  where
+    by_verb : (verb : Verb) × MeansVerb words verb × ComesTo verb old trail (IsBusy lock now) new → NamesALiveLock Sync client trail lock now
+    by_verb (Help, means', is) = elim is [
+      | inl went ↦ cc
+      | inr fault ↦ cc
+    ]
+    by_verb (Check target named, check, ran) = subst (λ (c : List ℕ). NamesALiveLock Sync c trail lock now) (one_client words named client (target, check) means) (names_added named [] trail trail lock now law ran refl)
+    by_verb (Tidy, means', is) = absurd is

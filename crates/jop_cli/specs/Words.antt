@@ -3,7 +3,7 @@ use Rattle.std.specs.Prelude.{ℕ, ◌≡◌, ◌≢◌, List, [], ◌∷◌, �
 use Rattle.jop_base.specs.Id.{IsIdText}
 use Rattle.jop_cli.specs.declared.command.Command.{Command}
 use Rattle.jop_cli.specs.declared.command.Verb.{Verb}
-use Rattle.jop_cli.specs.declared.command.Verb.TheVariants.{Check}
+use Rattle.jop_cli.specs.declared.command.Verb.TheVariants.{Help, Check, Tidy}
 use Rattle.jop_cli.specs.declared.command.TargetName.{TargetName}
 use Rattle.jop_cli.specs.declared.command.TargetKind.{TargetKind}
 use Rattle.jop_cli.specs.declared.command.TargetKind.TheVariants.{Mem, Dir}
@@ -30,12 +30,18 @@ pub record MeansCheck (words : List (List ℕ)) (target : TargetName) (client : 
   pub named : Names word target
   pub id : IsIdText client
 
-abbrev pub MeansVerb : List (List ℕ) → Verb → Type 0
-MeansVerb words (Check target client) = MeansCheck words target client
+-- the word `help` alone
+abbrev pub MeansHelp : List (List ℕ) → Type 0
+MeansHelp words = words ≡ codes "help" ∷ []
 
--- the words name this client
-abbrev pub MeansFor : Verb → List ℕ → Type 0
-MeansFor (Check target client) named = named ≡ client
+-- the word `tidy` alone
+abbrev pub MeansTidy : List (List ℕ) → Type 0
+MeansTidy words = words ≡ codes "tidy" ∷ []
+
+abbrev pub MeansVerb : List (List ℕ) → Verb → Type 0
+MeansVerb words Help = MeansHelp words
+MeansVerb words (Check target client) = MeansCheck words target client
+MeansVerb words Tidy = MeansTidy words
 
 -- the words mean this command
 abbrev pub Means : List (List ℕ) → Command → Type 0
@@ -54,7 +60,7 @@ abbrev pub IsTarget : List ℕ → Option TargetName → Type 0
 IsTarget word (Some target) = Names word target
 IsTarget word None = (target : TargetName) → ¬ Names word target
 
--- the target of the words, if they mean a command that has one
+-- the target of the words, exactly where they mean a command that has one
 abbrev pub HasTarget : List (List ℕ) → Option TargetName → Type 0
 HasTarget words (Some target) = (client : List ℕ) × MeansCheck words target client
-HasTarget words None = IsMeaningless words
+HasTarget words None = (target : TargetName) (client : List ℕ) → ¬ MeansCheck words target client

@@ -1,5 +1,5 @@
-ghost use Rattle.std.specs.Prelude.{IfErr, IfOk};
-ghost use Rattle.jop_cli.specs.Words.{Means, MeansVerb, IsRead, MeansFor, IsTarget, HasTarget, check_words};
+ghost use Rattle.std.specs.Prelude.{◌∷◌, [], ℕ, List, IfErr, IfOk};
+ghost use Rattle.jop_cli.specs.Words.{Means, MeansVerb, IsRead, IsTarget, HasTarget, check_words};
 
 use crate::words::Words;
 use jop_base::{ClientId, Copied, Id, Text};
@@ -13,22 +13,15 @@ pub struct Command {
 
 #[derive(Debug, Drop)]
 pub enum Verb {
+    /// Prints how the program is called.
+    Help,
     /// Takes a sync lock on the target for the client, and releases it.
     Check {
         target: TargetName,
         client: ClientId,
     },
-}
-
-impl Verb {
-    /// The client that the words name.
-    pub(crate) fn client(&self) -> ClientId
-        ensures { MeansFor self.now result }
-    {
-        match self {
-            Verb::Check { target: _, client } => *client,
-        }
-    }
+    /// Reads the text of an item from the input and prints its canonical text.
+    Tidy,
 }
 
 /// A target as the word names it.
@@ -64,17 +57,33 @@ impl From<AllocError> for WordsErr {
     }
 }
 
-/// What the words mean. `Usage` exactly where they mean nothing: accepted are `check TARGET CLIENT` alone, where TARGET is
-/// `mem:` or `dir:PATH` with a path that isn't empty, and CLIENT is an id.
+/// What the words mean. `Usage` exactly where they mean nothing: accepted are `help` alone, `tidy` alone, and
+/// `check TARGET CLIENT`, where TARGET is `mem:` or `dir:PATH` with a path that isn't empty, and CLIENT is an id.
 pub fn read_words(alloc: Global, words: &Words) -> Result<Command, WordsErr>
     ensures ok { IfOk result (Means words.now.list) }
     ensures err { IfErr result (IsRead words.now.list) }
 {
     match words.list.as_slice() {
+        [word] => {
+            let verb = read_word(word)?;
+            Ok(Command { verb })
+        }
         [verb, target, client] if verb.as_str() == "check" => {
             let verb = read_check(alloc, target, client)?;
             Ok(Command { verb })
         }
+        _ => Err(WordsErr::Usage),
+    }
+}
+
+/// What one word means.
+fn read_word(word: &Text) -> Result<Verb, WordsErr>
+    ensures ok { IfOk result (MeansVerb (word.now ∷ [])) }
+    ensures err { IfErr result (IsRead (word.now ∷ [])) }
+{
+    match word.as_str() {
+        "help" => Ok(Verb::Help),
+        "tidy" => Ok(Verb::Tidy),
         _ => Err(WordsErr::Usage),
     }
 }
@@ -113,11 +122,18 @@ pub fn target_words(alloc: Global, words: &Words) -> Result<Option<TargetName>, 
     ensures { IfOk result (λ target. HasTarget words.now.list target) }
 {
     match read_words(alloc, words) {
-        Ok(command) => {
-            let Verb::Check { target, client: _ } = command.verb;
-            Ok(Some(target))
-        }
+        Ok(command) => Ok(target_of(command.verb)),
         Err(WordsErr::Usage) => Ok(None),
         Err(WordsErr::NoMemory) => Err(AllocError),
+    }
+}
+
+/// The target of a command that has one.
+fn target_of(verb: Verb) -> Option<TargetName>
+    ensures { (words : List (List ℕ)) → MeansVerb words verb → HasTarget words result }
+{
+    match verb {
+        Verb::Check { target, client: _ } => Some(target),
+        Verb::Help | Verb::Tidy => None,
     }
 }

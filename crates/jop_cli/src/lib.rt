@@ -4,14 +4,19 @@
 
 mod check;
 mod command;
+mod input;
+mod line;
 mod output;
 mod program;
+mod report;
 mod session_err;
 mod status;
+mod tidy;
 mod words;
 
 pub use check::check_on;
 pub use command::{Command, TargetKind, TargetName, Verb, WordsErr, read_words, target_words};
+pub use input::INPUT_LIMIT;
 pub use program::run;
 pub use session_err::SessionErr;
 pub use status::Status;

@@ -1,6 +1,8 @@
-ghost use Rattle.std.specs.Prelude.{◌≤◌};
+ghost use Rattle.std.specs.Prelude.{◌≡◌, ◌≤◌, ◌⊎◌, List, ℕ};
 ghost use Rattle.jop_cli.specs.Output.{WritesText};
+ghost use Rattle.jop_cli.specs.Run.{Prints};
 
+use crate::status::Status;
 use jop_base::{Failed, Sink};
 
 /// Writes all of the text. After `Failed` a front of it was written.
@@ -15,4 +17,15 @@ pub(crate) fn write_all<S: Sink>(sink: &mut S, text: &[u8]) -> Result<(), Failed
         rest = left;
     }
     Ok(())
+}
+
+/// Writes the text that a command prints.
+pub(crate) fn print<O: Sink>(out: &mut O, text: &[u8]) -> Status
+    ensures status { (result ≡ Status.Ok) ⊎ (result ≡ Status.SinkFault) }
+    ensures out { Prints (λ printed. printed ≡ text.now) (O.written out.old) (O.faults out.old) result (O.written out.new) (O.faults out.new) }
+{
+    match write_all(out, text) {
+        Ok(()) => Status::Ok,
+        Err(_) => Status::SinkFault,
+    }
 }

@@ -1,10 +1,13 @@
-ghost use Rattle.std.specs.Prelude.{◌≡◌, IfOk};
-ghost use Rattle.jop_cli.specs.Output.{fixed_line_of, busy_line, exit_of};
+ghost use Rattle.std.specs.Prelude.{◌≡◌};
+ghost use Rattle.jop_cli.specs.Output.{exit_of, fixed_line_of};
 
+use crate::input::InputErr;
 use crate::session_err::SessionErr;
-use jop_base::Text;
+use item_text::{BadItem, ItemErr};
 use lease::{Lock, Seen};
-use std::alloc::{AllocError, Global};
+
+/// How the program is called.
+pub(crate) const USAGE_LINE: &str = "usage: jop [--profile PATH] COMMAND\n";
 
 /// How a run of the program ended.
 #[derive(Clone, Copy, Debug, PartialEq, Eq)]
@@ -18,8 +21,14 @@ pub enum Status {
     LeaseLost(Seen),
     /// A call of the target failed.
     TargetFault,
+    /// A read of standard input failed.
+    SourceFault,
     /// A write to standard output failed.
     SinkFault,
+    /// The input is longer than its limit. So many bytes were read, one more than the limit.
+    TooLarge(u64),
+    /// The input is no text of an item. This is the first reason.
+    BadItem(BadItem),
     NoMemory,
 }
 
@@ -34,36 +43,29 @@ impl Status {
             Status::Busy { lock: _, now: _ } => 3,
             Status::LeaseLost(_) => 4,
             Status::TargetFault => 9,
+            Status::SourceFault => 11,
             Status::SinkFault => 12,
+            Status::TooLarge(_) => 18,
+            Status::BadItem(_) => 21,
             Status::NoMemory => 22,
         }
     }
 
     /// The line for standard error, with its line feed, where it is always the same; nothing where all went well, and
-    /// for `Busy`, whose line names the lock.
+    /// where the line is made for the one status.
     pub(crate) fn fixed_line(&self) -> &'static str
         ensures { result.now ≡ fixed_line_of self.now }
     {
         match self {
-            Status::Ok | Status::Busy { lock: _, now: _ } => "",
-            Status::Usage => "usage: jop [--profile PATH] COMMAND\n",
+            Status::Usage => USAGE_LINE,
             Status::LeaseLost(_) => "lease lost\n",
             Status::TargetFault => "target fault\n",
+            Status::SourceFault => "input fault\n",
             Status::SinkFault => "output fault\n",
             Status::NoMemory => "no memory\n",
+            _ => "",
         }
     }
-}
-
-/// `busy NAME STAMP`, with its line feed.
-pub(crate) fn busy_line(alloc: Global, lock: &Lock) -> Result<Text, AllocError>
-    ensures { IfOk result (λ line. line ≡ busy_line lock.now) }
-{
-    let stamp = lock.stamp;
-    let mut line = Text::of(alloc, "busy ")?;
-    line.append(lock.name.file_name(alloc)?.as_str())?;
-    line.append(format!(in alloc; " {stamp}\n")?.as_str())?;
-    Ok(line)
 }
 
 impl From<SessionErr> for Status {
@@ -78,6 +80,35 @@ impl From<SessionErr> for Status {
             SessionErr::LeaseLost(seen) => Status::LeaseLost(seen),
             SessionErr::TargetFault => Status::TargetFault,
             SessionErr::NoMemory => Status::NoMemory,
+        }
+    }
+}
+
+impl From<InputErr> for Status {
+    ghost use Rattle.std.specs.Prelude.{◌≡◌};
+    ghost use Rattle.jop_cli.specs.Output.{input_status};
+
+    ghost from_gives = { λ i e. e ≡ input_status i };
+
+    fn from(error: InputErr) -> Status {
+        match error {
+            InputErr::Fault => Status::SourceFault,
+            InputErr::TooLarge(len) => Status::TooLarge(len),
+            InputErr::NoMemory => Status::NoMemory,
+        }
+    }
+}
+
+impl From<ItemErr> for Status {
+    ghost use Rattle.std.specs.Prelude.{◌≡◌};
+    ghost use Rattle.jop_cli.specs.Output.{item_status};
+
+    ghost from_gives = { λ i e. e ≡ item_status i };
+
+    fn from(error: ItemErr) -> Status {
+        match error {
+            ItemErr::Bad(bad) => Status::BadItem(bad),
+            ItemErr::NoMemory => Status::NoMemory,
         }
     }
 }

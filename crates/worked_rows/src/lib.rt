@@ -9,6 +9,8 @@ mod histories;
 #[cfg(test)]
 mod ran;
 #[cfg(test)]
+mod tidying;
+#[cfg(test)]
 mod trail;
 
 pub use histories::{

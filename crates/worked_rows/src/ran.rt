@@ -1,5 +1,5 @@
 use crate::trail::trail_text;
-use jop_base::{MemSink, Seq, Text};
+use jop_base::{Bytes, MemSink, MemSource, Seq, Text};
 use jop_cli::{Status, Words, run};
 use jop_target::{Diary, MemTarget};
 use std::alloc::{AllocError, Global};
@@ -20,16 +20,28 @@ pub(crate) fn words_of(alloc: Global, list: &[&str]) -> Result<Words, AllocError
     Ok(Words { list: words })
 }
 
-/// Runs the program once, with an empty diary.
+/// Runs the program once, with an empty input and an empty diary.
 pub(crate) fn run_once(
     alloc: Global,
     words: &Words,
     target: &mut MemTarget,
     out: &mut MemSink,
 ) -> Result<Ran, AllocError> {
+    let mut input = MemSource::new(alloc, Bytes::new(alloc));
+    run_over(alloc, words, target, &mut input, out)
+}
+
+/// Runs the program once over this input, with an empty diary.
+pub(crate) fn run_over(
+    alloc: Global,
+    words: &Words,
+    target: &mut MemTarget,
+    input: &mut MemSource,
+    out: &mut MemSink,
+) -> Result<Ran, AllocError> {
     let mut err = MemSink::new(alloc);
     let mut diary = Diary::new(alloc);
-    let status = run(alloc, words, target, out, &mut err, &mut diary);
+    let status = run(alloc, words, target, input, out, &mut err, &mut diary);
     let trail = trail_text(alloc, diary.events())?;
     Ok(Ran { status, err, trail })
 }

@@ -15,5 +15,5 @@ pub returns-in_err-verb-in-len3-clause-err : goal.returns-in_err-verb-in-len3-cl
 returns-in_err-verb-in-len3-clause-err c =
     let is_check : bytes_eq c.verb-item.result (codes "check") ≡ true = ap (λ (t : List ℕ). bytes_eq t (codes "check")) (sym c.as_str.ensures) ∙ (sym c.eq.ensures ∙ c.if-eq.true) in
     let list = are_check_words _ _ _ _ c.in-len3.len_at_least c.in-len3.len_below c.verb-item.is c.target-item.is c.client-item.is is_check in
-    let p = err_from_is_err_and c.from_residual.result c.from_residual.ensures.1 in
+    let p = err_from_is_err_and c.from_residual-in_err-verb-in-len3.result c.from_residual-in_err-verb-in-len3.ensures.1 in
     rw (p.1, p.2) (subst (λ (words : List (List ℕ)). IsRead words c.in_err-verb-in-len3.field-0.0) (sym list ∙ c.as_slice.ensures) c.in_err-verb-in-len3.ensures.err)

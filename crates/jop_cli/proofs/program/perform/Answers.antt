@@ -1,3 +1,4 @@
+use Rattle.jop_cli.proofs.Causes.{idle_of}
 use Rattle.jop_cli.proofs.Sessions.{obeys_empty, uses_none}
 use Rattle.jop_cli.proofs.program.perform.Goals as goal
 
@@ -12,3 +13,6 @@ returns-in-Err-NoMemory-clause-discipline g c = λ client _. obeys_empty client 
 
 pub returns-in-Err-NoMemory-clause-target : goal.returns-in-Err-NoMemory-clause-target
 returns-in-Err-NoMemory-clause-target g c = uses_none _ _ _ c.requires
+
+pub returns-in-Ok-clause-idle : goal.returns-in-Ok-clause-idle
+returns-in-Ok-clause-idle g c = idle_of _ _ _ _ _ _ _ c.in-Ok.ensures.ok c.carry_out.ensures.idle

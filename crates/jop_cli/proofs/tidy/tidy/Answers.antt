@@ -1,0 +1,5 @@
+use Rattle.jop_cli.proofs.Printed.{prints_as}
+use Rattle.jop_cli.proofs.tidy.tidy.Goals as goal
+
+pub returns-in-Ok-clause-out : goal.returns-in-Ok-clause-out
+returns-in-Ok-clause-out g c = prints_as _ _ _ _ _ _ _ (λ text canonical. record { bytes = c.in-Ok.bytes; read = c.in-Ok.ensures.read; canonical = canonical }) c.tidy_bytes.ensures.out

@@ -1,0 +1,56 @@
+ghost use Rattle.std.specs.Prelude.{◌≡◌, ◌⊎◌, IfOk};
+ghost use Rattle.item_text.specs.Answers.{Answers};
+ghost use Rattle.item_text.specs.Grammar.{written};
+ghost use Rattle.item_text.specs.Valid.{IsItem};
+ghost use Rattle.jop_cli.specs.Input.{IsReadOf};
+ghost use Rattle.jop_cli.specs.Run.{Prints};
+ghost use Rattle.jop_cli.specs.Tidy.{IsCanonical, IsTidied, TidiesBytes, TidiesOut};
+
+use crate::input::read_all;
+use crate::output::print;
+use crate::status::Status;
+use item_text::{Item, ItemErr, read_item, write_item};
+use jop_base::{Bytes, Sink, Source};
+use std::alloc::Global;
+
+/// Reads the text of an item from the input and prints its canonical text, with nothing added. `SourceFault` and
+/// `TooLarge` come before `BadItem`, and `SinkFault` last.
+pub(crate) fn tidy<I: Source, O: Sink>(alloc: Global, input: &mut I, out: &mut O) -> Status
+    ensures answers { TidiesOut (record { left = I.left input.old; faults = I.faults input.old }) result (record { left = I.left input.new; faults = I.faults input.new }) }
+    ensures input { IsReadOf (record { left = I.left input.old; faults = I.faults input.old }) (record { left = I.left input.new; faults = I.faults input.new }) }
+    ensures out { Prints (IsTidied (record { left = I.left input.old; faults = I.faults input.old }) (record { left = I.left input.new; faults = I.faults input.new })) (O.written out.old) (O.faults out.old) result (O.written out.new) (O.faults out.new) }
+{
+    match read_all(alloc, input) {
+        Ok(bytes) => tidy_bytes(alloc, bytes, out),
+        Err(error) => Status::from(error),
+    }
+}
+
+fn tidy_bytes<O: Sink>(alloc: Global, bytes: Bytes, out: &mut O) -> Status
+    ensures answers { TidiesBytes bytes result }
+    ensures out { Prints (IsCanonical bytes) (O.written out.old) (O.faults out.old) result (O.written out.new) (O.faults out.new) }
+{
+    match item_of(alloc, bytes) {
+        Ok(item) => print_item(alloc, &item, out),
+        Err(error) => Status::from(error),
+    }
+}
+
+/// The item of these bytes, which are let go.
+fn item_of(alloc: Global, bytes: Bytes) -> Result<Item, ItemErr>
+    ensures answers { Answers bytes result }
+    ensures valid { IfOk result IsItem }
+{
+    read_item(alloc, bytes.as_slice())
+}
+
+fn print_item<O: Sink>(alloc: Global, item: &Item, out: &mut O) -> Status
+    requires { IsItem item.now }
+    ensures answers { (result ≡ Status.Ok) ⊎ (result ≡ Status.SinkFault) ⊎ (result ≡ Status.NoMemory) }
+    ensures out { Prints (λ text. text ≡ written item.now) (O.written out.old) (O.faults out.old) result (O.written out.new) (O.faults out.new) }
+{
+    match write_item(alloc, item) {
+        Ok(text) => print(out, text.as_slice()),
+        Err(_) => Status::NoMemory,
+    }
+}
