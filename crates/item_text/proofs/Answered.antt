@@ -1,5 +1,5 @@
 -- What the parts of the reader say together.
-use Rattle.std.proofs.Common.{◌≡◌, ℕ, ◌+◌, ◌-◌, ◌≤◌, List, ◌∷◌, length, map, drop, Option, Some, None, Ok, Err, sym, ap, ◌∙◌, arith, inl, inr}
+use Rattle.std.proofs.Common.{◌≡◌, ℕ, ◌+◌, ◌-◌, ◌≤◌, List, ◌∷◌, length, map, drop, [], Bool, true, false, cond, Option, Some, None, Ok, Err, refl, sym, ap, ◌∙◌, arith, inl, inr}
 use Rattle.std.specs.Str.{IsUtf8, is_utf8}
 use Rattle.std.proofs.lemmas.Str.{is_utf8-from_IsUtf8, IsUtf8-from_is_utf8}
 use Rattle.std.proofs.lemmas.Bool.{cond-true, cond-false, false_from_ne_true}
@@ -7,10 +7,12 @@ use Rattle.std.proofs.lemmas.List.{length-append, length-map}
 use Rattle.item_text.specs.declared.item.Item.{Item}
 use Rattle.item_text.specs.declared.item.Prop.{Prop}
 use Rattle.item_text.specs.declared.bad_item.BadItem.{BadItem}
-use Rattle.item_text.specs.declared.bad_item.BadWhy.TheVariants.{NotText}
+use Rattle.item_text.specs.declared.bad_item.BadWhy.TheVariants.{NotText, TypeValue}
 use Rattle.item_text.specs.declared.bad_item.ItemErr.{ItemErr}
 use Rattle.item_text.specs.declared.bad_item.ItemErr.TheVariants as errors
 use Rattle.item_text.specs.Lines.{lines, joined}
+use Rattle.item_text.specs.Props.{has_key, type_key}
+use Rattle.item_text.specs.Valid.{is_type_value}
 use Rattle.item_text.specs.Grammar.{AreParts, pair_of, title_of, item_of, Reads, block, or_else, type_fault, block_fault, lines_fault, first_fault}
 use Rattle.item_text.specs.Answers.{Answers}
 use Rattle.item_text.specs.Steps.{IsBlock, IsRefusal}
@@ -59,10 +61,19 @@ answered_ok bytes above item utf8 b head good =
     ((utf8, (above, b.0, b.1, λ i. record { title = head.0 i; body = head.1 i; props = b.3 i })), fault_text bytes utf8 ∙ good)
 
 -- the same by what the parts of the reader answer
-pub refusal_is : (all above : List (List ℕ)) (props slice : List Prop) (count len : ℕ) (r : Option BadItem) → IsBlock all above props → count ≡ length all → len ≡ length props → slice ≡ props → r ≡ type_fault (count - len + 1) slice → lines_fault all ≡ r
-refusal_is all above props slice count len r b count-is len-is slice-is r-is =
+pub refusal_is : (all above : List (List ℕ)) (props slice : List Prop) (r : Option BadItem) → IsBlock all above props → slice ≡ props → r ≡ type_fault (length all - length slice + 1) slice → lines_fault all ≡ r
+refusal_is all above props slice r b slice-is r-is =
     fault_block all above props b
-    ∙ ap (λ (n : ℕ). type_fault (n - length props + 1) props) (sym count-is)
-    ∙ ap (λ (n : ℕ). type_fault (count - n + 1) props) (sym len-is)
-    ∙ ap (λ (ps : List Prop). type_fault (count - len + 1) ps) (sym slice-is)
+    ∙ ap (λ (ps : List Prop). type_fault (length all - length ps + 1) ps) (sym slice-is)
     ∙ sym r-is
+
+-- where nothing is wrong with the type, nothing is wrong with it in whichever line the pairs begin
+pub faultless_anywhere : (n m : ℕ) (props : List Prop) → type_fault n props ≡ None → type_fault m props ≡ None
+unfolding type_fault
+faultless_anywhere n m [] h = cc
+faultless_anywhere n m (p ∷ ps) h = go (has_key type_key p) (is_type_value p.value) h (faultless_anywhere (n + 1) (m + 1) ps)
+  where
+    go : (t v : Bool) → cond t (cond v None (Some (record { line = n; why = TypeValue }))) (type_fault (n + 1) ps) ≡ None → (type_fault (n + 1) ps ≡ None → type_fault (m + 1) ps ≡ None) → cond t (cond v None (Some (record { line = m; why = TypeValue }))) (type_fault (m + 1) ps) ≡ None
+    go true true h rest = refl
+    go true false h rest = cc
+    go false v h rest = rest h

@@ -1,14 +1,14 @@
-ghost use Rattle.std.specs.Prelude.{◌≡◌, None, drop, IfOk};
+ghost use Rattle.std.specs.Prelude.{◌≡◌, ◌≤◌, ◌+◌, ◌-◌, None, drop, length, IfOk};
 ghost use Rattle.item_text.specs.declared.item.Item.{Item};
 ghost use Rattle.item_text.specs.Lines.{lines, joined};
 ghost use Rattle.item_text.specs.Valid.{IsItem};
-ghost use Rattle.item_text.specs.Grammar.{title_of, Reads, first_fault};
+ghost use Rattle.item_text.specs.Grammar.{title_of, Reads, first_fault, type_fault};
 ghost use Rattle.item_text.specs.Answers.{Answers, IsOrMemory};
 ghost use Rattle.item_text.specs.Steps.{lines_of};
 
 use crate::bad_item::{BadItem, BadWhy, ItemErr};
 use crate::block::read_block;
-use crate::item::Item;
+use crate::item::{Item, Prop};
 use crate::line::{first_line, line_count};
 use crate::type_value::type_fault;
 use jop_base::Text;
@@ -41,13 +41,24 @@ fn read_head(alloc: Global, above: Option<&str>) -> Result<(Option<Text>, Text),
     }
 }
 
+/// What is wrong with the topmost `type_` of the pairs that stand last in this text. The lines are counted only where
+/// something is.
+fn type_refusal(text: &str, props: &[Prop]) -> Option<BadItem>
+    requires { length props.now ≤ length (lines text.now) }
+    ensures { result ≡ type_fault (length (lines text.now) - length props.now + 1) props.now }
+{
+    match type_fault(props, 0) {
+        None => None,
+        Some(_) => type_fault(props, line_count(text) - props.len() as u64),
+    }
+}
+
 #[tactic(auto, unfolding(crate::specs::Answers::Answers))]
 fn read_text(alloc: Global, text: &str) -> Result<Item, ItemErr>
     ensures { Answers text.now result }
 {
     let (above, props) = read_block(alloc, text)?;
-    let lines_above = line_count(text) - props.len() as u64;
-    if let Some(bad) = type_fault(props.as_slice(), lines_above) {
+    if let Some(bad) = type_refusal(text, props.as_slice()) {
         return Err(ItemErr::Bad(bad));
     }
     let (title, body) = read_head(alloc, above)?;

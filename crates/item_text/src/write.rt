@@ -8,6 +8,9 @@ use crate::item::{Item, Prop};
 use jop_base::{Bytes, Text};
 use std::alloc::{AllocError, Global};
 
+/// How many bytes are made room for beside the body: title and pairs of a usual item have fewer.
+const ROOM: usize = 4096;
+
 fn put_title(out: &mut Text, title: &Option<Text>) -> Result<(), AllocError>
     ensures { OnOk result (out.new ≡ out.old ++ title_text title.now) }
 {
@@ -64,7 +67,7 @@ fn put_props(out: &mut Text, props: &[Prop]) -> Result<(), AllocError>
 fn text_of(alloc: Global, item: &Item) -> Result<Text, AllocError>
     ensures { IfOk result (λ text. text ≡ written item.now) }
 {
-    let mut out = Text::new(alloc);
+    let mut out = Text::with_capacity(alloc, item.body.len().saturating_add(ROOM))?;
     put_title(&mut out, &item.title)?;
     put_body(&mut out, &item.body)?;
     put_props(&mut out, item.props.as_slice())?;

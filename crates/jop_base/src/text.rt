@@ -30,6 +30,15 @@ impl Text {
         }
     }
 
+    /// No letters yet, and room for so many bytes.
+    pub fn with_capacity(alloc: Global, bytes: usize) -> Result<Text, AllocError>
+        ensures { IfOk result (λ text. text ≡ []) }
+    {
+        Ok(Text {
+            letters: String::with_capacity(alloc, bytes)?,
+        })
+    }
+
     /// The text with the same letters.
     pub fn of(alloc: Global, letters: &str) -> Result<Text, AllocError>
         ensures { IfOk result (λ text. text ≡ letters.now) }
