@@ -1,5 +1,4 @@
-ghost use Rattle.std.specs.Prelude.{◌≡◌, ◌⊎◌, IfOk};
-ghost use Rattle.item_text.specs.Answers.{Answers};
+ghost use Rattle.std.specs.Prelude.{◌≡◌, ◌⊎◌};
 ghost use Rattle.item_text.specs.Grammar.{written};
 ghost use Rattle.item_text.specs.Valid.{IsItem};
 ghost use Rattle.jop_cli.specs.Input.{IsReadOf};
@@ -9,8 +8,8 @@ ghost use Rattle.jop_cli.specs.Tidy.{IsCanonical, IsTidied, TidiesBytes, TidiesO
 use crate::input::read_all;
 use crate::output::print;
 use crate::status::Status;
-use item_text::{Item, ItemErr, read_item, write_item};
-use jop_base::{Bytes, Sink, Source};
+use item_text::{Item, read_item, write_item};
+use jop_base::{Sink, Source};
 use std::alloc::Global;
 
 /// Reads the text of an item from the input and prints its canonical text, with nothing added. `SourceFault` and
@@ -21,27 +20,19 @@ pub(crate) fn tidy<I: Source, O: Sink>(alloc: Global, input: &mut I, out: &mut O
     ensures out { Prints (IsTidied (record { left = I.left input.old; faults = I.faults input.old }) (record { left = I.left input.new; faults = I.faults input.new })) (O.written out.old) (O.faults out.old) result (O.written out.new) (O.faults out.new) }
 {
     match read_all(alloc, input) {
-        Ok(bytes) => tidy_bytes(alloc, bytes, out),
+        Ok(bytes) => tidy_bytes(alloc, bytes.as_slice(), out),
         Err(error) => Status::from(error),
     }
 }
 
-fn tidy_bytes<O: Sink>(alloc: Global, bytes: Bytes, out: &mut O) -> Status
-    ensures answers { TidiesBytes bytes result }
-    ensures out { Prints (IsCanonical bytes) (O.written out.old) (O.faults out.old) result (O.written out.new) (O.faults out.new) }
+fn tidy_bytes<O: Sink>(alloc: Global, bytes: &[u8], out: &mut O) -> Status
+    ensures answers { TidiesBytes bytes.now result }
+    ensures out { Prints (IsCanonical bytes.now) (O.written out.old) (O.faults out.old) result (O.written out.new) (O.faults out.new) }
 {
-    match item_of(alloc, bytes) {
+    match read_item(alloc, bytes) {
         Ok(item) => print_item(alloc, &item, out),
         Err(error) => Status::from(error),
     }
-}
-
-/// The item of these bytes, which are let go.
-fn item_of(alloc: Global, bytes: Bytes) -> Result<Item, ItemErr>
-    ensures answers { Answers bytes result }
-    ensures valid { IfOk result IsItem }
-{
-    read_item(alloc, bytes.as_slice())
 }
 
 fn print_item<O: Sink>(alloc: Global, item: &Item, out: &mut O) -> Status
