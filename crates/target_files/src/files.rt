@@ -19,7 +19,7 @@ pub(crate) enum Reading {
 }
 
 /// Reads a file. None where there is none. It reads as many bytes as the file was long at first, and none of a file
-/// that is longer than the limit.
+/// that is longer than the limit. It looks first, since opening a pipe may never end.
 pub(crate) fn read<R: Files>(
     rt: &R,
     alloc: Global,
@@ -28,6 +28,9 @@ pub(crate) fn read<R: Files>(
 ) -> Result<Option<Reading>, Trouble>
     ensures { IfOk result (λ reading. IfSome reading (IsWithin limit)) }
 {
+    if is_special(rt, name)? {
+        return Ok(None);
+    }
     let Some(mut file) = found(fs::open(rt, name))? else {
         return Ok(None);
     };
@@ -43,14 +46,26 @@ pub(crate) fn read<R: Files>(
     Ok(Some(Reading::Whole(bytes)))
 }
 
-/// Writes a file in place, flushes it, and answers when it was written.
+/// Writes a file in place, flushes it, and answers when it was written. It looks first, since opening a pipe may never
+/// end.
 pub(crate) fn write<R: Files>(rt: &R, name: &str, content: &[u8]) -> Result<u64, Trouble>
     ensures { IfOk result (λ stamp. stamp ≤ MAX_TIME) }
 {
+    if is_special(rt, name)? {
+        return Err(Trouble::Fault);
+    }
     let mut file = fs::create(rt, name)?;
     file.write_all(content)?;
     file.sync_all()?;
     Ok(stamp_of(&file.metadata()?))
+}
+
+/// Whether something bears the name that is no file: a folder, a pipe, a device.
+fn is_special<R: Files>(rt: &R, name: &str) -> Result<bool, Trouble> {
+    match found(fs::metadata(rt, name))? {
+        Some(metadata) => Ok(!metadata.is_file()),
+        None => Ok(false),
+    }
 }
 
 /// Makes a folder, unless it is there.

@@ -28,15 +28,16 @@ use std::rt::Files;
 /// of a put is the time of its own file: that of its writing, a little before a rename makes it appear.
 ///
 /// **What isn't there.** A missing file is `Absent`, a missing folder has no files, and `MakeDir` of a folder that is
-/// there is `Done`. A directory is no file, whatever its name. A listing leaves out names that no path has, and files
-/// that are gone before their time is read.
+/// there is `Done`. A directory, a pipe or a device is no file, whatever its name, and a get or put that sees one
+/// doesn't open it. A listing leaves out names that no path has, and files that are gone before their time is read.
 ///
 /// **Limits.** A file that is longer than its limit is `TooLarge` by its length, and isn't read. If a file grows while
 /// it is read, only what it was long at first is.
 ///
 /// **Faults.** Every other error of the system raises the count and is `Failed`: a root that isn't there or is a file,
-/// a full disk, a file that is cut short while it is read. So does a listing of a folder that holds a name that isn't
-/// UTF-8, or in which the system names a file twice. Nothing else is `Failed`. Want of memory is no fault.
+/// a full disk, a file that is cut short while it is read, a lock that is put where something stands that is no file.
+/// So does a listing of a folder that holds a name that isn't UTF-8, or in which the system names a file twice. Nothing
+/// else is `Failed`. Want of memory is no fault.
 #[derive(Drop)]
 pub struct FolderTarget<R> {
     folder: Folder<R>,

@@ -6,6 +6,7 @@ use jop_base::{Bytes, Dir, Id, LockKind, LockName, Path, Text};
 use jop_target::{Call, MemTarget, Reply, Target};
 use std::alloc::{AllocError, Global};
 use std::fs::File;
+use std::os::unix::fs::symlink;
 use std::path::PathBuf;
 use std::test::Fail;
 use std::{env, fs, io, process};
@@ -231,6 +232,29 @@ fn a_directory_is_no_file(rt: HostRuntime) -> Result<(), Fail> {
     let said = ask_all(alloc, &mut target, &calls)?;
     assert_eq!(rt; said.as_str(), "listed\nabsent\nabsent\n");
     assert_eq!(rt; target.faults, 0);
+    fs::remove_dir_all(&rt, &folder)?;
+    Ok(())
+}
+
+#[test]
+fn a_device_is_no_file(rt: HostRuntime) -> Result<(), Fail> {
+    let alloc = rt.alloc();
+    let folder = empty_folder(&rt)?;
+    let mut target = target_over(&rt, &folder)?;
+    let (note, lock) = (note()?, lock()?);
+    fs::create_dir(&rt, &folder.join(alloc, "locks")?)?;
+    let lock_name = folder.join(alloc, lock.text(alloc)?.as_str())?;
+    symlink(&rt, "/dev/null", &note_in(alloc, &folder)?)?;
+    symlink(&rt, "/dev/null", &lock_name)?;
+    let calls = [
+        Call::List(Dir::Root),
+        Call::Get(note),
+        Call::List(Dir::Locks),
+        Call::Put(lock, Bytes::new(alloc)),
+    ];
+    let said = ask_all(alloc, &mut target, &calls)?;
+    assert_eq!(rt; said.as_str(), "listed\nabsent\nlisted\nfailed\n");
+    assert_eq!(rt; target.faults, 1);
     fs::remove_dir_all(&rt, &folder)?;
     Ok(())
 }
