@@ -2,7 +2,8 @@
 //!
 //! A client lists the locks, puts its own where none is in the way, and lists again; only the second listing gives it the
 //! lease. `specs/Phase.antt` says where a session stands with its lease by its own calls and their replies alone, and
-//! `specs/Discipline.antt` what a session may do there. Begin with [`acquire`].
+//! `specs/Discipline.antt` what a session may do there; `specs/Exclusion.antt` says what that comes to where many clients
+//! share a store. Begin with [`acquire`], and with the law [`held_apart`].
 #![tactic(auto)]
 
 mod acquisition;
