@@ -1,5 +1,6 @@
 use crate::ran::{Ran, run_once, run_over, words_of};
 use jop_base::{Bytes, MemSink, MemSource, Path};
+use jop_cli::Status;
 use jop_target::MemTarget;
 use std::alloc::{AllocError, Global};
 use std::test::Fail;
@@ -131,39 +132,56 @@ fn tells_a_sink_that_takes_no_tidy_text(rt: HostRuntime) -> Result<(), Fail> {
 #[test]
 fn prints_how_it_is_called(rt: HostRuntime) -> Result<(), Fail> {
     let alloc = rt.alloc();
-    let usage = b"usage: jop [--profile PATH] COMMAND\n".as_slice();
     let mut out = MemSink::new(alloc);
     let mut target = MemTarget::new(alloc, 0, 1);
     let help = run_once(alloc, &words_of(alloc, &["help"])?, &mut target, &mut out)?;
     assert_eq!(rt; help.status.exit(), 0);
-    assert_eq!(rt; out.written.as_slice(), usage);
+    assert_eq!(rt;
+        out.written.as_slice(),
+        b"usage: jop [--profile PATH] COMMAND\n".as_slice()
+    );
     assert!(rt; help.err.written.is_empty());
-    for words in [
-        words_of(alloc, &["--help"])?,
-        words_of(alloc, &["tidy", "me"])?,
-    ] {
-        let mut none = MemSink::new(alloc);
-        let refused = run_once(alloc, &words, &mut target, &mut none)?;
-        assert_eq!(rt; refused.status.exit(), 2);
-        assert_eq!(rt; refused.err.written.as_slice(), usage);
-        assert!(rt; none.written.is_empty());
-    }
     Ok(())
 }
 
+fn exit_of(alloc: Global, list: &[&str]) -> Result<u8, AllocError> {
+    let words = words_of(alloc, list)?;
+    let mut target = MemTarget::new(alloc, 0, 1);
+    let ran = run_once(alloc, &words, &mut target, &mut MemSink::new(alloc))?;
+    Ok(ran.status.exit())
+}
+
 #[test]
-fn leaves_the_target_alone_but_for_a_check(rt: HostRuntime) -> Result<(), Fail> {
+fn takes_no_word_more_and_no_option(rt: HostRuntime) -> Result<(), Fail> {
     let alloc = rt.alloc();
-    for words in [words_of(alloc, &["help"])?, words_of(alloc, &["tidy"])?] {
-        let mut target = MemTarget::new(alloc, 0, 1);
-        target.place(Path::Info, Bytes::new(alloc), 7)?;
-        let mut input = source_of(alloc, NOTE.as_bytes())?;
-        let mut out = MemSink::new(alloc);
-        let ran = run_over(alloc, &words, &mut target, &mut input, &mut out)?;
-        assert_eq!(rt; ran.status.exit(), 0);
-        assert!(rt; ran.trail.is_empty());
-        assert_eq!(rt; target.tree().files.len(), 1);
-        assert_eq!(rt; target.tree().folders.len(), 0);
-    }
+    assert_eq!(rt; exit_of(alloc, &["--help"])?, 2);
+    assert_eq!(rt; exit_of(alloc, &["help", "tidy"])?, 2);
+    assert_eq!(rt; exit_of(alloc, &["tidy", "tidy"])?, 2);
+    Ok(())
+}
+
+/// Whether these words end well over a note, without a call, and leave a target of one file as it was.
+fn leaves_the_target(alloc: Global, list: &[&str]) -> Result<bool, AllocError> {
+    let words = words_of(alloc, list)?;
+    let mut target = MemTarget::new(alloc, 0, 1);
+    target.place(Path::Info, Bytes::new(alloc), 7)?;
+    let mut input = source_of(alloc, NOTE.as_bytes())?;
+    let mut out = MemSink::new(alloc);
+    let ran = run_over(alloc, &words, &mut target, &mut input, &mut out)?;
+    let kept = target.tree().files.len() == 1 && target.tree().folders.is_empty();
+    Ok(ran.status == Status::Ok && ran.trail.is_empty() && kept)
+}
+
+#[test]
+fn calls_a_target_for_a_check_alone(rt: HostRuntime) -> Result<(), Fail> {
+    let alloc = rt.alloc();
+    assert!(rt; leaves_the_target(alloc, &["help"])?);
+    assert!(rt; leaves_the_target(alloc, &["tidy"])?);
+    assert!(rt;
+        !leaves_the_target(
+            alloc,
+            &["check", "mem:", "11111111111111111111111111111111"]
+        )?
+    );
     Ok(())
 }
