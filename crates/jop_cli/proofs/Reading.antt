@@ -4,7 +4,7 @@ use Rattle.std.proofs.Math.Seq.{drop-append_seam}
 use Rattle.jop_base.specs.Outside.{Reads}
 use Rattle.jop_base.specs.declared.failed.Failed.{Failed}
 use Rattle.jop_cli.specs.Input.{InputNow, IsAllOf, IsPastLimit, IsRestOf, WasRead, WasTooLarge, IsReadOf}
-use Rattle.jop_cli.specs.declared.input.TheConstants.{INPUT_LIMIT}
+use Rattle.jop_cli.specs.Input.{INPUT_LIMIT}
 
 -- these bytes were read, and the rest is left
 abbrev pub SoFar : Option (List ℕ) → List ℕ → Option (List ℕ) → Type 0

@@ -3,7 +3,10 @@ use Rattle.std.specs.Prelude.{ℕ, ◌+◌, ◌≤◌, ◌<◌, ◌≡◌, List,
 use Rattle.jop_base.specs.Outside.{HasRisen}
 use Rattle.jop_cli.specs.declared.input.InputErr.{InputErr}
 use Rattle.jop_cli.specs.declared.input.InputErr.TheVariants.{Fault, TooLarge, NoMemory}
-use Rattle.jop_cli.specs.declared.input.TheConstants.{INPUT_LIMIT}
+
+-- the most bytes of an input: 16 MiB
+abbrev pub INPUT_LIMIT : ℕ
+INPUT_LIMIT = 16777216
 
 -- an input at a moment: what is left of it, where it tells, and how often it has failed
 pub record InputNow : Type 0 where

@@ -5,7 +5,7 @@ use Rattle.item_text.specs.declared.bad_item.BadItem.{BadItem}
 use Rattle.item_text.specs.declared.item.Item.{Item}
 use Rattle.jop_base.specs.Outside.{HasRisen}
 use Rattle.jop_cli.specs.Input.{InputNow, WasRead, WasTooLarge}
-use Rattle.jop_cli.specs.declared.input.TheConstants.{INPUT_LIMIT}
+use Rattle.jop_cli.specs.Input.{INPUT_LIMIT}
 use Rattle.jop_cli.specs.declared.status.Status.{Status}
 use Rattle.jop_cli.specs.declared.status.Status.TheVariants.{Ok as WentWell, Usage, Busy, LeaseLost, TargetFault, SourceFault, SinkFault, TooLarge, BadItem as IsBadItem, NoMemory}
 

@@ -1,6 +1,6 @@
 use Rattle.std.proofs.Common.{◌≡◌, ◌+◌, ◌≤◌, arith, length, length-take, min, refl}
 use Rattle.jop_cli.proofs.Reading.{at_any, at_next, at_past}
-use Rattle.jop_cli.specs.declared.input.TheConstants.{INPUT_LIMIT}
+use Rattle.jop_cli.specs.Input.{INPUT_LIMIT}
 use Rattle.jop_cli.proofs.input.read_all.Goals as goal
 
 pub returns-in_err-append-clause-input : goal.returns-in_err-append-clause-input

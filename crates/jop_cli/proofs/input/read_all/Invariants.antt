@@ -1,6 +1,6 @@
 use Rattle.std.proofs.Common.{◌+◌, ◌-◌, length}
 use Rattle.jop_cli.proofs.Reading.{IsAt}
-use Rattle.jop_cli.specs.declared.input.TheConstants.{INPUT_LIMIT}
+use Rattle.jop_cli.specs.Input.{INPUT_LIMIT}
 use Rattle.jop_cli.proofs.input.read_all.Given as goal
 
 abbrev pub invariant-loop-piece : goal.invariant-loop-piece

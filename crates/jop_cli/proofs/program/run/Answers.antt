@@ -1,7 +1,6 @@
 use Rattle.std.proofs.Common.{◌∙◌, sym, subst, inl, inr, ◌≡◌, ◌⊎◌}
 use Rattle.jop_cli.proofs.Causes.{rises, completes, lacks}
 use Rattle.jop_cli.proofs.Histories.{names_busy}
-use Rattle.jop_cli.specs.Run.{Answers}
 use Rattle.jop_cli.specs.declared.status.Status.{Status}
 use Rattle.jop_cli.specs.declared.status.Status.TheVariants.{Ok as WentWell, NoMemory}
 use Rattle.jop_cli.proofs.program.run.Goals as goal
