@@ -126,7 +126,7 @@ idle_of Tidy words store after faults risen trail means idle none = idle
 
 -- ---- memory that is wanting for a line
 
-not_both : (words : List (List ℕ)) (client : List ℕ) → MeansTidy words → ¬ ChecksFor words client
+pub not_both : (words : List (List ℕ)) (client : List ℕ) → MeansTidy words → ¬ ChecksFor words client
 not_both words client tidy checks = cc (tidy, checks.1.list)
 
 lacks_for : (verb : Verb) (words : List (List ℕ)) (old new : InputNow) (trail : List Event) (status : Status) → has_own_line status ≡ true → MeansVerb words verb → ComesTo verb old trail status new → (((client : List ℕ) → ¬ ChecksFor words client) → trail ≡ []) → LacksMemory words trail

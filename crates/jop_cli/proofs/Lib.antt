@@ -1,4 +1,5 @@
 pub mod Causes
+pub mod Exact
 pub mod Histories
 pub mod Meaning
 pub mod Printed

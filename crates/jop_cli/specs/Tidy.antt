@@ -1,5 +1,5 @@
 -- What tidying an input comes to.
-use Rattle.std.specs.Prelude.{ℕ, ◌≤◌, ◌≡◌, List, length, Some, None}
+use Rattle.std.specs.Prelude.{ℕ, ◌+◌, ◌<◌, ◌≤◌, ◌≡◌, List, length, Some, None}
 use Rattle.item_text.specs.Grammar.{Reads, first_fault, written}
 use Rattle.item_text.specs.declared.bad_item.BadItem.{BadItem}
 use Rattle.item_text.specs.declared.item.Item.{Item}
@@ -41,8 +41,7 @@ TidiesBytes bytes TargetFault = ⊥
 TidiesBytes bytes SourceFault = ⊥
 TidiesBytes bytes (TooLarge len) = ⊥
 
--- Each answer of `tidy`, by its cause. An input is past its limit, or has a first fault, or reads to an item: so each of
--- the three answers comes exactly where its cause holds, unless a read fails first or memory is wanting.
+-- each answer of `tidy`, by its cause
 abbrev pub TidiesOut : InputNow → Status → InputNow → Type 0
 TidiesOut old WentWell new = (text : List ℕ) × IsTidied old new text
 TidiesOut old SinkFault new = (text : List ℕ) × IsTidied old new text
@@ -61,3 +60,17 @@ pub record CanBeTidied (old : InputNow) : Type 0 where
   pub told : old.left ≡ Some bytes
   pub within : length bytes ≤ INPUT_LIMIT
   pub faultless : first_fault bytes ≡ None
+
+-- The answers to an input that tells these bytes. They are past the limit, or have a first fault, or are an item's text:
+-- so `TooLarge`, `BadItem` and the rest come exactly where that is so, unless a read fails first or memory is wanting.
+abbrev pub IsAnswerTo : List ℕ → Status → Type 0
+IsAnswerTo bytes (TooLarge number) = (INPUT_LIMIT < length bytes) × (number ≡ INPUT_LIMIT + 1)
+IsAnswerTo bytes (IsBadItem bad) = (length bytes ≤ INPUT_LIMIT) × (first_fault bytes ≡ Some bad)
+IsAnswerTo bytes WentWell = (length bytes ≤ INPUT_LIMIT) × (first_fault bytes ≡ None)
+IsAnswerTo bytes SinkFault = (length bytes ≤ INPUT_LIMIT) × (first_fault bytes ≡ None)
+IsAnswerTo bytes SourceFault = Unit {0}
+IsAnswerTo bytes NoMemory = Unit {0}
+IsAnswerTo bytes Usage = ⊥
+IsAnswerTo bytes (Busy lock now) = ⊥
+IsAnswerTo bytes (LeaseLost seen) = ⊥
+IsAnswerTo bytes TargetFault = ⊥

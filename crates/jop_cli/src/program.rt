@@ -5,6 +5,8 @@ ghost use Rattle.lease.specs.Discipline.{ObeysLocks};
 ghost use Rattle.lease.specs.Exclusion.{KeepsApart};
 ghost use Rattle.lease.specs.declared.lock.Lock.{Lock};
 ghost use Rattle.jop_cli.specs.Run.{Answers, ChecksFor, ChecksOut, ComesTo, HasNoCause, IsIdleFor, IsOutput, IsPrinted, IsUntouched, Prints, Reports, UsesInput, UsesInputFor, UsesTarget};
+ghost use Rattle.jop_cli.specs.Tidy.{IsAnswerTo};
+ghost use Rattle.jop_cli.specs.Words.{MeansTidy};
 
 use crate::check::check_on;
 use crate::command::{Verb, WordsErr, read_words};
@@ -35,6 +37,9 @@ pub fn run<T: Target, I: Source, O: Sink, E: Sink>(
 
     // Where nothing failed and nothing was in the way, it went well, or memory was wanting.
     ensures complete { HasNoCause words.now.list (record { left = I.left input.old; faults = I.faults input.old }) diary.new.events (record { left = I.left input.new; faults = I.faults input.new }) (T.faults target.old) (T.faults target.new) (O.faults out.old) (O.faults out.new) → (result ≡ Status.Ok) ⊎ (result ≡ Status.NoMemory) }
+
+    // `tidy` of an input that tells its bytes.
+    ensures exact { (bytes : List ℕ) → MeansTidy words.now.list → I.left input.old ≡ Some bytes → IsAnswerTo bytes result }
 
     // Whatever the target answers, the client of the words puts and deletes its own lock alone, each in its turn.
     ensures discipline { (client : List ℕ) → ChecksFor words.now.list client → ObeysLocks client diary.new.events }

@@ -1,9 +1,16 @@
 use Rattle.std.proofs.Common.{◌∙◌, sym, subst, inl, inr, ◌≡◌, ◌⊎◌}
+use Rattle.jop_cli.proofs.Exact.{exact}
 use Rattle.jop_cli.proofs.Causes.{rises, completes, lacks}
 use Rattle.jop_cli.proofs.Histories.{names_busy}
 use Rattle.jop_cli.specs.declared.status.Status.{Status}
 use Rattle.jop_cli.specs.declared.status.Status.TheVariants.{Ok as WentWell, NoMemory}
 use Rattle.jop_cli.proofs.program.run.Goals as goal
+
+pub returns-clause-exact : goal.returns-clause-exact
+returns-clause-exact g c = λ bytes tidy tells. elim c.report.ensures.status [
+  | inl same ↦ rw same (exact _ _ _ _ _ _ tidy tells c.perform-status.ensures.answers)
+  | inr other ↦ rw other.0 tt
+]
 
 pub returns-clause-answers : goal.returns-clause-answers
 returns-clause-answers g c = elim c.report.ensures.status [
