@@ -18,6 +18,11 @@ abbrev pub title_text : Option (List ℕ) → List ℕ
 title_text None = []
 title_text (Some title) = title ++ 10 ∷ 10 ∷ []
 
+-- two line feeds behind a body, where it isn't empty
+abbrev pub gap_behind : List ℕ → List ℕ
+gap_behind [] = []
+gap_behind (b ∷ bs) = 10 ∷ 10 ∷ []
+
 -- the body and two line feeds, where it isn't empty
 abbrev pub body_text : List ℕ → List ℕ
 body_text [] = []

@@ -29,4 +29,4 @@ pub use props::{prop, set_prop};
 pub use read::read_item;
 pub use trim::trimmed;
 pub use valid::is_item;
-pub use write::write_item;
+pub use write::{write_around, write_item};

@@ -2,14 +2,11 @@ ghost use Rattle.std.specs.Prelude.{◌≡◌, ◌∷◌, ◌++◌, None, OnOk, 
 ghost use Rattle.std.specs.List.{flat_map};
 ghost use Rattle.item_text.specs.Lines.{joined};
 ghost use Rattle.item_text.specs.Valid.{IsItem};
-ghost use Rattle.item_text.specs.Grammar.{title_text, body_text, prop_text, written, Reads, first_fault};
+ghost use Rattle.item_text.specs.Grammar.{title_text, gap_behind, prop_text, written, Reads, first_fault};
 
 use crate::item::{Item, Prop};
 use jop_base::{Bytes, Text};
 use std::alloc::{AllocError, Global};
-
-/// How many bytes are made room for beside the body: title and pairs of a usual item have fewer.
-const ROOM: usize = 4096;
 
 fn put_title(out: &mut Text, title: &Option<Text>) -> Result<(), AllocError>
     ensures { OnOk result (out.new ≡ out.old ++ title_text title.now) }
@@ -23,13 +20,13 @@ fn put_title(out: &mut Text, title: &Option<Text>) -> Result<(), AllocError>
     }
 }
 
-fn put_body(out: &mut Text, body: &Text) -> Result<(), AllocError>
-    ensures { OnOk result (out.new ≡ out.old ++ body_text body.now) }
+/// The two line feeds behind a body.
+fn put_gap(out: &mut Text, body: &Text) -> Result<(), AllocError>
+    ensures { OnOk result (out.new ≡ out.old ++ gap_behind body.now) }
 {
     if body.is_empty() {
         return Ok(());
     }
-    out.append(body.as_str())?;
     out.append("\n\n")
 }
 
@@ -63,14 +60,29 @@ fn put_props(out: &mut Text, props: &[Prop]) -> Result<(), AllocError>
     }
 }
 
+/// What stands before an item's body in its text, and what stands behind it. So a long body can be written without a
+/// copy of it.
 #[tactic(auto, unfolding(crate::specs::Grammar::written))]
+pub fn write_around(alloc: Global, item: &Item) -> Result<(Text, Text), AllocError>
+    ensures { IfOk result (λ around. around.0 ++ (item.now.body ++ around.1) ≡ written item.now) }
+{
+    let mut before = Text::new(alloc);
+    put_title(&mut before, &item.title)?;
+    let mut behind = Text::new(alloc);
+    put_gap(&mut behind, &item.body)?;
+    put_props(&mut behind, item.props.as_slice())?;
+    Ok((before, behind))
+}
+
 fn text_of(alloc: Global, item: &Item) -> Result<Text, AllocError>
     ensures { IfOk result (λ text. text ≡ written item.now) }
 {
-    let mut out = Text::with_capacity(alloc, item.body.len().saturating_add(ROOM))?;
-    put_title(&mut out, &item.title)?;
-    put_body(&mut out, &item.body)?;
-    put_props(&mut out, item.props.as_slice())?;
+    let (before, behind) = write_around(alloc, item)?;
+    let around = before.len().saturating_add(behind.len());
+    let mut out = Text::with_capacity(alloc, item.body.len().saturating_add(around))?;
+    out.append(before.as_str())?;
+    out.append(item.body.as_str())?;
+    out.append(behind.as_str())?;
     Ok(out)
 }
 

@@ -1,8 +1,8 @@
 -- A text that is written piece by piece.
-use Rattle.std.proofs.Common.{◌≡◌, ◌≤◌, ◌∙◌, refl, sym, ap, subst, arith, ℕ, List, [], ◌++◌, take, drop, append_assoc, append-nil, take-append-drop, Option, Some, None, Ok, Err}
+use Rattle.std.proofs.Common.{◌≡◌, ◌≤◌, ◌∙◌, refl, sym, ap, subst, arith, ℕ, List, [], ◌++◌, take, drop, append_assoc, append-nil, take-append-drop, Option, Some, None, Result, Ok, Err}
 use Rattle.jop_base.specs.Outside.{Writes, HasRisen}
 use Rattle.jop_base.specs.declared.failed.Failed.{Failed}
-use Rattle.jop_cli.specs.Output.{Holds, IsCut}
+use Rattle.jop_cli.specs.Output.{Holds, IsCut, WritesText}
 
 -- so much of the text was written, and this is left
 pub record IsAt (before : Option (List ℕ)) (faults : ℕ) (text : List ℕ) (after : Option (List ℕ)) (now : ℕ) (rest : List ℕ) : Type 0 where
@@ -51,3 +51,37 @@ is_cut a b c faults mid now text rest e at writes rose = record {
 
 pub at_end : (a b : Option (List ℕ)) (faults now : ℕ) (text : List ℕ) → IsAt a faults text b now [] → Holds a text b
 at_end a b faults now text at = let same : at.front ≡ text = sym (append-nil at.front) ∙ at.whole in subst (λ (l : List ℕ). Holds a l b) same at.written
+
+-- ---- a text in two parts
+
+Holds-append : (a b c : Option (List ℕ)) (first second : List ℕ) → Holds a first b → Holds b second c → Holds a (first ++ second) c
+Holds-append None None c first second h k = k
+Holds-append None (Some w) c first second h k = cc
+Holds-append (Some v) None c first second h k = cc
+Holds-append (Some v) (Some w) c first second h k =
+    let same : w ≡ v ++ first = cc in
+    k ∙ (ap (λ (l : List ℕ). Some (l ++ second)) same ∙ ap (λ (l : List ℕ). Some l) (append_assoc v first second))
+
+-- a write that fails in the first part
+pub cut_first : (a b : Option (List ℕ)) (faults risen : ℕ) (first second : List ℕ) → IsCut a faults first b risen → IsCut a faults (first ++ second) b risen
+cut_first a b faults risen first second cut = record {
+  front = cut.front;
+  rest = cut.rest ++ second;
+  whole = sym (append_assoc cut.front cut.rest second) ∙ ap (λ (l : List ℕ). l ++ second) cut.whole;
+  written = cut.written;
+  rose = cut.rose;
+}
+
+cut_second : (a b c : Option (List ℕ)) (faults mid risen : ℕ) (first second : List ℕ) → Holds a first b → faults ≤ mid → IsCut b mid second c risen → IsCut a faults (first ++ second) c risen
+cut_second a b c faults mid risen first second h later cut = record {
+  front = first ++ cut.front;
+  rest = cut.rest;
+  whole = append_assoc first cut.front cut.rest ∙ ap (λ (l : List ℕ). first ++ l) cut.whole;
+  written = Holds-append a b c first cut.front h cut.written;
+  rose = let r = cut.rose in omega arith;
+}
+
+-- the second part, behind a first that was written whole
+pub writes_on : (a b c : Option (List ℕ)) (faults mid risen : ℕ) (first second : List ℕ) (result : Result (Unit {0}) Failed) → Holds a first b → faults ≤ mid → WritesText b mid second result c risen → WritesText a faults (first ++ second) result c risen
+writes_on a b c faults mid risen first second (Ok done) h later writes = Holds-append a b c first second h writes
+writes_on a b c faults mid risen first second (Err e) h later writes = cut_second a b c faults mid risen first second h later writes

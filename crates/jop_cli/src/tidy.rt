@@ -1,14 +1,13 @@
 ghost use Rattle.std.specs.Prelude.{◌≡◌, ◌⊎◌};
 ghost use Rattle.item_text.specs.Grammar.{written};
-ghost use Rattle.item_text.specs.Valid.{IsItem};
 ghost use Rattle.jop_cli.specs.Input.{IsReadOf};
 ghost use Rattle.jop_cli.specs.Run.{Prints};
 ghost use Rattle.jop_cli.specs.Tidy.{IsCanonical, IsTidied, TidiesBytes, TidiesOut};
 
 use crate::input::read_all;
-use crate::output::print;
+use crate::output::print_parts;
 use crate::status::Status;
-use item_text::{Item, read_item, write_item};
+use item_text::{Item, read_item, write_around};
 use jop_base::{Sink, Source};
 use std::alloc::Global;
 
@@ -36,12 +35,16 @@ fn tidy_bytes<O: Sink>(alloc: Global, bytes: &[u8], out: &mut O) -> Status
 }
 
 fn print_item<O: Sink>(alloc: Global, item: &Item, out: &mut O) -> Status
-    requires { IsItem item.now }
     ensures answers { (result ≡ Status.Ok) ⊎ (result ≡ Status.SinkFault) ⊎ (result ≡ Status.NoMemory) }
     ensures out { Prints (λ text. text ≡ written item.now) (O.written out.old) (O.faults out.old) result (O.written out.new) (O.faults out.new) }
 {
-    match write_item(alloc, item) {
-        Ok(text) => print(out, text.as_slice()),
+    match write_around(alloc, item) {
+        Ok((before, behind)) => print_parts(
+            out,
+            before.as_slice(),
+            item.body.as_slice(),
+            behind.as_slice(),
+        ),
         Err(_) => Status::NoMemory,
     }
 }
