@@ -1,4 +1,5 @@
-# Completes the words of jop in bash: its commands, and behind check the targets, `mem:` and `dir:` with a folder.
+# Completes the words of jop in bash: its commands, behind check the targets, `mem:` and `dir:` with a folder, and behind a
+# redirection files.
 # shellcheck shell=bash
 
 # Offers those of the words that begin with $1.
@@ -21,9 +22,24 @@ _jop_folders() {
     compopt -o filenames -o nospace 2>/dev/null
 }
 
+# Offers the files and folders whose path begins as $1.
+_jop_files() {
+    local file
+    while IFS= read -r file; do
+        COMPREPLY+=("$file")
+    done < <(compgen -f -- "$1")
+    compopt -o filenames 2>/dev/null
+}
+
 _jop() {
     local word=$2 target
     COMPREPLY=()
+    case ${COMP_WORDS[COMP_CWORD - 1]} in
+        *'<' | *'>' | *'>|')
+            _jop_files "$word"
+            return 0
+            ;;
+    esac
     if [ "$COMP_CWORD" -eq 1 ]; then
         _jop_words "$word" check help tidy
         return 0

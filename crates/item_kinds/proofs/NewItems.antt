@@ -1,22 +1,24 @@
 -- The items that are made: valid, and of their kind and id.
-use Rattle.std.proofs.Common.{◌≡◌, ℕ, ◌≤◌, ◌<◌, ◌^◌, Bool, true, false, List, [], ◌∷◌, Some, None, refl, sym, ap, ◌∙◌, subst, arith}
-use Rattle.std.specs.Prelude.{◌&&◌, codes, nat_le, option_and_then}
+use Rattle.std.proofs.Common.{◌≡◌, ℕ, ◌≤◌, ◌<◌, ◌^◌, Bool, true, false, not, List, [], ◌∷◌, Option, Some, None, refl, sym, ap, ◌∙◌, subst, arith, inl, inr}
+use Rattle.std.specs.Prelude.{◌&&◌, codes, nat_le, option_and_then, MatchOption, IfSome, IfNone}
 use Rattle.std.specs.Fmt.{decimal}
 use Rattle.std.specs.List.{list_all, AllByRecursion}
-use Rattle.std.proofs.lemmas.Bool.{and_parts}
+use Rattle.std.proofs.lemmas.Bool.{and_parts, not-true, cases_Bool, cond-false}
 use Rattle.std.proofs.lemmas.Bool.Decides.{nat_tests}
 use Rattle.std.proofs.lemmas.List.Elements.{recursion_from_All}
 use Rattle.std.proofs.lemmas.Fmt.{decimal_is_IsNumeral}
 use Rattle.std.proofs.lemmas.Str.Parse.{digit_from_value}
 use Rattle.std.specs.Str.Parse.{AllDigits}
 use Rattle.jop_base.specs.Id.{IsIdText, is_digit}
+use Rattle.item_text.specs.declared.item.Item.{Item}
 use Rattle.item_text.specs.declared.item.Prop.{Prop}
 use Rattle.item_text.specs.Lines.{has}
 use Rattle.item_text.specs.Props.{type_key, value_of}
-use Rattle.item_text.specs.Valid.{is_type_value, IsField, IsProp, IsItem}
+use Rattle.item_text.specs.Valid.{is_type_value, HasType, IsField, IsProp, IsItem}
 use Rattle.item_kinds.specs.Times.{time_text}
 use Rattle.item_kinds.specs.Kinds.{type_number}
-use Rattle.item_kinds.specs.Made.{pair, note_props, folder_props, note_tag_props, resource_props}
+use Rattle.item_kinds.specs.Slots as slot
+use Rattle.item_kinds.specs.Slots.{Given, given, Slot, text_in, pair, filled, note_slots, folder_slots, note_tag_slots, resource_slots}
 use Rattle.item_kinds.proofs.Visible.{AreVisible, visible_field, time_visible}
 
 -- ---- fields
@@ -39,107 +41,201 @@ plain text h = visible_field text (plain_visible text h)
 
 digits_visible : (text : List ℕ) → AllByRecursion (λ d. is_digit d ≡ true) text → AreVisible text
 digits_visible [] h = tt
-digits_visible (b ∷ bs) h = let digit = h.0 in ((grind (arith, nat_tests), grind (arith, nat_tests)), digits_visible bs h.1)
+digits_visible (b ∷ bs) h = let digit = h.0 in
+    ((grind (arith, nat_tests), grind (arith, nat_tests)), digits_visible bs h.1)
 
 -- an id, a time and a number in digits
 pub id_field : (text id : List ℕ) → text ≡ id → IsIdText id → IsField text
-id_field text id e h = let P : List ℕ → Type 0 = λ t. IsField t in subst P (sym e) (visible_field id (digits_visible id (recursion_from_All _ id h.digits)))
+id_field text id e h = let P : List ℕ → Type 0 = λ t. IsField t in
+    subst P (sym e) (visible_field id (digits_visible id (recursion_from_All _ id h.digits)))
 
-pub time_field : (text stamp : List ℕ) (t : ℕ) → text ≡ stamp → stamp ≡ time_text t → t ≤ 253_402_300_799_999 → IsField text
-time_field text stamp t e same fits = let P : List ℕ → Type 0 = λ t. IsField t in subst P (sym (e ∙ same)) (visible_field (time_text t) (time_visible t fits))
+pub time_field : (text stamp : List ℕ) (t : ℕ) → text ≡ stamp → stamp ≡ time_text t
+    → t ≤ 253_402_300_799_999 → IsField text
+time_field text stamp t e same fits = let P : List ℕ → Type 0 = λ t. IsField t in
+    subst P (sym (e ∙ same)) (visible_field (time_text t) (time_visible t fits))
 
 numeral_visible : (text : List ℕ) → AllDigits 10 text → AreVisible text
 numeral_visible [] h = tt
-numeral_visible (b ∷ bs) h = let range = digit_from_value b h.0 in ((omega (arith, range.0), omega (arith, range.1)), numeral_visible bs h.1)
+numeral_visible (b ∷ bs) h = let range = digit_from_value b h.0 in
+    ((omega (arith, range.0), omega (arith, range.1)), numeral_visible bs h.1)
 
-pub number_field : (text digits : List ℕ) (n : ℕ) → text ≡ digits → digits ≡ decimal n → n < 2 ^ 64 → IsField text
-number_field text digits n e same fits = let P : List ℕ → Type 0 = λ t. IsField t in subst P (sym (e ∙ same)) (visible_field (decimal n) (numeral_visible (decimal n) (decimal_is_IsNumeral n fits).0.1))
+pub number_field : (text digits : List ℕ) (n : ℕ) → text ≡ digits → digits ≡ decimal n → n < 2 ^ 64
+    → IsField text
+number_field text digits n e same fits = let P : List ℕ → Type 0 = λ t. IsField t in
+    subst P (sym (e ∙ same))
+    (visible_field (decimal n) (numeral_visible (decimal n) (decimal_is_IsNumeral n fits).0.1))
 
 pub same_field : (text value : List ℕ) → text ≡ value → IsField value → IsField text
 same_field text value e h = let P : List ℕ → Type 0 = λ t. IsField t in subst P (sym e) h
 
--- ---- pairs
-
-own : (key value : List ℕ) → is_plain key ≡ true → has 58 key ≡ false → IsField value → IsProp (pair key value)
-own key value k c v = record { key = plain key k; no_colon = c; value = v }
-
-fixed : (key value : List ℕ) → is_plain key ≡ true → has 58 key ≡ false → is_plain value ≡ true → IsProp (pair key value)
-fixed key value k c v = own key value k c (plain value v)
-
--- the first pair gives the id
-pub id_first : (ps rest : List Prop) (text id : List ℕ) → ps ≡ pair (codes "id") text ∷ rest → text ≡ id → value_of (codes "id") ps ≡ Some id
-unfolding value_of
-id_first ps rest text id e same = ap (λ (qs : List Prop). value_of (codes "id") qs) e ∙ ap (λ (t : List ℕ). Some t) same
-
--- ---- a note
-
-pub note_valid : (ps : List Prop) (id parent stamp title body : List ℕ) → ps ≡ note_props id parent stamp → IsField id → IsField parent → IsField stamp → has 10 title ≡ false → IsItem (record { title = Some title; body = body; props = ps })
-unfolding value_of is_type_value
-note_valid ps id parent stamp title body e i p s one =
-    let P : List Prop → Type 0 = λ qs. IsItem (record { title = Some title; body = body; props = qs }) in
-    subst P (sym e) (record { title = one; no_title = tt; props = (own (codes "id") _ refl refl i, (own (codes "parent_id") _ refl refl p, (own (codes "created_time") _ refl refl s, (own (codes "updated_time") _ refl refl s, (fixed (codes "is_conflict") (codes "0") refl refl refl, (fixed (codes "latitude") (codes "0.00000000") refl refl refl, (fixed (codes "longitude") (codes "0.00000000") refl refl refl, (fixed (codes "altitude") (codes "0.0000") refl refl refl, (fixed (codes "author") [] refl refl refl, (fixed (codes "source_url") [] refl refl refl, (fixed (codes "is_todo") (codes "0") refl refl refl, (fixed (codes "todo_due") (codes "0") refl refl refl, (fixed (codes "todo_completed") (codes "0") refl refl refl, (fixed (codes "source") (codes "jop") refl refl refl, (fixed (codes "source_application") (codes "jop") refl refl refl, (fixed (codes "application_data") [] refl refl refl, (fixed (codes "order") (codes "0") refl refl refl, (own (codes "user_created_time") _ refl refl s, (own (codes "user_updated_time") _ refl refl s, (fixed (codes "encryption_cipher_text") [] refl refl refl, (fixed (codes "encryption_applied") (codes "0") refl refl refl, (fixed (codes "markup_language") (codes "1") refl refl refl, (fixed (codes "is_shared") (codes "0") refl refl refl, (fixed (codes "type_") (codes "1") refl refl refl, tt)))))))))))))))))))))))); typed = refl })
-
-pub note_kind : (ps : List Prop) (id parent stamp : List ℕ) → ps ≡ note_props id parent stamp → option_and_then type_number (value_of type_key ps) ≡ Some 1
-unfolding value_of is_type_value
-note_kind ps id parent stamp e = ap (λ (qs : List Prop). option_and_then type_number (value_of type_key qs)) e
-
--- ---- a folder or a tag
-
-pub folder_valid : (ps : List Prop) (id parent stamp kind title body : List ℕ) → ps ≡ folder_props id parent stamp kind → IsField id → IsField parent → IsField stamp → IsField kind → is_type_value kind ≡ true → has 10 title ≡ false → IsItem (record { title = Some title; body = body; props = ps })
-unfolding value_of
-folder_valid ps id parent stamp kind title body e i p s k type one =
-    let P : List Prop → Type 0 = λ qs. IsItem (record { title = Some title; body = body; props = qs }) in
-    subst P (sym e) (record { title = one; no_title = tt; props = (own (codes "id") _ refl refl i, (own (codes "created_time") _ refl refl s, (own (codes "updated_time") _ refl refl s, (own (codes "user_created_time") _ refl refl s, (own (codes "user_updated_time") _ refl refl s, (fixed (codes "encryption_cipher_text") [] refl refl refl, (fixed (codes "encryption_applied") (codes "0") refl refl refl, (own (codes "parent_id") _ refl refl p, (fixed (codes "is_shared") (codes "0") refl refl refl, (own (codes "type_") _ refl refl k, tt)))))))))); typed = type })
-
-pub folder_kind : (ps : List Prop) (id parent stamp kind : List ℕ) → ps ≡ folder_props id parent stamp kind → option_and_then type_number (value_of type_key ps) ≡ type_number kind
-unfolding value_of
-folder_kind ps id parent stamp kind e = ap (λ (qs : List Prop). option_and_then type_number (value_of type_key qs)) e
-
-pub two_is_type : is_type_value (codes "2") ≡ true
-unfolding is_type_value
-two_is_type = refl
-
-pub five_is_type : is_type_value (codes "5") ≡ true
-unfolding is_type_value
-five_is_type = refl
-
-pub two_counts : type_number (codes "2") ≡ Some 2
-unfolding is_type_value
-two_counts = refl
-
-pub five_counts : type_number (codes "5") ≡ Some 5
-unfolding is_type_value
-five_counts = refl
-
-pub two_field : IsField (codes "2")
-two_field = plain (codes "2") refl
-
-pub five_field : IsField (codes "5")
-five_field = plain (codes "5") refl
-
 pub empty_field : IsField []
 empty_field = plain [] refl
 
--- ---- a tag on a note
+-- ---- the pairs of a table
 
-pub note_tag_valid : (ps : List Prop) (id note tag stamp body : List ℕ) → ps ≡ note_tag_props id note tag stamp → IsField id → IsField note → IsField tag → IsField stamp → body ≡ [] → IsItem (record { title = None; body = body; props = ps })
+-- the texts that an item is given are fields
+pub record AreFields (g : Given) : Type 0 where
+  pub id : IsField g.id
+  pub stamp : IsField g.stamp
+  pub parent : IsField g.parent
+  pub note : IsField g.note
+  pub tag : IsField g.tag
+  pub mime : IsField g.mime
+  pub file : IsField g.file
+  pub size : IsField g.size
+
+pub given_fields : (id stamp : List ℕ) → IsField id → IsField stamp → AreFields (given id stamp)
+given_fields id stamp i s = record {
+  id = i;
+  stamp = s;
+  parent = empty_field;
+  note = empty_field;
+  tag = empty_field;
+  mime = empty_field;
+  file = empty_field;
+  size = empty_field;
+}
+
+pub with_parent : (g : Given) (parent : List ℕ) → AreFields g → IsField parent
+    → AreFields (record g { parent = parent })
+with_parent g parent h p = record {
+  id = h.id;
+  stamp = h.stamp;
+  parent = p;
+  note = h.note;
+  tag = h.tag;
+  mime = h.mime;
+  file = h.file;
+  size = h.size;
+}
+
+pub with_link : (g : Given) (note tag : List ℕ) → AreFields g → IsField note → IsField tag
+    → AreFields (record g { note = note; tag = tag })
+with_link g note tag h n t = record {
+  id = h.id;
+  stamp = h.stamp;
+  parent = h.parent;
+  note = n;
+  tag = t;
+  mime = h.mime;
+  file = h.file;
+  size = h.size;
+}
+
+pub with_file : (g : Given) (mime file size : List ℕ) → AreFields g → IsField mime → IsField file
+    → IsField size
+    → AreFields (record g { mime = mime; file = file; size = size })
+with_file g mime file size h m f z = record {
+  id = h.id;
+  stamp = h.stamp;
+  parent = h.parent;
+  note = h.note;
+  tag = h.tag;
+  mime = m;
+  file = f;
+  size = z;
+}
+
+abbrev is_plain_slot : Slot → Bool
+is_plain_slot (slot.fixed text) = is_plain text
+is_plain_slot slot.id = true
+is_plain_slot slot.stamp = true
+is_plain_slot slot.parent = true
+is_plain_slot slot.note = true
+is_plain_slot slot.tag = true
+is_plain_slot slot.mime = true
+is_plain_slot slot.file = true
+is_plain_slot slot.size = true
+
+-- each key, and each text that all items of the kind have, is visible letters, and no key has a colon
+abbrev pub are_plain : List (List ℕ × Slot) → Bool
+are_plain slots = list_all (λ s. is_plain s.0 && (not (has 58 s.0) && is_plain_slot s.1)) slots
+
+slot_field : (g : Given) (s : Slot) → is_plain_slot s ≡ true → AreFields g → IsField (text_in g s)
+slot_field g (slot.fixed text) h fields = plain text h
+slot_field g slot.id h fields = fields.id
+slot_field g slot.stamp h fields = fields.stamp
+slot_field g slot.parent h fields = fields.parent
+slot_field g slot.note h fields = fields.note
+slot_field g slot.tag h fields = fields.tag
+slot_field g slot.mime h fields = fields.mime
+slot_field g slot.file h fields = fields.file
+slot_field g slot.size h fields = fields.size
+
+filled_props : (slots : List (List ℕ × Slot)) (g : Given) → are_plain slots ≡ true → AreFields g
+    → AllByRecursion IsProp (filled slots g)
+filled_props [] g h fields = tt
+filled_props (s ∷ slots) g h fields =
+    let parts = and_parts (is_plain s.0 && (not (has 58 s.0) && is_plain_slot s.1))
+    (are_plain slots) h in
+    let key = and_parts (is_plain s.0) (not (has 58 s.0) && is_plain_slot s.1) parts.0 in
+    let rest = and_parts (not (has 58 s.0)) (is_plain_slot s.1) key.1 in
+    let here : IsProp (pair s.0 (text_in g s.1)) = record {
+      key = plain s.0 key.0;
+      no_colon = not-true (has 58 s.0) rest.0;
+      value = slot_field g s.1 rest.1 fields;
+    } in
+    (here, filled_props slots g parts.1 fields)
+
+-- what has a number for its kind has a type
+type_by : (value : Option (List ℕ)) (n : ℕ) → option_and_then type_number value ≡ Some n
+    → MatchOption value ⊥ (λ v. is_type_value v ≡ true)
+type_by None n is = absurd (cc)
+type_by (Some v) n is =
+    elim (cases_Bool (is_type_value v)) [
+      | inl digits ↦ digits
+      | inr other ↦ absurd (let none = sym (cond-false (is_type_value v) _ _ other) ∙ is in cc)
+    ]
+
+-- what a table makes is of this kind and has the id that it is given, and its own texts are plain
+pub record IsTable (slots : List (List ℕ × Slot)) (n : ℕ) : Type 0 where
+  pub kind : (g : Given) → option_and_then type_number (value_of type_key (filled slots g)) ≡ Some n
+  pub id : (g : Given) → value_of (codes "id") (filled slots g) ≡ Some g.id
+  pub plain : are_plain slots ≡ true
+
+pub note_table : IsTable note_slots 1
 unfolding value_of is_type_value
-note_tag_valid ps id note tag stamp body e i n t s none =
-    let P : List Prop → Type 0 = λ qs. IsItem (record { title = None; body = body; props = qs }) in
-    subst P (sym e) (record { title = tt; no_title = none; props = (own (codes "id") _ refl refl i, (own (codes "note_id") _ refl refl n, (own (codes "tag_id") _ refl refl t, (own (codes "created_time") _ refl refl s, (own (codes "updated_time") _ refl refl s, (own (codes "user_created_time") _ refl refl s, (own (codes "user_updated_time") _ refl refl s, (fixed (codes "encryption_cipher_text") [] refl refl refl, (fixed (codes "encryption_applied") (codes "0") refl refl refl, (fixed (codes "is_shared") (codes "0") refl refl refl, (fixed (codes "type_") (codes "6") refl refl refl, tt))))))))))); typed = refl })
+note_table = record { kind = λ g. refl; id = λ g. refl; plain = refl }
 
-pub note_tag_kind : (ps : List Prop) (id note tag stamp : List ℕ) → ps ≡ note_tag_props id note tag stamp → option_and_then type_number (value_of type_key ps) ≡ Some 6
+pub folder_table : IsTable (folder_slots (codes "2")) 2
 unfolding value_of is_type_value
-note_tag_kind ps id note tag stamp e = ap (λ (qs : List Prop). option_and_then type_number (value_of type_key qs)) e
+folder_table = record { kind = λ g. refl; id = λ g. refl; plain = refl }
 
--- ---- a resource
-
-pub resource_valid : (ps : List Prop) (id mime name stamp size title body : List ℕ) → ps ≡ resource_props id mime name stamp size → IsField id → IsField mime → IsField name → IsField stamp → IsField size → has 10 title ≡ false → IsItem (record { title = Some title; body = body; props = ps })
+pub tag_table : IsTable (folder_slots (codes "5")) 5
 unfolding value_of is_type_value
-resource_valid ps id mime name stamp size title body e i m f s z one =
-    let P : List Prop → Type 0 = λ qs. IsItem (record { title = Some title; body = body; props = qs }) in
-    subst P (sym e) (record { title = one; no_title = tt; props = (own (codes "id") _ refl refl i, (own (codes "mime") _ refl refl m, (own (codes "filename") _ refl refl f, (own (codes "created_time") _ refl refl s, (own (codes "updated_time") _ refl refl s, (own (codes "user_created_time") _ refl refl s, (own (codes "user_updated_time") _ refl refl s, (fixed (codes "file_extension") [] refl refl refl, (fixed (codes "encryption_cipher_text") [] refl refl refl, (fixed (codes "encryption_applied") (codes "0") refl refl refl, (fixed (codes "encryption_blob_encrypted") (codes "0") refl refl refl, (own (codes "size") _ refl refl z, (fixed (codes "is_shared") (codes "0") refl refl refl, (fixed (codes "type_") (codes "4") refl refl refl, tt)))))))))))))); typed = refl })
+tag_table = record { kind = λ g. refl; id = λ g. refl; plain = refl }
 
-pub resource_kind : (ps : List Prop) (id mime name stamp size : List ℕ) → ps ≡ resource_props id mime name stamp size → option_and_then type_number (value_of type_key ps) ≡ Some 4
+pub note_tag_table : IsTable note_tag_slots 6
 unfolding value_of is_type_value
-resource_kind ps id mime name stamp size e = ap (λ (qs : List Prop). option_and_then type_number (value_of type_key qs)) e
+note_tag_table = record { kind = λ g. refl; id = λ g. refl; plain = refl }
+
+pub resource_table : IsTable resource_slots 4
+unfolding value_of is_type_value
+resource_table = record { kind = λ g. refl; id = λ g. refl; plain = refl }
+
+-- an item of the kind, and with the id
+pub record IsNew (item : Item) (n : ℕ) (own : List ℕ) : Type 0 where
+  pub valid : IsItem item
+  pub kind : option_and_then type_number (value_of type_key item.props) ≡ Some n
+  pub id : value_of (codes "id") item.props ≡ Some own
+
+-- one lemma for the makers of all kinds
+pub is_new : (slots : List (List ℕ × Slot)) (g : Given) (n : ℕ) (item : Item) (id : List ℕ)
+    → IsTable slots n
+    → item.props ≡ filled slots g → AreFields g → g.id ≡ id
+    → IfSome item.title (λ t. has 10 t ≡ false) → IfNone item.title (item.body ≡ [])
+    → IsNew item n id
+is_new slots g n item id table is fields same one none =
+    let P : List Prop → Type 0 = AllByRecursion IsProp in
+    let Q : List Prop → Type 0 = HasType in
+    let kind : List Prop → Option ℕ = λ ps. option_and_then type_number (value_of type_key ps) in
+    record {
+      valid = record {
+        title = one;
+        no_title = none;
+        props = subst P (sym is) (filled_props slots g table.plain fields);
+        typed = subst Q (sym is) (type_by _ n (table.kind g));
+      };
+      kind = ap kind is ∙ table.kind g;
+      id = ap (value_of (codes "id")) is ∙ table.id g ∙ ap Some same;
+    }

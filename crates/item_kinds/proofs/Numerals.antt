@@ -21,32 +21,43 @@ digit_test b h = let range = digit_from_value b h in grind (arith, nat_tests)
 
 pub digits_yes : (text : List ℕ) → list_all is_ascii_digit text ≡ true → AllDigits 10 text
 digits_yes [] h = tt
-digits_yes (b ∷ bs) h = let parts = and_parts (is_ascii_digit b) (list_all is_ascii_digit bs) h in (digit_yes b parts.0, digits_yes bs parts.1)
+digits_yes (b ∷ bs) h = let parts = and_parts (is_ascii_digit b) (list_all is_ascii_digit bs) h in
+    (digit_yes b parts.0, digits_yes bs parts.1)
 
 pub digits_test : (text : List ℕ) → AllDigits 10 text → list_all is_ascii_digit text ≡ true
 digits_test [] h = refl
-digits_test (b ∷ bs) h = and_from (is_ascii_digit b) (list_all is_ascii_digit bs) (digit_test b h.0) (digits_test bs h.1)
+digits_test (b ∷ bs) h =
+    and_from (is_ascii_digit b) (list_all is_ascii_digit bs) (digit_test b h.0) (digits_test bs h.1)
 
 digits_ascii : (text : List ℕ) → list_all is_ascii_digit text ≡ true → IsAscii text
 digits_ascii [] h i = omega arith
-digits_ascii (b ∷ bs) h zero = let parts = and_parts (is_ascii_digit b) (list_all is_ascii_digit bs) h in let digit = parts.0 in grind (arith, nat_tests)
-digits_ascii (b ∷ bs) h (suc i) = digits_ascii bs (and_parts (is_ascii_digit b) (list_all is_ascii_digit bs) h).1 i
+digits_ascii (b ∷ bs) h zero = let parts =
+    and_parts (is_ascii_digit b) (list_all is_ascii_digit bs) h in let digit = parts.0 in
+    grind (arith, nat_tests)
+digits_ascii (b ∷ bs) h (suc i) =
+    digits_ascii bs (and_parts (is_ascii_digit b) (list_all is_ascii_digit bs) h).1 i
 
 pub digits_utf8 : (text : List ℕ) → list_all is_ascii_digit text ≡ true → IsUtf8 text
 digits_utf8 text h = IsUtf8-from_ascii text (digits_ascii text h)
 
 -- a digit and two more as one number, through the types that it is read in
-pub digits_read : (n : ℕ) → n < 1_000 → to_z w32 (of_z w32 (to_z w32 (of_z w32 (to_z w32 (n / 100) *ℤ pos 100)) +ℤ to_z w32 (of_z w32 (to_z w8 (of_z w8 (pos (n % 100))))))) ≡ pos n
+pub digits_read : (n : ℕ) → n < 1_000
+    → to_z w32 (of_z w32
+    (to_z w32 (of_z w32 (to_z w32 (n / 100) *ℤ pos 100)) +ℤ to_z w32
+    (of_z w32 (to_z w8 (of_z w8 (pos (n % 100))))))) ≡ pos n
 digits_read n lt =
     let a : to_z w32 (n / 100) ≡ pos (n / 100) = omega (arith, ints) in
     let b : to_z w8 (of_z w8 (pos (n % 100))) ≡ pos (n % 100) = omega (arith, ints) in
-    let d : to_z w32 (of_z w32 (pos (n / 100) *ℤ pos 100)) ≡ pos (n / 100 * 100) = omega (arith, ints) in
+    let d : to_z w32 (of_z w32 (pos (n / 100) *ℤ pos 100)) ≡ pos (n / 100 * 100) =
+    omega (arith, ints) in
     let e : to_z w32 (of_z w32 (pos (n % 100))) ≡ pos (n % 100) = omega (arith, ints) in
-    let f : to_z w32 (of_z w32 (pos (n / 100 * 100) +ℤ pos (n % 100))) ≡ pos n = omega (arith, ints) in
+    let f : to_z w32 (of_z w32 (pos (n / 100 * 100) +ℤ pos (n % 100))) ≡ pos n =
+    omega (arith, ints) in
     rw (a, b, d, e) f
 
 -- milliseconds as nanoseconds, through the type that jiff takes
-pub part_read : (n : ℕ) → n < 1_000 → to_z w32 (of_z w32 (pos n *ℤ pos 1_000_000)) ≡ pos (n * 1_000_000)
+pub part_read : (n : ℕ) → n < 1_000
+    → to_z w32 (of_z w32 (pos n *ℤ pos 1_000_000)) ≡ pos (n * 1_000_000)
 part_read n lt = omega (arith, ints)
 
 -- a number that fits stays when it is cast to its own type
@@ -67,17 +78,21 @@ digits_kind value short numeral =
     let tested = digits_test value numeral.1 in
     let some = numeral.0 in
     and_from (nat_le 1 (length value) && nat_le (length value) 3) (list_all is_ascii_digit value)
-    (and_from (nat_le 1 (length value)) (nat_le (length value) 3) (grind (arith, nat_tests)) (grind (arith, nat_tests))) tested
+    (and_from (nat_le 1 (length value)) (nat_le (length value) 3) (grind (arith, nat_tests))
+    (grind (arith, nat_tests))) tested
 
 kind_digits : (value : List ℕ) → is_type_value value ≡ true → IsNumeral 10 value
 unfolding is_type_value
 kind_digits value h =
-    let parts = and_parts (nat_le 1 (length value) && nat_le (length value) 3) (list_all is_ascii_digit value) h in
+    let parts = and_parts (nat_le 1 (length value) && nat_le (length value) 3)
+    (list_all is_ascii_digit value) h in
     let low = (and_parts (nat_le 1 (length value)) (nat_le (length value) 3) parts.0).0 in
     (grind (arith, nat_tests), digits_yes value parts.1)
 
-short_value : (value : List ℕ) → length value ≤ 3 → IsNumeral 10 value → digits_value 10 value < 1_000
-short_value value short numeral = digits_value_short (numerals_by_value (AllDigits 10) tells_digits) value 3 numeral.1 short
+short_value : (value : List ℕ) → length value ≤ 3 → IsNumeral 10 value
+    → digits_value 10 value < 1_000
+short_value value short numeral =
+    digits_value_short (numerals_by_value (AllDigits 10) tells_digits) value 3 numeral.1 short
 
 some_is : (r : Option ℕ) (n : ℕ) (P : ℕ → Type 0) → IfSome r P → r ≡ Some n → P n
 some_is r n P h e = let Q : Option ℕ → Type 0 = λ o. IfSome o P in subst Q e h
@@ -85,18 +100,27 @@ some_is r n P h e = let Q : Option ℕ → Type 0 = λ o. IfSome o P in subst Q 
 none_is : (r : Option ℕ) (P : Type 0) → IfNone r P → r ≡ None → P
 none_is r P h e = let Q : Option ℕ → Type 0 = λ o. IfNone o P in subst Q e h
 
-pub short_number : (value : List ℕ) (r : Option ℕ) (n : ℕ) → length value ≤ 3 → IfSome r (λ number. IsNumeral 10 value × (digits_value 10 value ≡ number)) → r ≡ Some n → n < 1_000
-short_number value r n short h e = let is = some_is r n _ h e in omega (arith, short_value value short is.0, is.1)
+pub short_number : (value : List ℕ) (r : Option ℕ) (n : ℕ) → length value ≤ 3
+    → IfSome r (λ number. IsNumeral 10 value × (digits_value 10 value ≡ number)) → r ≡ Some n
+    → n < 1_000
+short_number value r n short h e = let is = some_is r n _ h e in
+    omega (arith, short_value value short is.0, is.1)
 
-pub type_some : (value : List ℕ) (r : Option ℕ) (n : ℕ) → length value ≤ 3 → IfSome r (λ number. IsNumeral 10 value × (digits_value 10 value ≡ number)) → r ≡ Some n → type_number value ≡ Some n
+pub type_some : (value : List ℕ) (r : Option ℕ) (n : ℕ) → length value ≤ 3
+    → IfSome r (λ number. IsNumeral 10 value × (digits_value 10 value ≡ number)) → r ≡ Some n
+    → type_number value ≡ Some n
 type_some value r n short h e =
     let is = some_is r n _ h e in
-    cond-true (is_type_value value) (Some (digits_value 10 value)) None (digits_kind value short is.0) ∙ ap (λ (k : ℕ). Some k) is.1
+    cond-true (is_type_value value) (Some (digits_value 10 value)) None
+    (digits_kind value short is.0) ∙ ap (λ (k : ℕ). Some k) is.1
 
-pub type_none : (value : List ℕ) (r : Option ℕ) → length value ≤ 3 → IfNone r (IsNumeral 10 value → 2 ^ 64 ≤ digits_value 10 value) → r ≡ None → type_number value ≡ None
+pub type_none : (value : List ℕ) (r : Option ℕ) → length value ≤ 3
+    → IfNone r (IsNumeral 10 value → 2 ^ 64 ≤ digits_value 10 value) → r ≡ None
+    → type_number value ≡ None
 type_none value r short h e =
     let too_large = none_is r _ h e in
-    cond-false (is_type_value value) (Some (digits_value 10 value)) None (false_from_ne_true (is_type_value value) (λ yes.
+    cond-false (is_type_value value) (Some (digits_value 10 value)) None
+    (false_from_ne_true (is_type_value value) (λ yes.
     let numeral = kind_digits value yes in
     let large = too_large numeral in
     let small = short_value value short numeral in omega (arith, large, small)))

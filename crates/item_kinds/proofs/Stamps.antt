@@ -26,6 +26,9 @@ abbrev fourth : List ℕ → ℕ
 fourth xs = slice_index_or xs 3 0
 
 pub joined_pieces : (t : ℕ) (y m d h n s f : List ℕ) → IsPieces t y m d h n s f
-    → first y ∷ second y ∷ third y ∷ fourth y ∷ 45 ∷ first m ∷ second m ∷ 45 ∷ first d ∷ second d ∷ 84 ∷ first h ∷ second h ∷ 58 ∷ first n ∷ second n ∷ 58 ∷ first s ∷ second s ∷ 46 ∷ first f ∷ second f ∷ third f ∷ 90 ∷ [] ≡ time_text t
+    → first y ∷ second y ∷ third y ∷ fourth y ∷ 45 ∷ first m ∷ second m ∷ 45 ∷ first d ∷ second d
+    ∷ 84 ∷ first h ∷ second h ∷ 58 ∷ first n ∷ second n ∷ 58 ∷ first s ∷ second s ∷ 46 ∷ first f
+    ∷ second f ∷ third f ∷ 90 ∷ [] ≡ time_text t
 unfolding time_text
-joined_pieces t y m d h n s f p = rw (p.year, p.month, p.day, p.hour, p.minute, p.second, p.milli) refl
+joined_pieces t y m d h n s f p =
+    rw (p.year, p.month, p.day, p.hour, p.minute, p.second, p.milli) refl

@@ -21,7 +21,8 @@ pub both_visible : (xs ys : List ℕ) → AreVisible xs → AreVisible ys → Ar
 both_visible [] ys h k = k
 both_visible (x ∷ xs) ys h k = (h.0, both_visible xs ys h.1 k)
 
-visible_at : (text : List ℕ) (i d : ℕ) → AreVisible text → i < length text → (33 ≤ get_or text i d) × (get_or text i d ≤ 126)
+visible_at : (text : List ℕ) (i d : ℕ) → AreVisible text → i < length text
+    → (33 ≤ get_or text i d) × (get_or text i d ≤ 126)
 visible_at [] i d h lt = absurd (omega arith)
 visible_at (b ∷ bs) zero d h lt = h.0
 visible_at (b ∷ bs) (suc i) d h lt = visible_at bs i d h.1 (omega arith)
@@ -36,7 +37,8 @@ visible_utf8 text h = IsUtf8-from_ascii text (visible_ascii text h)
 
 visible_line : (text : List ℕ) → AreVisible text → has 10 text ≡ false
 visible_line [] h = refl
-visible_line (b ∷ bs) h = let low = h.0.0 in or_from (eqb b 10) (has 10 bs) (grind (arith, nat_tests)) (visible_line bs h.1)
+visible_line (b ∷ bs) h = let low = h.0.0 in
+    or_from (eqb b 10) (has 10 bs) (grind (arith, nat_tests)) (visible_line bs h.1)
 
 not_blank : (b : ℕ) → 33 ≤ b → is_blank b ≡ false
 not_blank b h = grind (arith, nat_tests)
@@ -46,7 +48,9 @@ front_zero [] h = refl
 front_zero (b ∷ bs) h = cond-false (is_blank b) (1 + prefix_len is_blank bs) 0 (not_blank b h.0.0)
 
 end_zero : (text : List ℕ) → AreVisible text → suffix_len is_blank text ≡ 0
-end_zero text h = suffix_len_is is_blank text (length text) 0 (omega arith) (λ k a b. absurd (omega arith)) (λ some. not_blank _ (visible_at text (length text - 1) 0 h (omega arith)).0) ∙ omega arith
+end_zero text h =
+    suffix_len_is is_blank text (length text) 0 (omega arith) (λ k a b. absurd (omega arith))
+    (λ some. not_blank _ (visible_at text (length text - 1) 0 h (omega arith)).0) ∙ omega arith
 
 visible_trimmed : (text : List ℕ) → AreVisible text → trimmed text ≡ text
 unfolding trimmed
@@ -56,7 +60,8 @@ visible_trimmed text h =
     ∙ take_all (length text - 0) text (omega arith)
 
 pub visible_field : (text : List ℕ) → AreVisible text → IsField text
-visible_field text h = record { one_line = visible_line text h; is_trimmed = visible_trimmed text h }
+visible_field text h =
+    record { one_line = visible_line text h; is_trimmed = visible_trimmed text h }
 
 -- ---- digits and times
 
@@ -67,29 +72,56 @@ three_visible : (n : ℕ) → n < 1_000 → AreVisible (three_digits n)
 three_visible n h = ((omega arith, omega arith), two_visible (n % 100) (omega arith))
 
 four_visible : (n : ℕ) → n < 10_000 → AreVisible (four_digits n)
-four_visible n h = both_visible (two_digits (n / 100)) (two_digits (n % 100)) (two_visible (n / 100) (omega arith)) (two_visible (n % 100) (omega arith))
+four_visible n h =
+    both_visible (two_digits (n / 100)) (two_digits (n % 100)) (two_visible (n / 100) (omega arith))
+    (two_visible (n % 100) (omega arith))
 
 dash : (33 ≤ 45) × (45 ≤ 126)
 dash = (omega arith, omega arith)
 
 date_visible : (d : Date) → IsReal d → AreVisible (date_text d)
 date_visible d h =
-    let day = two_visible d.day (let high = h.day_high in let long = days_bound d.year d.month in omega (arith, high, long)) in
+    let day = two_visible d.day
+    (let high = h.day_high in let long = days_bound d.year d.month in omega (arith, high, long))
+    in
     let month = two_visible d.month (let high = h.month_high in omega (arith, high)) in
     let year = four_visible d.year (let high = h.to_9999 in omega (arith, high)) in
-    both_visible (four_digits d.year ++ 45 ∷ two_digits d.month) (45 ∷ two_digits d.day) (both_visible (four_digits d.year) (45 ∷ two_digits d.month) year (dash, month)) (dash, day)
+    both_visible (four_digits d.year ++ 45 ∷ two_digits d.month) (45 ∷ two_digits d.day)
+    (both_visible (four_digits d.year) (45 ∷ two_digits d.month) year (dash, month)) (dash, day)
 
 clock_visible : (millis : ℕ) → millis < 86_400_000 → AreVisible (clock_text millis)
 clock_visible millis h =
     let hour = two_visible (millis / 3_600_000) (omega arith) in
     let minute = two_visible (millis / 60_000 % 60) (omega arith) in
     let second = two_visible (millis / 1_000 % 60) (omega arith) in
-    let milli = three_visible (millis % 1_000) (omega arith) in
-    (hour.0, (hour.1.0, ((omega arith, omega arith), (minute.0, (minute.1.0, ((omega arith, omega arith), (second.0, (second.1.0, ((omega arith, omega arith), milli)))))))))
+    let milli = three_visible (millis % 1_000) (omega arith) in (
+      hour.0,
+      (
+        hour.1.0,
+        (
+          (omega arith, omega arith),
+          (
+            minute.0,
+            (
+              minute.1.0,
+              (
+                (omega arith, omega arith),
+                (second.0, (second.1.0, ((omega arith, omega arith), milli))),
+              ),
+            ),
+          ),
+        ),
+      ),
+    )
 
 pub time_visible : (t : ℕ) → t ≤ 253_402_300_799_999 → AreVisible (time_text t)
 unfolding time_text
 time_visible t fits =
-    let date : AreVisible (date_text (date_after (t / 86_400_000))) = date_visible (date_after (t / 86_400_000)) (counted (t / 86_400_000) (omega arith)).real in
-    let clock : AreVisible (clock_text (t % 86_400_000)) = clock_visible (t % 86_400_000) (omega arith) in
-    both_visible (date_text (date_after (t / 86_400_000)) ++ 84 ∷ clock_text (t % 86_400_000)) (90 ∷ []) (both_visible (date_text (date_after (t / 86_400_000))) (84 ∷ clock_text (t % 86_400_000)) date ((omega arith, omega arith), clock)) ((omega arith, omega arith), tt)
+    let date : AreVisible (date_text (date_after (t / 86_400_000))) =
+    date_visible (date_after (t / 86_400_000)) (counted (t / 86_400_000) (omega arith)).real in
+    let clock : AreVisible (clock_text (t % 86_400_000)) =
+    clock_visible (t % 86_400_000) (omega arith) in
+    both_visible (date_text (date_after (t / 86_400_000)) ++ 84 ∷ clock_text (t % 86_400_000))
+    (90 ∷ []) (both_visible (date_text (date_after (t / 86_400_000)))
+    (84 ∷ clock_text (t % 86_400_000)) date ((omega arith, omega arith), clock))
+    ((omega arith, omega arith), tt)

@@ -11,8 +11,10 @@ pub record Date : Type 0 where
 -- the day after: in the same month, or the first of the next month, or of the next year
 abbrev pub next_date : Date → Date
 next_date d =
-    if nat_lt d.day (days_in_month (pos d.year) d.month) then record { year = d.year; month = d.month; day = d.day + 1 }
-    else (if nat_lt d.month 12 then record { year = d.year; month = d.month + 1; day = 1 }
+    if nat_lt d.day (days_in_month (pos d.year) d.month)
+    then record { year = d.year; month = d.month; day = d.day + 1 }
+    else (if nat_lt d.month 12
+    then record { year = d.year; month = d.month + 1; day = 1 }
     else record { year = d.year + 1; month = 1; day = 1 })
 
 -- the date that many days after 1 January 1970

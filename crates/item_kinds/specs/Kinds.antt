@@ -17,15 +17,17 @@ abbrev pub IsKind : List Prop → Option Kind → Type 0
 IsKind props (Some kind) = option_and_then type_number (value_of type_key props) ≡ Some kind.0
 IsKind props None = option_and_then type_number (value_of type_key props) ≡ None
 
--- the id that the key's value spells, or none where it spells none
+-- the id that the key's value spells, or none if it spells none
 abbrev pub GivesId : List ℕ → List Prop → Option (List ℕ) → Type 0
 GivesId key props (Some id) = (value_of key props ≡ Some id) × IsIdText id
 GivesId key props None = (id : List ℕ) → IsIdText id → ¬ (value_of key props ≡ Some id)
 
--- the time that the text gives, or 0 where it gives none
+-- the time that the text gives, or 0 if it gives none
 abbrev pub IsTimeOrZero : List ℕ → ℕ → Type 0
 IsTimeOrZero text time = IsTime text time ⊎ ((time ≡ 0) × ((other : ℕ) → ¬ IsTime text other))
 
--- the time at which the item was last changed, or 0 where no pair gives it
+-- the time at which the item was last changed, or 0 if no pair gives it
 abbrev pub IsUpdated : List Prop → ℕ → Type 0
-IsUpdated props time = MatchOption (value_of (codes "updated_time") props) (time ≡ 0) (λ value. IsTimeOrZero value time)
+IsUpdated props time =
+    MatchOption (value_of (codes "updated_time") props) (time ≡ 0)
+    (λ value. IsTimeOrZero value time)

@@ -10,28 +10,28 @@ fn id_at(item: &Item, key: &[u8]) -> Option<Id>
     Id::read(prop(item, key)?.as_slice())
 }
 
-/// The item's own id, where `id` is one.
+/// The item's own id, if `id` is one.
 pub fn id_of(item: &Item) -> Option<Id>
     ensures { GivesId (codes "id") item.now.props result }
 {
     id_at(item, b"id")
 }
 
-/// The id of the folder that the item is in, where `parent_id` is one.
+/// The id of the folder that the item is in, if `parent_id` is one.
 pub fn parent_of(item: &Item) -> Option<Id>
     ensures { GivesId (codes "parent_id") item.now.props result }
 {
     id_at(item, b"parent_id")
 }
 
-/// The id of the note that bears a tag, where `note_id` is one.
+/// The id of the note that bears a tag, if `note_id` is one.
 pub fn note_of(item: &Item) -> Option<Id>
     ensures { GivesId (codes "note_id") item.now.props result }
 {
     id_at(item, b"note_id")
 }
 
-/// The id of the tag that a note bears, where `tag_id` is one.
+/// The id of the tag that a note bears, if `tag_id` is one.
 pub fn tag_of(item: &Item) -> Option<Id>
     ensures { GivesId (codes "tag_id") item.now.props result }
 {

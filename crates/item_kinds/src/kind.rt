@@ -36,7 +36,7 @@ fn type_number(value: &[u8]) -> Option<u16>
     Some(read_number(value)? as u16)
 }
 
-/// The kind of the item. None where no pair has the key `type_`, and where the topmost isn't one to three digits.
+/// The kind of the item. None if no pair has the key `type_`, and if the topmost isn't one to three digits.
 pub fn kind_of(item: &Item) -> Option<Kind>
     ensures kind { IsKind item.now.props result }
     ensures valid { IsItem item.now → IsSome result }

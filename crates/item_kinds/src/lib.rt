@@ -6,29 +6,21 @@
 
 mod digits;
 mod fields;
-mod folder;
 mod ids;
 mod kind;
 mod laws;
 mod moment;
-mod note;
-mod note_tag;
+mod new_items;
 mod number;
 mod pairs;
 mod resource;
 mod stamp;
-mod tag;
-#[cfg(test)]
-mod tests;
 mod time;
 
 pub use fields::{is_sealed, updated_of};
-pub use folder::folder_item;
 pub use ids::{id_of, note_of, parent_of, tag_of};
 pub use kind::{Kind, kind_of};
-pub use laws::{reads_as_one_time, reads_the_time_written};
-pub use note::note_item;
-pub use note_tag::note_tag_item;
+pub use laws::{kinds_have_their_numbers, reads_as_one_time, reads_the_time_written};
+pub use new_items::{folder_item, note_item, note_tag_item, tag_item};
 pub use resource::resource_item;
-pub use tag::tag_item;
 pub use time::{read_time, write_time};

@@ -1,4 +1,5 @@
 ghost use Rattle.std.specs.Prelude.{◌≡◌, ◌≤◌, ◌*◌, ℕ, pos, Some, IfSome};
+ghost use Rattle.jop_base.specs.Times.{last_time};
 ghost use Rattle.jiff.specs.Words.{civil_nanos};
 ghost use Rattle.item_kinds.specs.Moment.{Shows};
 
@@ -15,7 +16,7 @@ fn beginning() -> DateTime
 
 /// What a calendar and a clock in UTC show at the time.
 pub(crate) fn moment_at(time: u64) -> DateTime
-    requires { time ≤ MAX_TIME }
+    requires { time ≤ last_time }
     ensures { Shows result time }
 {
     match beginning().checked_add(SignedDuration::from_millis(time as i64)) {
@@ -26,8 +27,9 @@ pub(crate) fn moment_at(time: u64) -> DateTime
 
 /// The time at which a calendar and a clock in UTC show this. None before 1970 and after 9999.
 pub(crate) fn time_at(moment: DateTime) -> Option<u64>
-    ensures bound { IfSome result (λ time. time ≤ MAX_TIME) }
-    ensures time { (time : ℕ) → time ≤ MAX_TIME → civil_nanos moment ≡ pos (time * 1_000_000) → result ≡ Some time }
+    ensures bound { IfSome result (λ time. time ≤ last_time) }
+    ensures time { (time : ℕ) → time ≤ last_time → civil_nanos moment ≡ pos (time * 1_000_000)
+        → result ≡ Some time }
 {
     let millis = moment.duration_since(beginning()).as_millis();
     let time = u64::try_from(millis).ok()?;

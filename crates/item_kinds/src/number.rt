@@ -9,9 +9,10 @@ fn are_digits(text: &[u8]) -> bool
     text.iter().all(|byte| byte.is_ascii_digit())
 }
 
-/// The number that decimal digits write. None where the text is empty, has another byte, or the number is too large.
+/// The number that decimal digits write. None if the text is empty, has another byte, or the number is too large.
 pub(crate) fn read_number(text: &[u8]) -> Option<u64>
-    ensures some { IfSome result (λ number. IsNumeral 10 text.now × (digits_value 10 text.now ≡ number)) }
+    ensures some { IfSome result
+        (λ number. IsNumeral 10 text.now × (digits_value 10 text.now ≡ number)) }
     ensures none { IfNone result (IsNumeral 10 text.now → 2 ^ 64 ≤ digits_value 10 text.now) }
 {
     if !are_digits(text) {

@@ -1,36 +1,23 @@
-ghost use Rattle.std.specs.Prelude.{◌≡◌, ◌++◌, ◌∷◌, [], OnOk, map};
-ghost use Rattle.item_kinds.specs.Made.{pair};
+ghost use Rattle.std.specs.Prelude.{◌≡◌, IfOk, map};
+ghost use Rattle.item_kinds.specs.Slots.{pair};
 
 use item_text::Prop;
 use jop_base::{Seq, Text};
 use std::alloc::{AllocError, Global};
 
-/// Adds a pair at the end.
-pub(crate) fn add(
+/// The pairs of these keys and values.
+pub(crate) fn pairs<'x>(
     alloc: Global,
-    props: &mut Seq<Prop>,
-    key: &str,
-    value: &str,
-) -> Result<(), AllocError>
-    ensures { OnOk result (props.new ≡ props.old ++ pair key.now value.now ∷ []) }
+    texts: &[(&'x str, &'x str)],
+) -> Result<Seq<Prop>, AllocError>
+    ensures { IfOk result (λ props. props ≡ map (λ p. pair p.0.now p.1.now) texts.now) }
 {
-    let prop = Prop {
-        key: Text::of(alloc, key)?,
-        value: Text::of(alloc, value)?,
-    };
-    props.push(prop)
-}
-
-/// Adds pairs at the end that are the same in each item.
-pub(crate) fn add_fixed(
-    alloc: Global,
-    props: &mut Seq<Prop>,
-    pairs: &[(&'static str, &'static str)],
-) -> Result<(), AllocError>
-    ensures { OnOk result (props.new ≡ props.old ++ map (λ p. pair p.0.now p.1.now) pairs.now) }
-{
-    for (key, value) in pairs {
-        add(alloc, props, key, value)?;
+    let mut props = Seq::new(alloc);
+    for (key, value) in texts {
+        props.push(Prop {
+            key: Text::of(alloc, key)?,
+            value: Text::of(alloc, value)?,
+        })?;
     }
-    Ok(())
+    Ok(props)
 }

@@ -1,49 +1,53 @@
 ghost use Rattle.std.specs.Prelude.{◌≡◌, ◌≤◌, Some, IfOk, codes};
 ghost use Rattle.std.specs.Fmt.{decimal};
+ghost use Rattle.jop_base.specs.Times.{last_time};
 ghost use Rattle.item_text.specs.Lines.{trimmed};
 ghost use Rattle.item_text.specs.Escape.{escaped};
 ghost use Rattle.item_text.specs.Valid.{IsItem};
 ghost use Rattle.item_kinds.specs.Kinds.{IsKind, GivesId};
-ghost use Rattle.item_kinds.specs.Made.{IsLine, resource, resource_props};
+ghost use Rattle.item_kinds.specs.Made.{IsLine, resource};
+ghost use Rattle.item_kinds.specs.Slots.{given, filled, resource_slots};
 
 use crate::kind::Kind;
-use crate::pairs::{add, add_fixed};
+use crate::pairs::pairs;
 use crate::time::write_time;
 use item_text::{Item, Prop, escape_value, trimmed};
-use jop_base::{Id, MAX_TIME, Seq, Text};
+use jop_base::{Id, Seq, Text};
 use std::alloc::{AllocError, Global};
 
-fn resource_props(
+fn resource_props<'x>(
     alloc: Global,
-    id: &str,
-    mime: &str,
-    name: &str,
-    stamp: &str,
-    size: &str,
+    id: &'x str,
+    mime: &'x str,
+    file: &'x str,
+    size: &'x str,
+    stamp: &'x str,
 ) -> Result<Seq<Prop>, AllocError>
-    ensures { IfOk result (λ props. props ≡ resource_props id.now mime.now name.now stamp.now size.now) }
+    ensures { IfOk result (λ props. props ≡ filled resource_slots (record (given id.now stamp.now) {
+      mime = mime.now;
+      file = file.now;
+      size = size.now;
+    })) }
 {
-    let mut props = Seq::new(alloc);
-    add(alloc, &mut props, "id", id)?;
-    add(alloc, &mut props, "mime", mime)?;
-    add(alloc, &mut props, "filename", name)?;
-    add(alloc, &mut props, "created_time", stamp)?;
-    add(alloc, &mut props, "updated_time", stamp)?;
-    add(alloc, &mut props, "user_created_time", stamp)?;
-    add(alloc, &mut props, "user_updated_time", stamp)?;
-    add_fixed(
+    pairs(
         alloc,
-        &mut props,
         &[
+            ("id", id),
+            ("mime", mime),
+            ("filename", file),
+            ("created_time", stamp),
+            ("updated_time", stamp),
+            ("user_created_time", stamp),
+            ("user_updated_time", stamp),
             ("file_extension", ""),
             ("encryption_cipher_text", ""),
             ("encryption_applied", "0"),
             ("encryption_blob_encrypted", "0"),
+            ("size", size),
+            ("is_shared", "0"),
+            ("type_", "4"),
         ],
-    )?;
-    add(alloc, &mut props, "size", size)?;
-    add_fixed(alloc, &mut props, &[("is_shared", "0"), ("type_", "4")])?;
-    Ok(props)
+    )
 }
 
 /// The name without blanks at its ends, escaped.
@@ -73,7 +77,7 @@ pub fn resource_item(
     requires name { IsLine name }
     requires mime { IsLine mime }
     requires trimmed { trimmed mime ≡ mime }
-    requires time { now ≤ MAX_TIME }
+    requires time { now ≤ last_time }
 
     ensures made { IfOk result (λ item. item ≡ resource id.now name mime len now) }
     ensures valid { IfOk result IsItem }
@@ -89,8 +93,8 @@ pub fn resource_item(
         id.as_str(),
         mime.as_str(),
         file.as_str(),
-        stamp.as_str(),
         size.as_str(),
+        stamp.as_str(),
     )?;
     Ok(Item {
         title: Some(name),

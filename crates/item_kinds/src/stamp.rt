@@ -1,4 +1,5 @@
 ghost use Rattle.std.specs.Prelude.{◌≡◌, ◌≤◌, ◌<◌, ◌*◌, ℕ, pos, length, Some, IfSome, IfNone, IsSomeAnd};
+ghost use Rattle.jop_base.specs.Times.{last_time};
 ghost use Rattle.jiff.specs.Words.{epoch_day, time_nanos};
 ghost use Rattle.item_kinds.specs.Calendar.{date_after};
 ghost use Rattle.item_kinds.specs.Times.{date_text, clock_text, time_text};
@@ -6,11 +7,10 @@ ghost use Rattle.item_kinds.specs.Times.{date_text, clock_text, time_text};
 use crate::digits::{four_digits, read_four, read_three, read_two, three_digits, two_digits};
 use crate::moment::{moment_at, time_at};
 use jiff::civil::{Date, Time};
-use jop_base::MAX_TIME;
 
 /// The time as it is written.
 pub(crate) fn stamp(time: u64) -> [u8; 24]
-    requires { time ≤ MAX_TIME }
+    requires { time ≤ last_time }
     ensures { result ≡ time_text time }
 {
     let moment = moment_at(time);
@@ -30,7 +30,8 @@ pub(crate) fn stamp(time: u64) -> [u8; 24]
 /// The date that the digits of `YYYY-MM-DD` name, whatever stands between them.
 fn read_date(text: &[u8]) -> Option<Date>
     requires { length text.now ≡ 10 }
-    ensures { (n : ℕ) → n ≤ 2_932_896 → text.now ≡ date_text (date_after n) → IsSomeAnd result (λ date. epoch_day date ≡ pos n) }
+    ensures { (n : ℕ) → n ≤ 2_932_896 → text.now ≡ date_text (date_after n)
+        → IsSomeAnd result (λ date. epoch_day date ≡ pos n) }
 {
     let year = read_four(&text[..4])?;
     let month = read_two(&text[5..7])?;
@@ -41,7 +42,8 @@ fn read_date(text: &[u8]) -> Option<Date>
 /// The time of day that the digits of `HH:MM:SS.mmm` name, whatever stands between them.
 fn read_clock(text: &[u8]) -> Option<Time>
     requires { length text.now ≡ 12 }
-    ensures { (millis : ℕ) → millis < 86_400_000 → text.now ≡ clock_text millis → IsSomeAnd result (λ clock. time_nanos clock ≡ millis * 1_000_000) }
+    ensures { (millis : ℕ) → millis < 86_400_000 → text.now ≡ clock_text millis
+        → IsSomeAnd result (λ clock. time_nanos clock ≡ millis * 1_000_000) }
 {
     let hour = read_two(&text[..2])?;
     let minute = read_two(&text[3..5])?;
@@ -52,8 +54,8 @@ fn read_clock(text: &[u8]) -> Option<Time>
 
 /// The time that the digits of a stamp name, whatever stands between them.
 fn named_time(text: &[u8]) -> Option<u64>
-    ensures bound { IfSome result (λ time. time ≤ MAX_TIME) }
-    ensures named { (time : ℕ) → time ≤ MAX_TIME → text.now ≡ time_text time → result ≡ Some time }
+    ensures bound { IfSome result (λ time. time ≤ last_time) }
+    ensures named { (time : ℕ) → time ≤ last_time → text.now ≡ time_text time → result ≡ Some time }
 {
     if text.len() != 24 {
         return None;
@@ -63,10 +65,10 @@ fn named_time(text: &[u8]) -> Option<u64>
     time_at(date.to_datetime(clock))
 }
 
-/// The time that is written so: the one that the digits name, where its stamp is this text.
+/// The time that is written so: the one that the digits name, if its stamp is this text.
 pub(crate) fn read_stamp(text: &[u8]) -> Option<u64>
-    ensures some { IfSome result (λ time. (time ≤ MAX_TIME) × (text.now ≡ time_text time)) }
-    ensures none { IfNone result ((time : ℕ) → time ≤ MAX_TIME → ¬ (text.now ≡ time_text time)) }
+    ensures some { IfSome result (λ time. (time ≤ last_time) × (text.now ≡ time_text time)) }
+    ensures none { IfNone result ((time : ℕ) → time ≤ last_time → ¬ (text.now ≡ time_text time)) }
 {
     let time = named_time(text)?;
     if stamp(time).as_slice() == text {

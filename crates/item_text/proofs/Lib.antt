@@ -3,11 +3,15 @@ pub mod Escaped
 pub mod Cut
 pub mod Blanks
 pub mod Head
-pub mod Pair
+pub mod Positions
+pub mod Left
+pub mod Typed
+pub mod Whole
 pub mod Walked
 pub mod Answered
 pub mod Again
 pub mod ReadValid
 pub mod One
+pub mod Parted
 pub mod Keys
 pub mod Setting

@@ -24,25 +24,42 @@ above_one all a b c d p q =
     let long = ap (λ (x : List (List ℕ)). length x) below in
     elim p.1 [
       | inl x ↦ elim q.1 [
-        | inl y ↦ above_same a c b x.0 y.0 (sym x.2 ∙ y.2 ∙ ap (λ (z : List (List ℕ)). c ++ y.0 ∷ z) (sym below))
-        | inr y ↦ absurd (omega (arith, ap (λ (z : List (List ℕ)). length z) x.2, ap (λ (z : List (List ℕ)). length z) y.1, length-append a (x.0 ∷ b)))
+        | inl y ↦ above_same a c b x.0 y.0
+            (sym x.2 ∙ y.2 ∙ ap (λ (z : List (List ℕ)). c ++ y.0 ∷ z) (sym below))
+        | inr y ↦ absurd
+            (omega (
+              arith,
+              ap (λ (z : List (List ℕ)). length z) x.2,
+              ap (λ (z : List (List ℕ)). length z) y.1,
+              length-append a (x.0 ∷ b),
+            ))
       ]
       | inr x ↦ elim q.1 [
-        | inl y ↦ absurd (omega (arith, ap (λ (z : List (List ℕ)). length z) y.2, ap (λ (z : List (List ℕ)). length z) x.1, length-append c (y.0 ∷ d)))
+        | inl y ↦ absurd
+            (omega (
+              arith,
+              ap (λ (z : List (List ℕ)). length z) y.2,
+              ap (λ (z : List (List ℕ)). length z) x.1,
+              length-append c (y.0 ∷ d),
+            ))
         | inr y ↦ x.0 ∙ sym y.0
       ]
     ]
 
-pub reads_one : (bytes : List ℕ) (item other : Item) → Reads bytes item → Reads bytes other → item ≡ other
+pub reads_one : (bytes : List ℕ) (item other : Item) → Reads bytes item → Reads bytes other
+    → item ≡ other
 unfolding Reads
 reads_one bytes item other r s =
     let all : List (List ℕ) = lines bytes in
     r.1.3
-    ∙ ap (λ (a : List (List ℕ)). item_of a r.1.1) (above_one all r.1.0 r.1.1 s.1.0 s.1.1 r.1.2 s.1.2)
-    ∙ ap (λ (b : List (List ℕ)). item_of s.1.0 b) (below_one all r.1.0 r.1.1 s.1.0 s.1.1 r.1.2 s.1.2)
+    ∙ ap (λ (a : List (List ℕ)). item_of a r.1.1)
+    (above_one all r.1.0 r.1.1 s.1.0 s.1.1 r.1.2 s.1.2)
+    ∙ ap (λ (b : List (List ℕ)). item_of s.1.0 b)
+    (below_one all r.1.0 r.1.1 s.1.0 s.1.1 r.1.2 s.1.2)
     ∙ sym s.1.3
 
-pub answers_only : (bytes : List ℕ) (result : Result Item ItemErr) → Answers bytes result → (item : Item) → Reads bytes item → first_fault bytes ≡ None → IsOrMemory item result
+pub answers_only : (bytes : List ℕ) (result : Result Item ItemErr) → Answers bytes result
+    → (item : Item) → Reads bytes item → first_fault bytes ≡ None → IsOrMemory item result
 unfolding Answers IsOrMemory
 answers_only bytes (Ok found) h item r good = reads_one bytes found item h.0 r
 answers_only bytes (Err (errors.Bad refusal)) h item r good = absurd (let e = sym h ∙ good in cc)

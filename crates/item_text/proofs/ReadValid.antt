@@ -23,7 +23,8 @@ use Rattle.item_text.proofs.Answered.{fault_text}
 has-take : (c n : ℕ) (text : List ℕ) → has c text ≡ false → has c (take n text) ≡ false
 has-take c zero text h = refl
 has-take c (suc n) [] h = refl
-has-take c (suc n) (b ∷ bs) h = let parts = or_parts (eqb b c) (has c bs) h in or_from (eqb b c) (has c (take n bs)) parts.0 (has-take c n bs parts.1)
+has-take c (suc n) (b ∷ bs) h = let parts = or_parts (eqb b c) (has c bs) h in
+    or_from (eqb b c) (has c (take n bs)) parts.0 (has-take c n bs parts.1)
 
 has-drop : (c n : ℕ) (text : List ℕ) → has c text ≡ false → has c (drop n text) ≡ false
 has-drop c zero text h = h
@@ -39,10 +40,12 @@ before_colon [] = refl
 before_colon (b ∷ bs) =
     let n : ℕ = position_or_len is_colon bs in
     elim (cases_Bool (is_colon b)) [
-      | inl hit ↦ ap (λ (k : ℕ). has 58 (take k (b ∷ bs))) (cond-false (not (is_colon b)) (1 + n) 0 (not_from_true (is_colon b) hit))
+      | inl hit ↦ ap (λ (k : ℕ). has 58 (take k (b ∷ bs)))
+          (cond-false (not (is_colon b)) (1 + n) 0 (not_from_true (is_colon b) hit))
       | inr miss ↦
           let more : 1 + n ≡ suc n = omega arith in
-          ap (λ (k : ℕ). has 58 (take k (b ∷ bs))) (cond-true (not (is_colon b)) (1 + n) 0 (not_from_false (is_colon b) miss) ∙ more)
+          ap (λ (k : ℕ). has 58 (take k (b ∷ bs)))
+          (cond-true (not (is_colon b)) (1 + n) 0 (not_from_false (is_colon b) miss) ∙ more)
           ∙ or_from (is_colon b) (has 58 (take n bs)) miss (before_colon bs)
     ]
 
@@ -56,10 +59,12 @@ unfolding pair_of
 prop_of_line line h = record {
   key = field_of (before_first is_colon line) (has-take 10 (position_or_len is_colon line) line h);
   no_colon = has-trimmed 58 (before_first is_colon line) (before_colon line);
-  value = field_of (after_first is_colon line) (has-drop 10 (position_or_len is_colon line + 1) line h);
+  value = field_of (after_first is_colon line)
+      (has-drop 10 (position_or_len is_colon line + 1) line h);
 }
 
-props_of_lines : (ls : List (List ℕ)) → AllByRecursion (λ l. has 10 l ≡ false) ls → AllByRecursion IsProp (map pair_of ls)
+props_of_lines : (ls : List (List ℕ)) → AllByRecursion (λ l. has 10 l ≡ false) ls
+    → AllByRecursion IsProp (map pair_of ls)
 props_of_lines [] h = tt
 props_of_lines (l ∷ ls) h = (prop_of_line l h.0, props_of_lines ls h.1)
 
@@ -69,19 +74,26 @@ judged_good : (b : Bool) (x : BadItem) → cond b None (Some x) ≡ None → b �
 judged_good true x e = refl
 judged_good false x e = absurd cc
 
-kind_of_type : (n : ℕ) (ps : List Prop) → type_fault n ps ≡ None → MatchOption (value_of type_key ps) ⊥ (λ value. is_type_value value ≡ true)
+kind_of_type : (n : ℕ) (ps : List Prop) → type_fault n ps ≡ None
+    → MatchOption (value_of type_key ps) ⊥ (λ value. is_type_value value ≡ true)
 unfolding value_of type_fault
 kind_of_type n [] e = absurd cc
 kind_of_type n (p ∷ ps) e =
-    let judged : Option BadItem = cond (is_type_value p.value) None (Some (record { line = n; why = TypeValue })) in
+    let judged : Option BadItem =
+    cond (is_type_value p.value) None (Some (record { line = n; why = TypeValue })) in
     let Q : Option (List ℕ) → Type 0 = λ o. MatchOption o ⊥ (λ value. is_type_value value ≡ true) in
     elim (cases_Bool (bytes_eq p.key type_key)) [
       | inl is ↦
-          let good : judged ≡ None = sym (cond-true (bytes_eq p.key type_key) judged (type_fault (n + 1) ps) is) ∙ e in
-          subst Q (sym (cond-true (bytes_eq p.key type_key) (Some p.value) (value_of type_key ps) is)) (judged_good (is_type_value p.value) (record { line = n; why = TypeValue }) good)
+          let good : judged ≡ None =
+          sym (cond-true (bytes_eq p.key type_key) judged (type_fault (n + 1) ps) is) ∙ e in
+          subst Q (sym
+          (cond-true (bytes_eq p.key type_key) (Some p.value) (value_of type_key ps) is))
+          (judged_good (is_type_value p.value) (record { line = n; why = TypeValue }) good)
       | inr isnt ↦
-          subst Q (sym (cond-false (bytes_eq p.key type_key) (Some p.value) (value_of type_key ps) isnt))
-          (kind_of_type (n + 1) ps (sym (cond-false (bytes_eq p.key type_key) judged (type_fault (n + 1) ps) isnt) ∙ e))
+          subst Q (sym
+          (cond-false (bytes_eq p.key type_key) (Some p.value) (value_of type_key ps) isnt))
+          (kind_of_type (n + 1) ps
+          (sym (cond-false (bytes_eq p.key type_key) judged (type_fault (n + 1) ps) isnt) ∙ e))
     ]
 
 or_else_none : (a b : Option BadItem) → or_else a b ≡ None → b ≡ None
@@ -90,24 +102,31 @@ or_else_none (Some x) b e = absurd cc
 
 -- ---- the item
 
-both_clean : (xs ys : List (List ℕ)) → AllByRecursion (λ l. has 10 l ≡ false) (xs ++ ys) → AllByRecursion (λ l. has 10 l ≡ false) xs × AllByRecursion (λ l. has 10 l ≡ false) ys
+both_clean : (xs ys : List (List ℕ)) → AllByRecursion (λ l. has 10 l ≡ false) (xs ++ ys)
+    → AllByRecursion (λ l. has 10 l ≡ false) xs × AllByRecursion (λ l. has 10 l ≡ false) ys
 both_clean [] ys h = (tt, h)
 both_clean (x ∷ xs) ys h = let rest = both_clean xs ys h.1 in ((h.0, rest.0), rest.1)
 
-parts_clean : (all above below : List (List ℕ)) → AreParts all above below → AllByRecursion (λ l. has 10 l ≡ false) all → AllByRecursion (λ l. has 10 l ≡ false) above × AllByRecursion (λ l. has 10 l ≡ false) below
+parts_clean : (all above below : List (List ℕ)) → AreParts all above below
+    → AllByRecursion (λ l. has 10 l ≡ false) all
+    → AllByRecursion (λ l. has 10 l ≡ false) above × AllByRecursion (λ l. has 10 l ≡ false) below
 parts_clean all above below parts h =
     let P : List (List ℕ) → Type 0 = λ ls. AllByRecursion (λ l. has 10 l ≡ false) ls in
     elim parts.1 [
-      | inl cut ↦ let both = both_clean above (cut.0 ∷ below) (subst P cut.2 h) in (both.0, both.1.1)
+      | inl cut ↦ let both = both_clean above (cut.0 ∷ below) (subst P cut.2 h) in
+          (both.0, both.1.1)
       | inr whole ↦ (subst P (sym whole.0) tt, subst P whole.1 h)
     ]
 
-head_valid : (above : List (List ℕ)) → AllByRecursion (λ l. has 10 l ≡ false) above → IfSome (title_of above) (λ t. has 10 t ≡ false) × IfNone (title_of above) (joined (drop 2 above) ≡ [])
+head_valid : (above : List (List ℕ)) → AllByRecursion (λ l. has 10 l ≡ false) above
+    → IfSome (title_of above) (λ t. has 10 t ≡ false)
+    × IfNone (title_of above) (joined (drop 2 above) ≡ [])
 unfolding joined
 head_valid [] h = (tt, refl)
 head_valid (l ∷ ls) h = (h.0, tt)
 
-pub reads_valid : (bytes : List ℕ) (item : Item) → Reads bytes item → first_fault bytes ≡ None → IsItem item
+pub reads_valid : (bytes : List ℕ) (item : Item) → Reads bytes item → first_fault bytes ≡ None
+    → IsItem item
 unfolding Reads item_of lines_fault block_fault
 reads_valid bytes item r good =
     let above = r.1.0 in
@@ -116,12 +135,22 @@ reads_valid bytes item r good =
     let clean = parts_clean (lines bytes) above below parts (lines_clean bytes) in
     let head = head_valid above clean.0 in
     let n : ℕ = length (lines bytes) - length (block (lines bytes)) + 1 in
-    let typed = or_else_none (colon_fault n (block (lines bytes))) (type_fault n (map pair_of (block (lines bytes)))) (sym (fault_text bytes r.0) ∙ good) in
-    let kind = kind_of_type n (map pair_of below) (ap (λ (ls : List (List ℕ)). type_fault n (map pair_of ls)) (sym (block_of_parts (lines bytes) above below parts)) ∙ typed) in
+    let typed = or_else_none (colon_fault n (block (lines bytes)))
+    (type_fault n (map pair_of (block (lines bytes)))) (sym (fault_text bytes r.0) ∙ good) in
+    let kind = kind_of_type n (map pair_of below)
+    (ap (λ (ls : List (List ℕ)). type_fault n (map pair_of ls))
+    (sym (block_of_parts (lines bytes) above below parts)) ∙ typed) in
     let P : Item → Type 0 = λ i. IsItem i in
-    subst P (sym r.1.3) (record { title = head.0; no_title = head.1; props = props_of_lines below clean.1; typed = kind })
+    subst P (sym r.1.3)
+    (record {
+      title = head.0;
+      no_title = head.1;
+      props = props_of_lines below clean.1;
+      typed = kind;
+    })
 
-pub answer_valid : (bytes : List ℕ) (result : Result Item ItemErr) → Answers bytes result → IfOk result IsItem
+pub answer_valid : (bytes : List ℕ) (result : Result Item ItemErr) → Answers bytes result
+    → IfOk result IsItem
 unfolding Answers
 answer_valid bytes (Ok item) h = reads_valid bytes item h.0 h.1
 answer_valid bytes (Err e) h = tt

@@ -5,7 +5,7 @@ use Rattle.item_text.specs.declared.bad_item.ItemErr.{ItemErr}
 use Rattle.item_text.specs.declared.bad_item.ItemErr.TheVariants as errors
 use Rattle.item_text.specs.Grammar.{Reads, first_fault}
 
--- the item that the bytes read as, where nothing refuses them; else the first refusal; or memory ran out
+-- the item that the bytes read as, if nothing refuses them; else the first refusal; or memory ran out
 unfoldable pub Answers : List ℕ → Result Item ItemErr → Type 0
 Answers bytes (Ok item) = Reads bytes item × (first_fault bytes ≡ None)
 Answers bytes (Err (errors.Bad refusal)) = first_fault bytes ≡ Some refusal

@@ -30,4 +30,5 @@ meant_by c = if c == 110 then 10 else (if c == 114 then 13 else c)
 unfoldable pub unescaped : List ℕ → List ℕ
 unescaped [] = []
 unescaped (b ∷ []) = b ∷ []
-unescaped (b ∷ c ∷ bs) = if b == 92 && is_letter c then meant_by c ∷ unescaped bs else b ∷ unescaped (c ∷ bs)
+unescaped (b ∷ c ∷ bs) =
+    if b == 92 && is_letter c then meant_by c ∷ unescaped bs else b ∷ unescaped (c ∷ bs)

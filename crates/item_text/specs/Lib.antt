@@ -1,7 +1,9 @@
 pub mod Lines
 pub mod Props
+pub mod Setting
 pub mod Valid
 pub mod Grammar
 pub mod Answers
 pub mod Escape
 pub mod Steps
+pub mod Canonical

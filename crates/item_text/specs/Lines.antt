@@ -18,7 +18,7 @@ joined ls = join_with_byte 10 ls
 abbrev pub is_blank : ℕ → Bool
 is_blank b = b == 32 || b == 9 || b == 11 || b == 12 || b == 13
 
--- without the blanks at the front
+-- without the blanks at the start
 abbrev pub trimmed_front : List ℕ → List ℕ
 trimmed_front text = drop (prefix_len is_blank text) text
 

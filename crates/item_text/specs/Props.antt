@@ -21,11 +21,11 @@ unfoldable pub replaced : Prop → List Prop → List Prop
 replaced p [] = []
 replaced p (q ∷ qs) = if has_key p.key q then p ∷ qs else q ∷ replaced p qs
 
--- with p before the first `type_`, or at the end where there is none
+-- with p before the first `type_`, or at the end if there is none
 unfoldable pub inserted : Prop → List Prop → List Prop
 inserted p [] = p ∷ []
 inserted p (q ∷ qs) = if has_key type_key q then p ∷ q ∷ qs else q ∷ inserted p qs
 
--- with p in place of the topmost pair of its key, or inserted where the key has none
+-- with p in place of the topmost pair of its key, or inserted if the key has none
 unfoldable pub with_prop : Prop → List Prop → List Prop
 with_prop p ps = if list_any (has_key p.key) ps then replaced p ps else inserted p ps

@@ -9,7 +9,8 @@ use Rattle.item_text.specs.Props.{type_key, value_of}
 
 -- one to three decimal digits
 unfoldable pub is_type_value : List ℕ → Bool
-is_type_value value = nat_le 1 (length value) && nat_le (length value) 3 && list_all is_ascii_digit value
+is_type_value value =
+    nat_le 1 (length value) && nat_le (length value) 3 && list_all is_ascii_digit value
 
 -- there is a `type_`, and its topmost value is one to three digits
 abbrev pub HasType : List Prop → Type 0

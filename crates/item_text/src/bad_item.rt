@@ -1,5 +1,5 @@
 ghost use Rattle.std.specs.Prelude.{◌≡◌};
-ghost use Rattle.item_text.specs.declared.bad_item.ItemErr.TheVariants.{NoMemory};
+ghost use Rattle.item_text.specs.declared.bad_item.ItemErr.TheVariants.{NoMemory, Bad};
 
 use std::alloc::{AllocError, AllocFailed};
 
@@ -28,6 +28,14 @@ pub struct BadItem {
 pub enum ItemErr {
     NoMemory,
     Bad(BadItem),
+}
+
+impl From<BadItem> for ItemErr {
+    ghost from_gives = { λ bad e. e ≡ Bad bad };
+
+    fn from(bad: BadItem) -> ItemErr {
+        ItemErr::Bad(bad)
+    }
 }
 
 impl From<AllocError> for ItemErr {

@@ -11,9 +11,11 @@ fn is_special(byte: u8) -> bool
     matches!(byte, b'\\' | b'\n' | b'\r')
 }
 
-/// The text before the first special byte, that byte, and the text after it. None where none is special.
+/// The text before the first special byte, that byte, and the text after it. None if none is special.
 fn cut_special(text: &str) -> Option<(&str, u8, &str)>
-    ensures { MatchOption result (list_any is_special text.now ≡ false) (λ x. (list_any is_special x.0.now ≡ false) × (is_special x.1 ≡ true) × (text.now ≡ x.0.now ++ x.1 ∷ x.2.now)) }
+    ensures { MatchOption result (list_any is_special text.now ≡ false)
+        (λ x. (list_any is_special x.0.now ≡ false) × (is_special x.1 ≡ true)
+        × (text.now ≡ x.0.now ++ x.1 ∷ x.2.now)) }
 {
     let bytes = text.as_bytes();
     for i in 0..bytes.len() {

@@ -11,7 +11,7 @@ pub struct Prop {
 /// A note, a notebook, a tag, a resource or another item.
 #[derive(Debug, Drop)]
 pub struct Item {
-    /// None where nothing stands above the pairs.
+    /// None if nothing stands above the pairs.
     pub title: Option<Text>,
     pub body: Text,
     /// In the order of the text. Of a repeated key the topmost pair counts.

@@ -5,25 +5,26 @@
 
 mod bad_item;
 mod block;
+mod canonical;
 mod escape;
 mod item;
 mod laws;
 mod line;
+mod pair;
 mod props;
 mod read;
-#[cfg(test)]
-mod tests;
 mod trim;
 mod type_value;
 mod valid;
 mod write;
 
 pub use bad_item::{BadItem, BadWhy, ItemErr};
+pub use canonical::canonical_parts;
 pub use escape::{escape_value, unescape_value};
 pub use item::{Item, Prop};
 pub use laws::{
-    reads_as_one, reads_what_is_written, sets_one_key, setting_keeps_valid,
-    unescapes_what_is_escaped, what_is_read_is_valid,
+    reads_as_one, reads_to_what_it_reads_as, reads_what_is_written, sets_one_key,
+    setting_keeps_valid, unescapes_what_is_escaped, what_is_read_is_valid,
 };
 pub use props::{prop, set_prop};
 pub use read::read_item;

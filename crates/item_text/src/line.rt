@@ -2,9 +2,10 @@ ghost use Rattle.std.specs.Prelude.{◌≡◌, ◌<◌, ◌∷◌, ◌++◌, [],
 ghost use Rattle.item_text.specs.Lines.{lines};
 ghost use Rattle.item_text.specs.Steps.{lines_of};
 
-/// The lines above the last one, where there are any, and the last one.
+/// The lines above the last one, if there are any, and the last one.
 pub(crate) fn last_line(text: &str) -> (Option<&str>, &str)
     ensures cut { lines text.now ≡ lines_of result.0 ++ result.1.now ∷ [] }
+    ensures at_feed { IfSome result.0 (λ above. text.now ≡ above.now ++ 10 ∷ result.1.now) }
     ensures shorter { IfSome result.0 (λ above. length above.now < length text.now) }
 {
     match text.rsplit_once('\n') {
@@ -13,9 +14,10 @@ pub(crate) fn last_line(text: &str) -> (Option<&str>, &str)
     }
 }
 
-/// The first line, and the lines below it, where there are any.
+/// The first line, and the lines below it, if there are any.
 pub(crate) fn first_line(text: &str) -> (&str, Option<&str>)
-    ensures { lines text.now ≡ result.0.now ∷ lines_of result.1 }
+    ensures cut { lines text.now ≡ result.0.now ∷ lines_of result.1 }
+    ensures shorter { IfSome result.1 (λ below. length below.now < length text.now) }
 {
     match text.split_once('\n') {
         None => (text, None),

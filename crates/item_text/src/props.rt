@@ -1,5 +1,6 @@
 ghost use Rattle.std.specs.Prelude.{◌≡◌, ◌<◌, true, length, OnOk, OnErr, IfSome, option_map, position};
-ghost use Rattle.item_text.specs.Props.{type_key, has_key, value_of, with_prop};
+ghost use Rattle.item_text.specs.Props.{type_key, has_key, value_of};
+ghost use Rattle.item_text.specs.Setting.{Sets};
 ghost use Rattle.item_text.specs.Valid.{is_type_value, IsProp, IsItem};
 
 use crate::item::{Item, Prop};
@@ -25,12 +26,14 @@ pub fn prop<'a>(item: &'a Item, key: &[u8]) -> Option<&'a Text>
 
 /// Gives the key its value: in place of the topmost one, or else before the first `type_`.
 pub fn set_prop(alloc: Global, item: &mut Item, key: &str, value: Text) -> Result<(), AllocError>
-    requires pair { IsProp (record { key = key.now; value = value }) }
-    requires typed { key.now ≡ type_key → is_type_value value ≡ true }
+    requires { IsProp (record { key = key.now; value = value }) }
 
-    ensures ok { OnOk result (item.new ≡ record item.old { props = with_prop (record { key = key.now; value = value }) item.old.props }) }
+    ensures ok { OnOk result (Sets (record { key = key.now; value = value }) item.old item.new) }
     ensures err { OnErr result (item.new ≡ item.old) }
-    ensures valid { IsItem item.old → IsItem item.new }
+
+    // A `type_` of another form is set as it is, and the item isn't valid then.
+    ensures valid { IsItem item.old → (key.now ≡ type_key → is_type_value value ≡ true)
+        → IsItem item.new }
 {
     let prop = Prop {
         key: Text::of(alloc, key)?,
@@ -41,7 +44,7 @@ pub fn set_prop(alloc: Global, item: &mut Item, key: &str, value: Text) -> Resul
 
 /// Puts the pair in place of the topmost one of its key, or else before the first `type_`.
 fn put(item: &mut Item, prop: Prop) -> Result<(), AllocError>
-    ensures ok { OnOk result (item.new ≡ record item.old { props = with_prop prop item.old.props }) }
+    ensures ok { OnOk result (Sets prop item.old item.new) }
     ensures err { OnErr result (item.new ≡ item.old) }
 {
     if let Some(place) = place_of(item.props.as_slice(), prop.key.as_slice()) {

@@ -1,16 +1,16 @@
-ghost use Rattle.std.specs.Prelude.{◌≡◌, ◌≤◌, ◌+◌, ◌-◌, None, drop, length, IfOk};
+ghost use Rattle.std.specs.Prelude.{◌≡◌, List, ℕ, None, Some, drop, IfOk, option_map};
 ghost use Rattle.item_text.specs.declared.item.Item.{Item};
 ghost use Rattle.item_text.specs.Lines.{lines, joined};
 ghost use Rattle.item_text.specs.Valid.{IsItem};
-ghost use Rattle.item_text.specs.Grammar.{title_of, Reads, first_fault, type_fault};
+ghost use Rattle.item_text.specs.Grammar.{title_of, Reads, first_fault, item_in};
 ghost use Rattle.item_text.specs.Answers.{Answers, IsOrMemory};
 ghost use Rattle.item_text.specs.Steps.{lines_of};
 
 use crate::bad_item::{BadItem, BadWhy, ItemErr};
-use crate::block::read_block;
-use crate::item::{Item, Prop};
-use crate::line::{first_line, line_count};
-use crate::type_value::type_fault;
+use crate::block::{cut_block, read_pairs};
+use crate::item::Item;
+use crate::line::first_line;
+use crate::type_value::type_refusal;
 use jop_base::Text;
 use std::alloc::{AllocError, Global};
 
@@ -28,28 +28,22 @@ fn body_of(above: &str) -> &str
 }
 
 /// The title and the body that stand above the last empty line.
-fn read_head(alloc: Global, above: Option<&str>) -> Result<(Option<Text>, Text), AllocError>
-    ensures { IfOk result (λ head. (head.0 ≡ title_of (lines_of above.entry)) × (head.1 ≡ joined (drop 2 (lines_of above.entry)))) }
+pub(crate) fn head_of(above: Option<&str>) -> (Option<&str>, &str)
+    ensures title { option_map (λ title. title.now) result.0 ≡ title_of (lines_of above.entry) }
+    ensures body { result.1.now ≡ joined (drop 2 (lines_of above.entry)) }
 {
     match above {
-        None => Ok((None, Text::new(alloc))),
-        Some(above) => {
-            let title = Text::of(alloc, first_line(above).0)?;
-            let body = Text::of(alloc, body_of(above))?;
-            Ok((Some(title), body))
-        }
+        None => (None, ""),
+        Some(above) => (Some(first_line(above).0), body_of(above)),
     }
 }
 
-/// What is wrong with the topmost `type_` of the pairs that stand last in this text. The lines are counted only where
-/// something is.
-fn type_refusal(text: &str, props: &[Prop]) -> Option<BadItem>
-    requires { length props.now ≤ length (lines text.now) }
-    ensures { result ≡ type_fault (length (lines text.now) - length props.now + 1) props.now }
+fn owned(alloc: Global, text: Option<&str>) -> Result<Option<Text>, AllocError>
+    ensures { IfOk result (λ owned. owned ≡ option_map (λ text. text.now) text.entry) }
 {
-    match type_fault(props, 0) {
-        None => None,
-        Some(_) => type_fault(props, line_count(text) - props.len() as u64),
+    match text {
+        None => Ok(None),
+        Some(text) => Ok(Some(Text::of(alloc, text)?)),
     }
 }
 
@@ -57,12 +51,26 @@ fn type_refusal(text: &str, props: &[Prop]) -> Option<BadItem>
 fn read_text(alloc: Global, text: &str) -> Result<Item, ItemErr>
     ensures { Answers text.now result }
 {
-    let (above, props) = read_block(alloc, text)?;
-    if let Some(bad) = type_refusal(text, props.as_slice()) {
+    let (above, block) = cut_block(text)?;
+    if let Some(bad) = type_refusal(text, block) {
         return Err(ItemErr::Bad(bad));
     }
-    let (title, body) = read_head(alloc, above)?;
-    Ok(Item { title, body, props })
+    let (title, body) = head_of(above);
+    Ok(Item {
+        title: owned(alloc, title)?,
+        body: Text::of(alloc, body)?,
+        props: read_pairs(alloc, block)?,
+    })
+}
+
+/// The bytes are no text.
+pub(crate) fn not_text() -> ItemErr
+    ensures { result ≡ ItemErr.Bad (record { line = 0; why = BadWhy.NotText }) }
+{
+    ItemErr::Bad(BadItem {
+        line: 0,
+        why: BadWhy::NotText,
+    })
 }
 
 fn read_bytes(alloc: Global, bytes: &[u8]) -> Result<Item, ItemErr>
@@ -70,19 +78,18 @@ fn read_bytes(alloc: Global, bytes: &[u8]) -> Result<Item, ItemErr>
 {
     match std::str::from_utf8(bytes) {
         Ok(text) => read_text(alloc, text),
-        Err(_) => Err(ItemErr::Bad(BadItem {
-            line: 0,
-            why: BadWhy::NotText,
-        })),
+        Err(_) => Err(not_text()),
     }
 }
 
 /// The item whose text the bytes are, or the first refusal. It takes time linear in the bytes.
 pub fn read_item(alloc: Global, bytes: &[u8]) -> Result<Item, ItemErr>
     ensures exact { Answers bytes.now result }
+    ensures item { IfOk result (λ item. item_in bytes.now ≡ Some item) }
 
     // No text is refused without cause, and no text reads as two items.
-    ensures only { (item : Item) → Reads bytes.now item → first_fault bytes.now ≡ None → IsOrMemory item result }
+    ensures only { (item : Item) → Reads bytes.now item → first_fault bytes.now ≡ None
+        → IsOrMemory item result }
 
     ensures valid { IfOk result IsItem }
 {

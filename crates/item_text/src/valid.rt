@@ -9,7 +9,8 @@ use crate::trim::trimmed;
 use crate::type_value::is_type_value;
 use jop_base::Text;
 
-fn has(text: &[u8], byte: u8) -> bool
+/// Whether the text has the byte.
+pub(crate) fn has(text: &[u8], byte: u8) -> bool
     ensures { result ≡ has byte text.now }
 {
     text.contains(&byte)
@@ -41,7 +42,8 @@ fn are_props(props: &[Prop]) -> bool
 
 /// Whether the title is one line, or there is neither title nor body.
 fn is_head(title: &Option<Text>, body: &Text) -> bool
-    ensures { IsTrue result ↔ IfSome title.now (λ title. has 10 title ≡ false) × IfNone title.now (body.now ≡ []) }
+    ensures { IsTrue result ↔ IfSome title.now (λ title. has 10 title ≡ false)
+        × IfNone title.now (body.now ≡ []) }
 {
     match title {
         None => body.is_empty(),

@@ -1,4 +1,4 @@
-ghost use Rattle.std.specs.Prelude.{◌≡◌, ◌∷◌, ◌++◌, None, OnOk, IfOk, map};
+ghost use Rattle.std.specs.Prelude.{◌≡◌, ◌∷◌, ◌++◌, None, OnOk, IfOk, map, option_map};
 ghost use Rattle.std.specs.List.{flat_map};
 ghost use Rattle.item_text.specs.Lines.{joined};
 ghost use Rattle.item_text.specs.Valid.{IsItem};
@@ -8,20 +8,31 @@ use crate::item::{Item, Prop};
 use jop_base::{Bytes, Text};
 use std::alloc::{AllocError, Global};
 
-fn put_title(out: &mut Text, title: &Option<Text>) -> Result<(), AllocError>
-    ensures { OnOk result (out.new ≡ out.old ++ title_text title.now) }
+/// The title and two line feeds.
+pub(crate) fn put_title(out: &mut Text, title: Option<&str>) -> Result<(), AllocError>
+    ensures { OnOk result (out.new
+        ≡ out.old ++ title_text (option_map (λ title. title.now) title.entry)) }
 {
     match title {
         None => Ok(()),
         Some(title) => {
-            out.append(title.as_str())?;
+            out.append(title)?;
             out.append("\n\n")
         }
     }
 }
 
+fn title_of(item: &Item) -> Option<&str>
+    ensures { option_map (λ title. title.now) result ≡ item.now.title }
+{
+    match &item.title {
+        None => None,
+        Some(title) => Some(title.as_str()),
+    }
+}
+
 /// The two line feeds behind a body.
-fn put_gap(out: &mut Text, body: &Text) -> Result<(), AllocError>
+pub(crate) fn put_gap(out: &mut Text, body: &str) -> Result<(), AllocError>
     ensures { OnOk result (out.new ≡ out.old ++ gap_behind body.now) }
 {
     if body.is_empty() {
@@ -67,9 +78,9 @@ pub fn write_around(alloc: Global, item: &Item) -> Result<(Text, Text), AllocErr
     ensures { IfOk result (λ around. around.0 ++ (item.now.body ++ around.1) ≡ written item.now) }
 {
     let mut before = Text::new(alloc);
-    put_title(&mut before, &item.title)?;
+    put_title(&mut before, title_of(item))?;
     let mut behind = Text::new(alloc);
-    put_gap(&mut behind, &item.body)?;
+    put_gap(&mut behind, item.body.as_str())?;
     put_props(&mut behind, item.props.as_slice())?;
     Ok((before, behind))
 }

@@ -1,4 +1,5 @@
-//! `jop`, a synchronising client for Joplin notebooks. `main` only makes the real things that [`jop_cli::run`] is handed.
+//! `jop`, a synchronising client for Joplin notebooks. `main` only makes the real things that
+//! [`jop_cli::run`] is handed.
 #![tactic(auto)]
 
 mod random_id;

@@ -1,20 +1,23 @@
-ghost use Rattle.std.specs.Prelude.{◌≤◌, None};
+ghost use Rattle.std.specs.Prelude.{◌≡◌, ◌≤◌, None, IfOk, length};
 ghost use Rattle.jop_base.specs.Outside.{HasRisen};
 
-use jop_base::{Failed, Source};
-use std::io::Read;
+use jop_base::{Failed, Faults, Source};
+use std::io;
+use std::io::{ErrorKind, Read};
 
 /// A stream of the system that is read. It tells nothing of what is left.
 #[derive(Drop)]
 pub struct ReaderSource<R> {
     reader: R,
-    /// How often it has failed. At 2^64 - 1 it stays.
-    faults: u64,
+    faults: Faults,
 }
 
 impl<R: Read> ReaderSource<R> {
     pub fn new(reader: R) -> ReaderSource<R> {
-        ReaderSource { reader, faults: 0 }
+        ReaderSource {
+            reader,
+            faults: Faults::new(),
+        }
     }
 
     /// Counts a fault.
@@ -22,20 +25,32 @@ impl<R: Read> ReaderSource<R> {
         ensures rose { HasRisen self.old.faults self.new.faults }
         ensures later { self.old.faults ≤ self.new.faults }
     {
-        self.faults = self.faults.saturating_add(1);
+        self.faults.rise();
         Failed
     }
 }
 
 impl<R: Read> Source for ReaderSource<R> {
-    ghost faults = { λ s. s.faults };
-
-    ghost left = { λ _. None };
+    ghost state = { λ s. record { left = None; faults = s.faults } };
 
     fn read(&mut self, into: &mut [u8]) -> Result<usize, Failed> {
-        match self.reader.read(into) {
+        match read_on(&mut self.reader, into) {
             Ok(count) => Ok(count),
             Err(_) => Err(self.fault()),
         }
     }
+}
+
+/// Reads, and again each time that a signal interrupts it.
+fn read_on<R: Read>(reader: &mut R, into: &mut [u8]) -> io::Result<usize>
+    ensures within { IfOk result (λ count. count ≤ length into.old) }
+    ensures length { length into.new ≡ length into.old }
+{
+    for _ in 0..u64::MAX {
+        match reader.read(into) {
+            Err(error) if error.kind() == ErrorKind::Interrupted => {}
+            read => return read,
+        }
+    }
+    Err(io::Error::from(ErrorKind::Interrupted))
 }

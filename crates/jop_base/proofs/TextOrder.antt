@@ -1,5 +1,5 @@
 -- The order of paths is that of their ranks, and then of their ids.
-use Rattle.std.proofs.Common.{◌≡◌, ◌<◌, ◌≤◌, ◌+◌, ◌∙◌, refl, sym, ap, arith, ℕ, List, [], ◌∷◌, ◌++◌, length, true, codes}
+use Rattle.std.proofs.Common.{◌≡◌, ◌<◌, ◌≤◌, ◌+◌, ◌*◌, ◌∙◌, refl, sym, ap, arith, ℕ, List, [], ◌∷◌, ◌++◌, length, true, codes}
 use Rattle.std.specs.Cmp.{nat_cmp_is}
 use Rattle.std.specs.Cmp.Lexicographic.{slice_cmp}
 use Rattle.std.specs.Option.{option_cmp}
@@ -9,7 +9,7 @@ use Rattle.std.specs.declared.cmp.Ordering.TheVariants.{Less, Equal, Greater}
 use Rattle.std.proofs.lemmas.Bool.Decides.{nat_tests}
 use Rattle.jop_base.specs.Id.{IsIdText, is_digit}
 use Rattle.jop_base.specs.LockNames.{Name, IsName}
-use Rattle.jop_base.specs.Order.{path_cmp, rank_of, lock_rank}
+use Rattle.jop_base.specs.Order.{path_cmp, rank_of, lock_rank, first_two}
 use Rattle.jop_base.specs.Paths.{IsPath, id_of, file_name, path_text}
 use Rattle.jop_base.specs.declared.lock_name.LockKind.{LockKind}
 use Rattle.jop_base.specs.declared.lock_name.LockKind.TheVariants.{Sync, Exclusive}
@@ -24,9 +24,6 @@ less a b below = sym (nat_cmp_is a b Less below)
 greater : (a b : ℕ) → b < a → nat_cmp a b ≡ Greater
 greater a b above = sym (nat_cmp_is a b Greater above)
 
-same : (a : ℕ) → nat_cmp a a ≡ Equal
-same a = sym (nat_cmp_is a a Equal refl)
-
 then_less : (a b : ℕ) (o : Ordering) → a < b → ordering_then (nat_cmp a b) o ≡ Less
 then_less a b o below = ap (λ (r : Ordering). ordering_then r o) (less a b below)
 
@@ -34,7 +31,7 @@ then_greater : (a b : ℕ) (o : Ordering) → b < a → ordering_then (nat_cmp a
 then_greater a b o above = ap (λ (r : Ordering). ordering_then r o) (greater a b above)
 
 then_same : (a : ℕ) (o : Ordering) → ordering_then (nat_cmp a a) o ≡ o
-then_same a o = ap (λ (r : Ordering). ordering_then r o) (same a)
+then_same a o = ap (λ (r : Ordering). ordering_then r o) (sym (nat_cmp_is a a Equal refl))
 
 nat_cmp-add : (a b t u : ℕ) → nat_cmp (a + t) (a + u) ≡ nat_cmp (b + t) (b + u)
 nat_cmp-add a b t u = grind (arith, nat_tests)
@@ -45,13 +42,15 @@ slice_cmp-same : (s : List ℕ) → slice_cmp nat_cmp s s ≡ Equal
 slice_cmp-same [] = refl
 slice_cmp-same (x ∷ s) = then_same x (slice_cmp nat_cmp s s) ∙ slice_cmp-same s
 
-slice_cmp-append : (i j s : List ℕ) → length i ≡ length j → slice_cmp nat_cmp (i ++ s) (j ++ s) ≡ slice_cmp nat_cmp i j
+slice_cmp-append : (i j s : List ℕ)
+    → length i ≡ length j → slice_cmp nat_cmp (i ++ s) (j ++ s) ≡ slice_cmp nat_cmp i j
 slice_cmp-append [] [] s long = slice_cmp-same s
 slice_cmp-append [] (y ∷ j) s long = absurd (omega arith)
 slice_cmp-append (x ∷ i) [] s long = absurd (omega arith)
-slice_cmp-append (x ∷ i) (y ∷ j) s long = ap (λ (o : Ordering). ordering_then (nat_cmp x y) o) (slice_cmp-append i j s (omega arith))
+slice_cmp-append (x ∷ i) (y ∷ j) s long =
+    ap (λ (o : Ordering). ordering_then (nat_cmp x y) o) (slice_cmp-append i j s (omega arith))
 
--- ---- the first digit of an id stands behind a point, and before each letter behind f
+-- ---- an item's name: its first digit stands behind a point, and before each letter behind f
 
 digit_bounds : (d : ℕ) → is_digit d ≡ true → (48 ≤ d) × (d ≤ 102)
 digit_bounds d is = grind (arith, nat_tests)
@@ -59,86 +58,182 @@ digit_bounds d is = grind (arith, nat_tests)
 first_bounds : (d : ℕ) (ds : List ℕ) → IsIdText (d ∷ ds) → (48 ≤ d) × (d ≤ 102)
 first_bounds d ds id = digit_bounds d (id.digits 0 d (omega arith))
 
-behind_point : (x j s : List ℕ) → IsIdText j → slice_cmp nat_cmp (46 ∷ x) (j ++ s) ≡ Less
-behind_point x [] s id = absurd (omega (arith, id.long))
-behind_point x (d ∷ ds) s id = then_less 46 d _ (omega (arith, first_bounds d ds id))
+id_behind : (b : ℕ) (x j s : List ℕ)
+    → b < 48 → IsIdText j → Less ≡ slice_cmp nat_cmp (b ∷ x) (j ++ s)
+id_behind b x [] s near id = absurd (omega (arith, id.long))
+id_behind b x (d ∷ ds) s near id = sym (then_less b d _ (omega (arith, first_bounds d ds id)))
 
-before_point : (x j s : List ℕ) → IsIdText j → slice_cmp nat_cmp (j ++ s) (46 ∷ x) ≡ Greater
-before_point x [] s id = absurd (omega (arith, id.long))
-before_point x (d ∷ ds) s id = then_greater d 46 _ (omega (arith, first_bounds d ds id))
+behind_id : (b : ℕ) (x j s : List ℕ)
+    → b < 48 → IsIdText j → Greater ≡ slice_cmp nat_cmp (j ++ s) (b ∷ x)
+behind_id b x [] s near id = absurd (omega (arith, id.long))
+behind_id b x (d ∷ ds) s near id = sym (then_greater d b _ (omega (arith, first_bounds d ds id)))
 
-before_letter : (b : ℕ) (x j s : List ℕ) → 102 < b → IsIdText j → slice_cmp nat_cmp (j ++ s) (b ∷ x) ≡ Less
-before_letter b x [] s far id = absurd (omega (arith, id.long))
-before_letter b x (d ∷ ds) s far id = then_less d b _ (omega (arith, first_bounds d ds id))
+id_before : (b : ℕ) (x j s : List ℕ)
+    → 102 < b → IsIdText j → Less ≡ slice_cmp nat_cmp (j ++ s) (b ∷ x)
+id_before b x [] s far id = absurd (omega (arith, id.long))
+id_before b x (d ∷ ds) s far id = sym (then_less d b _ (omega (arith, first_bounds d ds id)))
 
-behind_letter : (b : ℕ) (x j s : List ℕ) → 102 < b → IsIdText j → slice_cmp nat_cmp (b ∷ x) (j ++ s) ≡ Greater
-behind_letter b x [] s far id = absurd (omega (arith, id.long))
-behind_letter b x (d ∷ ds) s far id = then_greater b d _ (omega (arith, first_bounds d ds id))
+before_id : (b : ℕ) (x j s : List ℕ)
+    → 102 < b → IsIdText j → Greater ≡ slice_cmp nat_cmp (b ∷ x) (j ++ s)
+before_id b x [] s far id = absurd (omega (arith, id.long))
+before_id b x (d ∷ ds) s far id = sym (then_greater b d _ (omega (arith, first_bounds d ds id)))
 
--- ---- paths
+-- ---- ranks
 
-lock_bounds : (kind : LockKind) (t : ℕ) → t ≤ 9 → (10 ≤ lock_rank kind t) × (lock_rank kind t < 30)
+abbrev pub by_rank : Path → Path → Ordering
+by_rank p q =
+    ordering_then (nat_cmp (rank_of p) (rank_of q))
+    (option_cmp (slice_cmp nat_cmp) (id_of p) (id_of q))
+
+item_bounds : (id : List ℕ) → IsIdText id → (200 < 10 * first_two id) × (10 * first_two id < 300000)
+item_bounds [] text = absurd (omega (arith, text.long))
+item_bounds (d ∷ []) text = absurd (omega (arith, text.long))
+item_bounds (d ∷ e ∷ ds) text =
+    let first = digit_bounds d (text.digits 0 d (omega arith)) in
+    let second = digit_bounds e (text.digits 1 e (omega arith)) in
+    (omega arith, omega arith)
+
+lock_bounds : (kind : LockKind) (t : ℕ)
+    → t ≤ 9 → (400000 ≤ lock_rank kind t) × (lock_rank kind t < 500000)
 lock_bounds Sync t small = (omega arith, omega arith)
 lock_bounds Exclusive t small = (omega arith, omega arith)
 
-abbrev pub by_rank : Path → Path → Ordering
-by_rank p q = ordering_then (nat_cmp (rank_of p) (rank_of q)) (option_cmp (slice_cmp nat_cmp) (id_of p) (id_of q))
+item_behind : (r : ℕ) (id : List ℕ) (o : Ordering)
+    → IsIdText id → r ≤ 200 → ordering_then (nat_cmp r (rank_of (Item id))) o ≡ Less
+item_behind r id o text small = then_less r _ o (omega (arith, item_bounds id text))
 
-lock_behind : (n : Name) (r : ℕ) (o : Ordering) → IsName n → r < 10 → ordering_then (nat_cmp (lock_rank n.kind n.client_type) r) o ≡ Greater
-lock_behind n r o name small = then_greater _ r o (omega (arith, lock_bounds n.kind n.client_type name.client_type))
+behind_item : (r : ℕ) (id : List ℕ) (o : Ordering)
+    → IsIdText id → r ≤ 200 → ordering_then (nat_cmp (rank_of (Item id)) r) o ≡ Greater
+behind_item r id o text small = then_greater _ r o (omega (arith, item_bounds id text))
 
-lock_before : (n : Name) (r : ℕ) (o : Ordering) → IsName n → r < 10 → ordering_then (nat_cmp r (lock_rank n.kind n.client_type)) o ≡ Less
-lock_before n r o name small = then_less r _ o (omega (arith, lock_bounds n.kind n.client_type name.client_type))
+item_before : (r : ℕ) (id : List ℕ) (o : Ordering)
+    → IsIdText id → 300000 ≤ r → ordering_then (nat_cmp (rank_of (Item id)) r) o ≡ Less
+item_before r id o text great = then_less _ r o (omega (arith, item_bounds id text))
 
-locks : (n m : Name) → IsName n → IsName m → by_rank (Lock n) (Lock m) ≡ slice_cmp nat_cmp (path_text (Lock n)) (path_text (Lock m))
-locks n m name other = by_kinds n.kind m.kind where
-  tail : (o : Ordering) → ordering_then o (slice_cmp nat_cmp n.client m.client) ≡ ordering_then o (slice_cmp nat_cmp (n.client ++ codes ".json") (m.client ++ codes ".json"))
-  tail o = ap (λ (r : Ordering). ordering_then o r) (sym (slice_cmp-append n.client m.client _ (name.client.long ∙ sym other.client.long)))
+before_item : (r : ℕ) (id : List ℕ) (o : Ordering)
+    → IsIdText id → 300000 ≤ r → ordering_then (nat_cmp r (rank_of (Item id))) o ≡ Greater
+before_item r id o text great = then_greater r _ o (omega (arith, item_bounds id text))
 
-  types : (a : ℕ) → ordering_then (nat_cmp (a + n.client_type) (a + m.client_type)) (slice_cmp nat_cmp n.client m.client) ≡ ordering_then (nat_cmp (48 + n.client_type) (48 + m.client_type)) (slice_cmp nat_cmp (n.client ++ codes ".json") (m.client ++ codes ".json"))
-  types a = ap (λ (r : Ordering). ordering_then r (slice_cmp nat_cmp n.client m.client)) (nat_cmp-add a 48 n.client_type m.client_type) ∙ tail _
+lock_behind : (n : Name) (r : ℕ) (o : Ordering)
+    → IsName n → r < 400000 → ordering_then (nat_cmp (rank_of (Lock n)) r) o ≡ Greater
+lock_behind n r o name small =
+    then_greater _ r o (omega (arith, lock_bounds n.kind n.client_type name.client_type))
 
-  by_kinds : (k l : LockKind) → by_rank (Lock (record { kind = k; client_type = n.client_type; client = n.client })) (Lock (record { kind = l; client_type = m.client_type; client = m.client })) ≡ slice_cmp nat_cmp (path_text (Lock (record { kind = k; client_type = n.client_type; client = n.client }))) (path_text (Lock (record { kind = l; client_type = m.client_type; client = m.client })))
-  by_kinds Sync Sync = types 10
-  by_kinds Sync Exclusive = then_less (10 + n.client_type) (20 + m.client_type) _ (omega (arith, name.client_type))
-  by_kinds Exclusive Sync = then_greater (20 + n.client_type) (10 + m.client_type) _ (omega (arith, other.client_type))
-  by_kinds Exclusive Exclusive = types 20
+lock_before : (n : Name) (r : ℕ) (o : Ordering)
+    → IsName n → r < 400000 → ordering_then (nat_cmp r (rank_of (Lock n))) o ≡ Less
+lock_before n r o name small =
+    then_less r _ o (omega (arith, lock_bounds n.kind n.client_type name.client_type))
+
+-- ---- two items
+
+first_two-cmp : (a b c d : ℕ) → b ≤ 102 → d ≤ 102
+    → nat_cmp (10 * (256 * a + b)) (10 * (256 * c + d)) ≡ ordering_then (nat_cmp a c) (nat_cmp b d)
+first_two-cmp a b c d small other = grind (arith, nat_tests)
+
+said_twice : (p q s : Ordering)
+    → ordering_then (ordering_then p q) (ordering_then p (ordering_then q s))
+    ≡ ordering_then p (ordering_then q s)
+said_twice Less q s = refl
+said_twice Greater q s = refl
+said_twice Equal Less s = refl
+said_twice Equal Equal s = refl
+said_twice Equal Greater s = refl
+
+items : (i j : List ℕ) → IsIdText i → IsIdText j → by_rank (Item i) (Item j) ≡ slice_cmp nat_cmp i j
+items [] j text other = absurd (omega (arith, text.long))
+items (a ∷ []) j text other = absurd (omega (arith, text.long))
+items (a ∷ b ∷ x) [] text other = absurd (omega (arith, other.long))
+items (a ∷ b ∷ x) (c ∷ []) text other = absurd (omega (arith, other.long))
+items (a ∷ b ∷ x) (c ∷ d ∷ y) text other =
+    let small = (digit_bounds b (text.digits 1 b (omega arith))).1 in
+    let less = (digit_bounds d (other.digits 1 d (omega arith))).1 in
+    let ids = slice_cmp nat_cmp (a ∷ b ∷ x) (c ∷ d ∷ y) in
+    ap (λ (o : Ordering). ordering_then o ids) (first_two-cmp a b c d small less)
+    ∙ said_twice (nat_cmp a c) (nat_cmp b d) (slice_cmp nat_cmp x y)
+
+-- ---- two locks
+
+abbrev lock_at : LockKind → ℕ → List ℕ → Path
+lock_at kind client_type client =
+    Lock (record { kind = kind; client_type = client_type; client = client })
+
+locks_by_type : (a t u : ℕ) (i j : List ℕ) → length i ≡ length j
+    → ordering_then (nat_cmp (a + t) (a + u)) (slice_cmp nat_cmp i j)
+    ≡ ordering_then (nat_cmp (48 + t) (48 + u))
+    (slice_cmp nat_cmp (i ++ codes ".json") (j ++ codes ".json"))
+locks_by_type a t u i j long =
+    let types = nat_cmp-add a 48 t u in
+    let ids = slice_cmp-append i j (codes ".json") long in
+    ap (λ (o : Ordering). ordering_then o (slice_cmp nat_cmp i j)) types
+    ∙ ap (λ (o : Ordering). ordering_then (nat_cmp (48 + t) (48 + u)) o) (sym ids)
+
+locks : (k l : LockKind) (t u : ℕ) (i j : List ℕ) → t ≤ 9 → u ≤ 9 → length i ≡ length j
+    → by_rank (lock_at k t i) (lock_at l u j)
+    ≡ slice_cmp nat_cmp (path_text (lock_at k t i)) (path_text (lock_at l u j))
+locks Sync Sync t u i j small other long = locks_by_type 400000 t u i j long
+locks Sync Exclusive t u i j small other long = then_less (400000 + t) (410000 + u) _ (omega arith)
+locks Exclusive Sync t u i j small other long =
+    then_greater (410000 + t) (400000 + u) _ (omega arith)
+locks Exclusive Exclusive t u i j small other long = locks_by_type 410000 t u i j long
+
+-- ---- paths
 
 pub path_cmp-by_rank : (p q : Path) → IsPath p → IsPath q → by_rank p q ≡ path_cmp p q
 unfolding path_cmp
 path_cmp-by_rank (Blob i) (Blob j) h k = refl
 path_cmp-by_rank (Blob i) OldVersion h k = refl
-path_cmp-by_rank (Blob i) (Item j) h k = sym (behind_point (codes "resource/" ++ i) j _ k)
+path_cmp-by_rank (Blob i) (Item j) h k =
+    item_behind 100 j _ k (omega arith) ∙ id_behind 46 (codes "resource/" ++ i) j _ (omega arith) k
 path_cmp-by_rank (Blob i) Info h k = refl
-path_cmp-by_rank (Blob i) (Lock m) h k = lock_before m 0 _ k (omega arith)
+path_cmp-by_rank (Blob i) (Lock m) h k = lock_before m 100 _ k (omega arith)
 path_cmp-by_rank (Blob i) (TempFile j) h k = refl
 path_cmp-by_rank OldVersion (Blob j) h k = refl
 path_cmp-by_rank OldVersion OldVersion h k = refl
-path_cmp-by_rank OldVersion (Item j) h k = sym (behind_point (codes "sync/version.txt") j _ k)
+path_cmp-by_rank OldVersion (Item j) h k =
+    item_behind 200 j _ k (omega arith)
+    ∙ id_behind 46 (codes "sync/version.txt") j _ (omega arith) k
 path_cmp-by_rank OldVersion Info h k = refl
-path_cmp-by_rank OldVersion (Lock m) h k = lock_before m 1 _ k (omega arith)
+path_cmp-by_rank OldVersion (Lock m) h k = lock_before m 200 _ k (omega arith)
 path_cmp-by_rank OldVersion (TempFile j) h k = refl
-path_cmp-by_rank (Item i) (Blob j) h k = sym (before_point (codes "resource/" ++ j) i _ h)
-path_cmp-by_rank (Item i) OldVersion h k = sym (before_point (codes "sync/version.txt") i _ h)
-path_cmp-by_rank (Item i) (Item j) h k = sym (slice_cmp-append i j _ (h.long ∙ sym k.long))
-path_cmp-by_rank (Item i) Info h k = sym (before_letter 105 (codes "nfo.json") i _ (omega arith) h)
-path_cmp-by_rank (Item i) (Lock m) h k = lock_before m 2 _ k (omega arith) ∙ sym (before_letter 108 (codes "ocks/" ++ file_name (Lock m)) i _ (omega arith) h)
-path_cmp-by_rank (Item i) (TempFile j) h k = sym (before_letter 116 (codes "emp/" ++ file_name (TempFile j)) i _ (omega arith) h)
+path_cmp-by_rank (Item i) (Blob j) h k =
+    behind_item 100 i _ h (omega arith) ∙ behind_id 46 (codes "resource/" ++ j) i _ (omega arith) h
+path_cmp-by_rank (Item i) OldVersion h k =
+    behind_item 200 i _ h (omega arith)
+    ∙ behind_id 46 (codes "sync/version.txt") i _ (omega arith) h
+path_cmp-by_rank (Item i) (Item j) h k =
+    items i j h k ∙ sym (slice_cmp-append i j _ (h.long ∙ sym k.long))
+path_cmp-by_rank (Item i) Info h k =
+    item_before 300000 i _ h (omega arith) ∙ id_before 105 (codes "nfo.json") i _ (omega arith) h
+path_cmp-by_rank (Item i) (Lock m) h k =
+    lock_before m (rank_of (Item i)) _ k (omega (arith, item_bounds i h))
+    ∙ id_before 108 (codes "ocks/" ++ file_name (Lock m)) i _ (omega arith) h
+path_cmp-by_rank (Item i) (TempFile j) h k =
+    item_before 500000 i _ h (omega arith)
+    ∙ id_before 116 (codes "emp/" ++ file_name (TempFile j)) i _ (omega arith) h
 path_cmp-by_rank Info (Blob j) h k = refl
 path_cmp-by_rank Info OldVersion h k = refl
-path_cmp-by_rank Info (Item j) h k = sym (behind_letter 105 (codes "nfo.json") j _ (omega arith) k)
+path_cmp-by_rank Info (Item j) h k =
+    before_item 300000 j _ k (omega arith) ∙ before_id 105 (codes "nfo.json") j _ (omega arith) k
 path_cmp-by_rank Info Info h k = refl
-path_cmp-by_rank Info (Lock m) h k = lock_before m 3 _ k (omega arith)
+path_cmp-by_rank Info (Lock m) h k = lock_before m 300000 _ k (omega arith)
 path_cmp-by_rank Info (TempFile j) h k = refl
-path_cmp-by_rank (Lock n) (Blob j) h k = lock_behind n 0 _ h (omega arith)
-path_cmp-by_rank (Lock n) OldVersion h k = lock_behind n 1 _ h (omega arith)
-path_cmp-by_rank (Lock n) (Item j) h k = lock_behind n 2 _ h (omega arith) ∙ sym (behind_letter 108 (codes "ocks/" ++ file_name (Lock n)) j _ (omega arith) k)
-path_cmp-by_rank (Lock n) Info h k = lock_behind n 3 _ h (omega arith)
-path_cmp-by_rank (Lock n) (Lock m) h k = locks n m h k
-path_cmp-by_rank (Lock n) (TempFile j) h k = then_less _ 30 _ (lock_bounds n.kind n.client_type h.client_type).1
+path_cmp-by_rank (Lock n) (Blob j) h k = lock_behind n 100 _ h (omega arith)
+path_cmp-by_rank (Lock n) OldVersion h k = lock_behind n 200 _ h (omega arith)
+path_cmp-by_rank (Lock n) (Item j) h k =
+    lock_behind n (rank_of (Item j)) _ h (omega (arith, item_bounds j k))
+    ∙ before_id 108 (codes "ocks/" ++ file_name (Lock n)) j _ (omega arith) k
+path_cmp-by_rank (Lock n) Info h k = lock_behind n 300000 _ h (omega arith)
+path_cmp-by_rank (Lock n) (Lock m) h k =
+    locks n.kind m.kind n.client_type m.client_type n.client m.client
+    h.client_type k.client_type (h.client.long ∙ sym k.client.long)
+path_cmp-by_rank (Lock n) (TempFile j) h k =
+    then_less _ 500000 _ (lock_bounds n.kind n.client_type h.client_type).1
 path_cmp-by_rank (TempFile i) (Blob j) h k = refl
 path_cmp-by_rank (TempFile i) OldVersion h k = refl
-path_cmp-by_rank (TempFile i) (Item j) h k = sym (behind_letter 116 (codes "emp/" ++ file_name (TempFile i)) j _ (omega arith) k)
+path_cmp-by_rank (TempFile i) (Item j) h k =
+    before_item 500000 j _ k (omega arith)
+    ∙ before_id 116 (codes "emp/" ++ file_name (TempFile i)) j _ (omega arith) k
 path_cmp-by_rank (TempFile i) Info h k = refl
-path_cmp-by_rank (TempFile i) (Lock m) h k = then_greater 30 _ _ (lock_bounds m.kind m.client_type k.client_type).1
+path_cmp-by_rank (TempFile i) (Lock m) h k =
+    then_greater 500000 _ _ (lock_bounds m.kind m.client_type k.client_type).1
 path_cmp-by_rank (TempFile i) (TempFile j) h k = sym (slice_cmp-append i j _ (h.long ∙ sym k.long))

@@ -22,4 +22,5 @@ kind_digit Exclusive = 50
 
 -- the name of a lock's file: `<type>_<clientType>_<clientId>.json`
 abbrev pub file_name : Name → List ℕ
-file_name name = kind_digit name.kind ∷ 95 ∷ (48 + name.client_type) ∷ 95 ∷ (name.client ++ codes ".json")
+file_name name =
+    kind_digit name.kind ∷ 95 ∷ (48 + name.client_type) ∷ 95 ∷ (name.client ++ codes ".json")

@@ -3,6 +3,7 @@ ghost use Rattle.jop_base.specs.Paths.{dir_text};
 
 use crate::text::Text;
 use std::alloc::{AllocError, Global};
+use std::fmt;
 
 /// A folder of a target.
 #[derive(Clone, Copy, Debug, PartialEq, Eq, PartialOrd, Ord)]
@@ -33,5 +34,18 @@ impl Dir {
         ensures { IfOk result (λ text. text ≡ dir_text self.now) }
     {
         Text::of(alloc, self.as_str())
+    }
+}
+
+impl fmt::Display for Dir {
+    ghost use Rattle.std.specs.Prelude.{Some};
+    ghost use Rattle.std.specs.Fmt.{padded};
+
+    ghost output = { λ dir. Some (dir_text dir) };
+
+    ghost styled_output = { λ dir spec. Some (padded spec (dir_text dir)) };
+
+    fn fmt<W: fmt::Write>(&self, f: &mut fmt::Formatter<W>) -> fmt::Result {
+        f.pad(self.as_str())
     }
 }

@@ -1,6 +1,10 @@
-ghost use Rattle.std.specs.Prelude.{◌≡◌, ◌+◌, ◌%◌, ◌^◌, ◌↔◌, IfSome, IfNone, IsTrue, true};
+ghost use Rattle.std.specs.Prelude.{◌≡◌, ◌+◌, ◌%◌, ◌^◌, ◌<◌, ◌↔◌, IfSome, IfNone, IsTrue, true};
+ghost use Rattle.jop_base.specs.Order.{first_two};
 ghost use Rattle.jop_base.specs.Id.{IsIdText, is_digit, AreDigits, number_of, digit_after};
 
+use crate::copied::Copied;
+use std::alloc::{AllocError, Global};
+use std::fmt;
 use std::marker::Model;
 
 /// 32 lower-case hexadecimal digits. Their order is that of the digits.
@@ -43,7 +47,7 @@ fn are_digits(text: &[u8]) -> bool
 }
 
 impl Id {
-    /// The id that a text spells. None exactly where the text isn't 32 bytes, each `0` to `9` or `a` to `f`.
+    /// The id that a text spells. None exactly if it isn't 32 bytes, each `0` to `9` or `a` to `f`.
     pub fn read(text: &[u8]) -> Option<Id>
         ensures some { IfSome result (λ id. (id ≡ text.now) × IsIdText text.now) }
         ensures none { IfNone result (¬ IsIdText text.now) }
@@ -57,6 +61,13 @@ impl Id {
         } else {
             None
         }
+    }
+
+    /// Does nothing. A contract learns from it that the digits are digits.
+    pub fn prove_valid(&self)
+        ensures { IsIdText self.now }
+    {
+        let _ = &self.digits;
     }
 
     pub fn digits(&self) -> [u8; 32]
@@ -75,6 +86,14 @@ impl Id {
             Ok(text) => text,
             Err(_) => unreachable!(),
         }
+    }
+
+    /// The first two digits, as a number of two bytes.
+    pub(crate) fn first_two(&self) -> u32
+        ensures two { result ≡ first_two self.now }
+        ensures small { result < 2 ^ 16 }
+    {
+        256 * u32::from(self.digits[0]) + u32::from(self.digits[1])
     }
 
     /// The next number, and 0 after the greatest.
@@ -103,5 +122,24 @@ fn digit_after(digit: u8) -> u8
         b'9' => b'a',
         b'f' => b'0',
         _ => digit + 1,
+    }
+}
+
+impl Copied for Id {
+    fn copy(&self, _alloc: Global) -> Result<Id, AllocError> {
+        Ok(*self)
+    }
+}
+
+impl fmt::Display for Id {
+    ghost use Rattle.std.specs.Prelude.{Some};
+    ghost use Rattle.std.specs.Fmt.{padded};
+
+    ghost output = { λ id. Some id };
+
+    ghost styled_output = { λ id spec. Some (padded spec id) };
+
+    fn fmt<W: fmt::Write>(&self, f: &mut fmt::Formatter<W>) -> fmt::Result {
+        f.pad(self.as_str())
     }
 }

@@ -6,6 +6,7 @@ use crate::id::{ClientId, Id};
 use crate::path_name::before;
 use crate::text::Text;
 use std::alloc::{AllocError, Global};
+use std::fmt;
 use std::marker::Model;
 
 /// Which lock it is: that of a client that synchronises, or that of one that changes the whole target.
@@ -75,7 +76,7 @@ impl LockName {
         Ok(text)
     }
 
-    /// The lock whose file has this name. None exactly where no lock's has.
+    /// The lock whose file has this name. None exactly if no lock's has.
     pub fn read(text: &[u8]) -> Option<LockName>
         ensures some { IfSome result (λ name. (file_name name ≡ text.now) × IsName name) }
         ensures none { IfNone result ((name : Name) → IsName name → ¬ (file_name name ≡ text.now)) }
@@ -93,14 +94,12 @@ impl LockName {
         })
     }
 
-    /// A client type has one digit, and the client's id is an id.
-    pub(crate) fn client(&self) -> ClientId
-        ensures client { result ≡ self.now.client }
-        ensures name { IsName self.now }
+    /// Does nothing. A contract learns from it that the client type has one digit, and that the client's id is one.
+    pub fn prove_valid(&self)
+        ensures { IsName self.now }
     {
-        let _ = self.client.digits();
-        let _ = self.client_type;
-        self.client
+        let _ = &self.client_type;
+        self.client.prove_valid();
     }
 }
 
@@ -112,5 +111,21 @@ fn digit_value(digit: u8) -> Option<u8>
     match digit {
         b'0'..=b'9' => Some(digit - b'0'),
         _ => None,
+    }
+}
+
+impl fmt::Display for LockName {
+    ghost use Rattle.std.specs.Prelude.{Some};
+    ghost use Rattle.jop_base.specs.LockNames.{file_name};
+
+    ghost output = { λ name. Some (file_name name) };
+
+    fn fmt<W: fmt::Write>(&self, f: &mut fmt::Formatter<W>) -> fmt::Result {
+        f.write_char(char::from(self.kind.digit()))?;
+        f.write_char('_')?;
+        f.write_char(char::from(b'0' + self.client_type))?;
+        f.write_char('_')?;
+        f.write_str(self.client.as_str())?;
+        f.write_str(".json")
     }
 }

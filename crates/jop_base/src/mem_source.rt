@@ -1,9 +1,10 @@
-ghost use Rattle.std.specs.Prelude.{◌≡◌, ◌++◌, [], ◌∷◌, ◌≤◌, OnOk, OnErr, IfOk, None, false, length, min};
+ghost use Rattle.std.specs.Prelude.{◌≡◌, [], ◌≤◌, OnOk, OnErr, IfOk, IsSome, None, false, length, min};
 ghost use Rattle.jop_base.specs.Outside.{HasCause, Reads};
-ghost use Rattle.jop_base.specs.Plan.{after_call, next_fate};
+ghost use Rattle.jop_base.specs.Plan.{after_call, next_fate, with_failing};
 
 use crate::bytes::Bytes;
 use crate::failed::Failed;
+use crate::faults::Faults;
 use crate::plan::Plan;
 use crate::source::Source;
 use crate::unread::Unread;
@@ -13,7 +14,7 @@ use std::alloc::{AllocError, Global};
 #[derive(Debug, Drop)]
 pub struct MemSource {
     pub left: Unread,
-    pub faults: u64,
+    pub faults: Faults,
     pub plan: Plan,
 }
 
@@ -26,14 +27,15 @@ impl MemSource {
     {
         MemSource {
             left: Unread::of(bytes),
-            faults: 0,
+            faults: Faults::new(),
             plan: Plan::new(alloc),
         }
     }
 
     /// The call of this number, counted from 1 at the first, answers `Failed` and reads nothing.
     pub fn fail(&mut self, nth: u64) -> Result<(), AllocError>
-        ensures ok { OnOk result (self.new ≡ record self.old { plan = record self.old.plan { failing = self.old.plan.failing ++ (nth, false) ∷ [] } }) }
+        ensures ok { OnOk result
+            (self.new ≡ record self.old { plan = with_failing self.old.plan nth false }) }
         ensures err { OnErr result (self.new ≡ self.old) }
     {
         self.plan.fail(nth, false)
@@ -43,9 +45,7 @@ impl MemSource {
 impl Source for MemSource {
     ghost use Rattle.std.specs.Prelude.{Some};
 
-    ghost faults = { λ s. s.faults };
-
-    ghost left = { λ s. Some s.left };
+    ghost state = { λ s. record { left = Some s.left; faults = s.faults } };
 
     fn read(&mut self, into: &mut [u8]) -> Result<usize, Failed>
         ensures within { IfOk result (λ count. count ≤ length into.old) }
@@ -54,13 +54,13 @@ impl Source for MemSource {
         ensures cause { HasCause self.old.faults result self.new.faults }
         ensures whole { IfOk result (λ count. count ≡ min (length into.old) (length self.old.left)) }
         ensures planned { OnOk result (next_fate self.old.plan ≡ None) }
-        ensures failed { OnErr result (¬ (next_fate self.old.plan ≡ None)) }
+        ensures failed { OnErr result (IsSome (next_fate self.old.plan)) }
         ensures counted { self.new.plan ≡ after_call self.old.plan }
     {
         let fate = self.plan.fate();
         self.plan.count_call();
         if fate.is_some() {
-            self.faults = self.faults.saturating_add(1);
+            self.faults.rise();
             return Err(Failed);
         }
         Ok(self.left.give(into))

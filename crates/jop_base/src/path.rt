@@ -7,6 +7,7 @@ use crate::id::Id;
 use crate::lock_name::LockName;
 use crate::text::Text;
 use std::alloc::{AllocError, Global};
+use std::fmt;
 
 /// A file of a target.
 #[derive(Clone, Copy, Debug, PartialEq, Eq)]
@@ -42,13 +43,22 @@ impl Path {
         ensures id { result ≡ id_of self.now }
         ensures path { IsPath self.now }
     {
+        self.prove_valid();
         match self {
             Path::Info | Path::OldVersion => None,
-            Path::Item(id) | Path::Blob(id) | Path::Temp(id) => {
-                let _ = id.digits();
-                Some(*id)
-            }
-            Path::Lock(name) => Some(name.client()),
+            Path::Item(id) | Path::Blob(id) | Path::Temp(id) => Some(*id),
+            Path::Lock(name) => Some(name.client),
+        }
+    }
+
+    /// Does nothing. A contract learns from it that the ids of a path are ids.
+    pub fn prove_valid(&self)
+        ensures { IsPath self.now }
+    {
+        match self {
+            Path::Info | Path::OldVersion => {}
+            Path::Item(id) | Path::Blob(id) | Path::Temp(id) => id.prove_valid(),
+            Path::Lock(name) => name.prove_valid(),
         }
     }
 
@@ -102,5 +112,23 @@ fn joined(alloc: Global, start: &str, end: &str) -> Result<Text, AllocError>
 impl Copied for Path {
     fn copy(&self, _alloc: Global) -> Result<Path, AllocError> {
         Ok(*self)
+    }
+}
+
+impl fmt::Display for Path {
+    ghost use Rattle.std.specs.Prelude.{Some};
+    ghost use Rattle.jop_base.specs.Paths.{path_text};
+
+    ghost output = { λ path. Some (path_text path) };
+
+    fn fmt<W: fmt::Write>(&self, f: &mut fmt::Formatter<W>) -> fmt::Result {
+        match self {
+            Path::Info => f.write_str("info.json"),
+            Path::OldVersion => f.write_str(".sync/version.txt"),
+            Path::Item(id) => write!(f, "{id}.md"),
+            Path::Blob(id) => write!(f, ".resource/{id}"),
+            Path::Lock(name) => write!(f, "locks/{name}"),
+            Path::Temp(id) => write!(f, "temp/{id}.tmp"),
+        }
     }
 }

@@ -8,7 +8,7 @@ use crate::lock_name::LockName;
 use crate::path::Path;
 
 impl Path {
-    /// The file that has this name in that folder. None exactly where no file has.
+    /// The file that has this name in that folder. None exactly if no file has.
     pub fn read(dir: Dir, name: &[u8]) -> Option<Path>
         ensures some { IfSome result (λ path. IsNamed path dir name.now × IsPath path) }
         ensures none { IfNone result ((path : Path) → IsPath path → ¬ IsNamed path dir name.now) }
@@ -44,7 +44,7 @@ fn read_old(name: &[u8]) -> Option<Path>
     }
 }
 
-/// What stands before the ending of a name, where it has that ending.
+/// What stands before the ending of a name, if it has that ending.
 pub(crate) fn before<'a>(name: &'a [u8], ending: &[u8]) -> Option<&'a [u8]>
     ensures some { IfSome result (λ start. start.now ++ ending.now ≡ name.now) }
     ensures none { IfNone result ((start : List ℕ) → ¬ (start ++ ending.now ≡ name.now)) }

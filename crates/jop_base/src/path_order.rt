@@ -19,18 +19,18 @@ impl Path {
 }
 
 /// Where a path stands among those that differ in more than an id.
-fn rank(path: &Path) -> u8
+fn rank(path: &Path) -> u32
     ensures { result ≡ rank_of path.now }
 {
     match path {
-        Path::Blob(_) => 0,
-        Path::OldVersion => 1,
-        Path::Item(_) => 2,
-        Path::Info => 3,
+        Path::Blob(_) => 100,
+        Path::OldVersion => 200,
+        Path::Item(id) => 10 * id.first_two(),
+        Path::Info => 300_000,
         Path::Lock(name) => match name.kind {
-            LockKind::Sync => 10 + name.client_type,
-            LockKind::Exclusive => 20 + name.client_type,
+            LockKind::Sync => 400_000 + u32::from(name.client_type),
+            LockKind::Exclusive => 410_000 + u32::from(name.client_type),
         },
-        Path::Temp(_) => 30,
+        Path::Temp(_) => 500_000,
     }
 }

@@ -1,5 +1,5 @@
-ghost use Rattle.std.specs.Prelude.{◌≡◌, ◌++◌, [], ◌∷◌, OnOk, OnErr};
-ghost use Rattle.jop_base.specs.Plan.{after_call, next_fate, fate_of};
+ghost use Rattle.std.specs.Prelude.{◌≡◌, [], OnOk, OnErr};
+ghost use Rattle.jop_base.specs.Plan.{after_call, next_fate, fate_of, with_failing};
 
 use std::alloc::{AllocError, Global};
 use std::marker::Model;
@@ -30,17 +30,17 @@ impl Plan {
         }
     }
 
-    /// The call of this number, from the first, is to fail, and whether it lands all the same. Where a number is given
-    /// twice the earlier word counts, and the number of a call that was made changes nothing.
+    /// The call of this number, from the first, is to fail, and whether it lands all the same. If a number is given
+    /// twice, the earlier word counts, and the number of a call that was made changes nothing.
     pub fn fail(&mut self, nth: u64, landed: bool) -> Result<(), AllocError>
-        ensures ok { OnOk result (self.new ≡ record self.old { failing = self.old.failing ++ (nth, landed) ∷ [] }) }
+        ensures ok { OnOk result (self.new ≡ with_failing self.old nth landed) }
         ensures err { OnErr result (self.new ≡ self.old) }
     {
         self.failing.push((nth, landed))?;
         Ok(())
     }
 
-    /// What is planned for the next call: None where it goes well, and else whether it lands though it fails.
+    /// What is planned for the next call: None if it goes well, and else whether it lands though it fails.
     pub fn fate(&self) -> Option<bool>
         ensures { result ≡ next_fate self.now }
     {

@@ -1,7 +1,10 @@
-ghost use Rattle.std.specs.Prelude.{◌≡◌, ◌++◌, [], ◌∷◌, ◌<◌, ◌≤◌, ◌↔◌, IfOk, OnOk, OnErr, IsTrue, length, slice_index_or, slice_set};
+ghost use Rattle.std.specs.Prelude.{◌≡◌, ◌++◌, [], ◌∷◌, ◌<◌, ◌≤◌, ◌↔◌, IfOk, OnOk, OnErr, IsTrue, length, slice_index_or, slice_set, take};
 ghost use Rattle.std.specs.List.{insert, remove};
+ghost use Rattle.std.specs.Option.{option_copied};
+ghost use Rattle.jop_base.specs.Keyed.{at, put, cut};
 
 use crate::copied::Copied;
+use crate::keyed::{self, Keyed};
 use std::alloc::{AllocError, Global};
 use std::marker::Model;
 
@@ -96,6 +99,58 @@ impl<T: Drop> Seq<T> {
     {
         self.items.remove(place)
     }
+
+    /// Keeps so many items, the first ones.
+    pub fn truncate(&mut self, len: usize)
+        ensures { self.new ≡ take len self.old }
+    {
+        self.items.truncate(len);
+    }
+}
+
+impl<T: Keyed> Seq<T> {
+    /// The first item of a key. It takes time linear in the items, as `put` and `cut` do.
+    pub fn at(&self, key: &T::Key) -> Option<&T>
+        ensures { option_copied result ≡ at T.key self.now (T.Key.text key.now) }
+    {
+        keyed::find(self.items.as_slice(), key)
+    }
+
+    /// Puts an item in place of the first of its key, or else before the first whose key is greater, or at the end.
+    pub fn put(&mut self, item: T) -> Result<(), AllocError>
+        ensures ok { OnOk result (self.new ≡ put T.key self.old item) }
+        ensures err { OnErr result (self.new ≡ self.old) }
+    {
+        self.items.reserve(1)?;
+        keyed::put(&mut self.items, item);
+        Ok(())
+    }
+
+    /// Puts an item here and another one there, or neither.
+    pub fn put_both<U: Keyed>(
+        &mut self,
+        item: T,
+        others: &mut Seq<U>,
+        other: U,
+    ) -> Result<(), AllocError>
+        ensures ok { OnOk result
+            ((self.new ≡ put T.key self.old item) × (others.new ≡ put U.key others.old other)) }
+        ensures err { OnErr result ((self.new ≡ self.old) × (others.new ≡ others.old)) }
+    {
+        self.items.reserve(1)?;
+        others.items.reserve(1)?;
+        keyed::put(&mut self.items, item);
+        keyed::put(&mut others.items, other);
+        Ok(())
+    }
+
+    /// Takes the first item of a key out.
+    pub fn cut(&mut self, key: &T::Key) -> Option<T>
+        ensures item { result ≡ at T.key self.old (T.Key.text key.now) }
+        ensures rest { self.new ≡ cut T.key self.old (T.Key.text key.now) }
+    {
+        keyed::cut(&mut self.items, key)
+    }
 }
 
 impl<T: Copied> Copied for Seq<T> {
@@ -106,4 +161,25 @@ impl<T: Copied> Copied for Seq<T> {
         }
         Ok(Seq { items })
     }
+}
+
+impl<T: PartialEq> PartialEq for Seq<T> {
+    ghost use Rattle.std.specs.Cmp.Lexicographic.{pointwise};
+    ghost use Rattle.std.proofs.Common.{rules};
+    ghost use Rattle.std.specs.Cmp.Rules.{comparing};
+
+    ghost eq = { pointwise T.eq };
+
+    ghost laws = { Prim.search (comparing, rules) };
+
+    fn eq(&self, other: &Seq<T>) -> bool {
+        self.items == other.items
+    }
+}
+
+impl<T: Eq> Eq for Seq<T> {
+    ghost use Rattle.std.proofs.Common.{rules};
+    ghost use Rattle.std.specs.Cmp.Rules.{comparing};
+
+    ghost laws = { Prim.search (comparing, rules) };
 }

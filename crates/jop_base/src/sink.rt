@@ -1,21 +1,18 @@
-ghost use Rattle.std.specs.Prelude.{◌<◌, ◌≤◌, ℕ, List, Option, IfOk, length};
-ghost use Rattle.jop_base.specs.Outside.{HasCause, Writes};
+ghost use Rattle.std.specs.Prelude.{◌<◌, ◌≤◌, IfOk, length};
+ghost use Rattle.jop_base.specs.Outside.{SinkNow, HasCause, Writes};
 
 use crate::failed::Failed;
 
 /// What takes bytes: standard output, a file, a list in memory.
 pub trait Sink {
-    /// How often it has failed. At 2^64 - 1 it stays.
-    ghost faults: { Self → ℕ };
+    /// What was written to it, and how often it has failed.
+    ghost state: { Self → SinkNow };
 
-    /// All that was written, where it tells.
-    ghost written: { Self → Option (List ℕ) };
-
-    /// Takes a piece from the front of these bytes, and answers how long that piece is: at least one byte where there
-    /// is one. After `Failed` nothing of them was written.
+    /// Takes a piece from the start of these bytes, and answers how long that piece is: at least one byte if there is
+    /// one. After `Failed` nothing of them was written.
     fn write(&mut self, from: &[u8]) -> Result<usize, Failed>
         ensures within { IfOk result (λ count. count ≤ length from.now) }
         ensures progress { IfOk result (λ count. 0 < length from.now → 0 < count) }
-        ensures written { Writes (written self.old) from.now result (written self.new) }
-        ensures cause { HasCause (faults self.old) result (faults self.new) };
+        ensures written { Writes (state self.old).written from.now result (state self.new).written }
+        ensures cause { HasCause (state self.old).faults result (state self.new).faults };
 }

@@ -5,6 +5,7 @@ ghost use Rattle.std.specs.Str.{IsUtf8};
 use crate::bytes::Bytes;
 use crate::copied::Copied;
 use std::alloc::{AllocError, Global};
+use std::fmt;
 use std::marker::Model;
 
 /// A list of bytes that is UTF-8.
@@ -48,9 +49,10 @@ impl Text {
         })
     }
 
-    /// The text of these bytes. None exactly where they aren't UTF-8.
+    /// The text of these bytes. None exactly if they aren't UTF-8.
     pub fn read(alloc: Global, bytes: &[u8]) -> Result<Option<Text>, AllocError>
-        ensures { IfOk result (λ read. MatchOption read (¬ IsUtf8 bytes.now) (λ text. (text ≡ bytes.now) × IsUtf8 bytes.now)) }
+        ensures { IfOk result (λ read. MatchOption read
+            (¬ IsUtf8 bytes.now) (λ text. (text ≡ bytes.now) × IsUtf8 bytes.now)) }
     {
         match std::str::from_utf8(bytes) {
             Ok(letters) => Ok(Some(Text::of(alloc, letters)?)),
@@ -111,5 +113,39 @@ impl Text {
 impl Copied for Text {
     fn copy(&self, alloc: Global) -> Result<Text, AllocError> {
         Text::of(alloc, self.letters.as_str())
+    }
+}
+
+impl PartialEq for Text {
+    ghost use Rattle.std.specs.Prelude.{bytes_eq};
+    ghost use Rattle.std.proofs.Common.{rules};
+    ghost use Rattle.std.specs.Cmp.Rules.{comparing};
+
+    ghost eq = { bytes_eq };
+
+    ghost laws = { Prim.search (comparing, rules) };
+
+    fn eq(&self, other: &Text) -> bool {
+        self.as_slice() == other.as_slice()
+    }
+}
+
+impl Eq for Text {
+    ghost use Rattle.std.proofs.Common.{rules};
+    ghost use Rattle.std.specs.Cmp.Rules.{comparing};
+
+    ghost laws = { Prim.search (comparing, rules) };
+}
+
+impl fmt::Display for Text {
+    ghost use Rattle.std.specs.Prelude.{Some};
+    ghost use Rattle.std.specs.Fmt.{padded};
+
+    ghost output = { λ text. Some text };
+
+    ghost styled_output = { λ text spec. Some (padded spec text) };
+
+    fn fmt<W: fmt::Write>(&self, f: &mut fmt::Formatter<W>) -> fmt::Result {
+        f.pad(self.as_str())
     }
 }

@@ -34,7 +34,7 @@ impl Unread {
         &self.bytes.as_slice()[self.place..]
     }
 
-    /// Moves bytes to the front of a slice, as many as fit, and answers how many.
+    /// Moves bytes to the start of a slice, as many as fit, and answers how many.
     pub fn give(&mut self, into: &mut [u8]) -> usize
         ensures count { result ≡ min (length into.old) (length self.old) }
         ensures given { into.new ≡ take result self.old ++ drop result into.old }

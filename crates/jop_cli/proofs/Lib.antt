@@ -1,8 +1,5 @@
-pub mod Causes
-pub mod Exact
-pub mod Histories
-pub mod Meaning
-pub mod Printed
-pub mod Reading
-pub mod Sessions
-pub mod Written
+mod Checks
+mod Ids
+mod Runs
+mod Three
+mod Tidied

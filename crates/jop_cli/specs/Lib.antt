@@ -1,6 +1,6 @@
-pub mod Check
-pub mod Input
-pub mod Output
+pub mod Commands
+pub mod Outside
+pub mod Pieces
 pub mod Run
-pub mod Tidy
+pub mod Statuses
 pub mod Words

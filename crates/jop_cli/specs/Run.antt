@@ -1,133 +1,184 @@
 -- What a run of the program comes to.
-use Rattle.std.specs.Prelude.{ℕ, ◌≤◌, ◌≡◌, ◌⊎◌, List, [], ◌∷◌, ◌++◌, codes, Option, Result, Ok, Err, true}
-use Rattle.jop_base.specs.Outside.{HasRisen}
+use Rattle.std.specs.Prelude.{ℕ, ◌+◌, ◌≤◌, ◌≡◌, ◌⊎◌, List, [], ◌∷◌, ◌++◌, true, false}
+use Rattle.std.specs.Prelude.{Option, Some, None, Ok, Err}
+use Rattle.jop_base.specs.Outside.{HasRisen, SinkNow, SourceNow}
+use Rattle.jop_base.specs.Reading.{IsRestOf, WasTooLarge}
+use Rattle.jop_base.specs.Writing.{WasCut, WasWritten}
+use Rattle.jop_base.specs.declared.lock_name.LockKind.{LockKind}
 use Rattle.jop_target.specs.declared.event.Event.{Event}
+use Rattle.jop_target.specs.declared.event.Event.TheVariants.{Began, Ended}
 use Rattle.jop_target.specs.Runs.{TellsRun, has_failed}
-use Rattle.jop_target.specs.Store.{Store}
-use Rattle.jop_cli.specs.Check.{IsStarved, IsWhole}
-use Rattle.jop_cli.specs.Input.{InputNow, IsReadOf}
-use Rattle.jop_cli.specs.Output.{Holds, IsCut, line_of, usage_line}
-use Rattle.jop_cli.specs.Tidy.{CanBeTidied, IsTidied, TidiesOut}
-use Rattle.jop_cli.specs.Words.{IsMeaningless, MeansCheck, MeansTidy, MeansVerb}
-use Rattle.jop_cli.specs.declared.command.TargetName.{TargetName}
+use Rattle.jop_target.specs.Replies.{TargetNow}
+use Rattle.jop_cli.specs.Commands.{ComesTo, Outcome, Session, Uses, used}
+use Rattle.jop_cli.specs.Commands.Tidy.{IsFaulty, StandsFor, IsAnswerTo}
+use Rattle.jop_cli.specs.Outside.{Outside}
+use Rattle.jop_cli.specs.Statuses.{is_early, is_refusal, row_of}
+use Rattle.jop_cli.specs.declared.command.Command.{Command}
 use Rattle.jop_cli.specs.declared.command.Verb.{Verb}
-use Rattle.jop_cli.specs.declared.command.Verb.TheVariants.{Help, Check, Tidy}
-use Rattle.jop_cli.specs.declared.session_err.SessionErr.{SessionErr}
-use Rattle.jop_cli.specs.declared.session_err.SessionErr.TheVariants.{Busy as IsBusy, LeaseLost as HasLost, TargetFault as HasFault}
+use Rattle.jop_cli.specs.declared.command.Verb.TheVariants as verbs
 use Rattle.jop_cli.specs.declared.status.Status.{Status}
-use Rattle.jop_cli.specs.declared.status.Status.TheVariants.{Ok as WentWell, Usage, Busy, LeaseLost, TargetFault, SourceFault, SinkFault, TooLarge, BadItem as IsBadItem, NoMemory}
+use Rattle.jop_cli.specs.declared.status.Status.TheVariants as statuses
+use Rattle.lease.specs.Outcomes.{HasMissed, IsBlocked}
+use Rattle.lease.specs.Phase.{Phase}
 use Rattle.lease.specs.declared.error.Seen.{Seen}
 use Rattle.lease.specs.declared.lock.Lock.{Lock}
 
--- the words mean a check for this client
-abbrev pub ChecksFor : List (List ℕ) → List ℕ → Type 0
-ChecksFor words client = (target : TargetName) × MeansCheck words target client
+-- ---- what is done
 
--- ---- the trail, which was empty
+-- The text of an outcome is printed whole; or the output has failed, and a prefix of it is printed.
+-- Of a refusal nothing is printed.
+abbrev pub Emits : Outcome → SinkNow → Status → SinkNow → Type 0
+Emits (Ok text) before status after =
+    ((status ≡ statuses.Ok) × WasWritten before text after)
+    ⊎ ((status ≡ statuses.SinkFault) × WasCut before text after)
+Emits (Err error) before status after =
+    (status ≡ error) × (is_early error ≡ true) × (after ≡ before)
 
--- the words mean a check, and the trail is its one session, which has come to this
-abbrev pub HasRun : List (List ℕ) → List Event → Result (Unit {0}) SessionErr → Type 0
-HasRun words trail result = (client : List ℕ) × ChecksFor words client × IsWhole client [] trail result
+-- a command came to something, and that was printed
+pub record Obeys (verb : Verb) (before : Outside) (trail : List Event) (status : Status)
+    (after : Outside) : Type 0 where
+  pub outcome : Outcome
+  pub comes : ComesTo verb before trail outcome after
+  pub emits : Emits outcome before.out status after.out
 
--- Memory was wanting before a call was made, as at any point of `tidy`; or in a check's session, or for the line that
--- names a lock in its way.
-abbrev pub LacksMemory : List (List ℕ) → List Event → Type 0
-LacksMemory words trail = (trail ≡ []) ⊎ (((client : List ℕ) × ChecksFor words client × IsStarved client [] trail) ⊎ ((lock : Lock) × (now : ℕ) × HasRun words trail (Err (IsBusy lock now))))
+-- no call was made, and all is as it was
+pub record IsIdle (before : Outside) (trail : List Event) (after : Outside) : Type 0 where
+  pub uncalled : trail ≡ []
+  pub same : after ≡ before
 
--- the trail is the one session of a check for this client, by how the run ended
-abbrev pub ChecksOut : List ℕ → List Event → Status → Type 0
-ChecksOut client trail WentWell = IsWhole client [] trail (Ok tt)
-ChecksOut client trail SinkFault = IsWhole client [] trail (Ok tt)
-ChecksOut client trail (Busy lock now) = IsWhole client [] trail (Err (IsBusy lock now))
-ChecksOut client trail (LeaseLost seen) = IsWhole client [] trail (Err (HasLost seen))
-ChecksOut client trail TargetFault = IsWhole client [] trail (Err HasFault)
-ChecksOut client trail NoMemory = IsStarved client [] trail
-ChecksOut client trail Usage = ⊥
-ChecksOut client trail SourceFault = ⊥
-ChecksOut client trail (TooLarge len) = ⊥
-ChecksOut client trail (IsBadItem bad) = ⊥
+-- Words that mean nothing do nothing; those of a command are obeyed, unless there is no memory to
+-- read them.
+abbrev pub Answers : Option Command → Outside → List Event → Status → Outside → Type 0
+Answers None before trail status after =
+    ((status ≡ statuses.Usage) ⊎ (status ≡ statuses.NoMemory)) × IsIdle before trail after
+Answers (Some command) before trail status after =
+    ((status ≡ statuses.NoMemory) × IsIdle before trail after)
+    ⊎ Obeys command.verb before trail status after
+
+-- ---- what is left alone
+
+-- no more than the limit and a byte was read, and the count of faults didn't fall
+pub record IsReadOf (limit : ℕ) (before after : SourceNow) : Type 0 where
+  pub later : before.faults ≤ after.faults
+  pub rest : IsRestOf limit before.left after.left
+
+-- an input that isn't used is as it was; of any other no more than its limit and a byte was read
+abbrev pub LeavesInput : Option ℕ → SourceNow → SourceNow → Type 0
+LeavesInput None before after = after ≡ before
+LeavesInput (Some limit) before after = IsReadOf limit before after
+
+-- without a session no call is made, and the target is as it was
+abbrev pub LeavesTarget : Option Session → TargetNow → List Event → TargetNow → Type 0
+LeavesTarget None before trail after = (trail ≡ []) × (after ≡ before)
+LeavesTarget (Some session) before trail after = Unit {0}
+
+pub record LeavesAlone (uses : Uses) (before : Outside) (trail : List Event) (after : Outside)
+    : Type 0 where
+  pub input : LeavesInput uses.input before.input after.input
+  pub target : LeavesTarget uses.session before.target trail after.target
+
+-- The calls of the trail, and no others, were made on this target; its count has risen if one failed,
+-- and stays if none did.
+pub record UsesTarget (before : TargetNow) (trail : List Event) (after : TargetNow) : Type 0 where
+  pub later : before.faults ≤ after.faults
+  pub fault : has_failed trail ≡ true → HasRisen before.faults after.faults
+  pub stays : has_failed trail ≡ false → after.faults ≡ before.faults
+  pub told : TellsRun before.store trail after.store
+
+-- ---- sessions
+
+-- the command begins a session of this kind, for this client
+abbrev pub SessionFor : Option Command → LockKind → List ℕ → Type 0
+SessionFor command kind client =
+    (used command).session ≡ Some (record { kind = kind; client = client })
+
+-- the trail is one session, whose last answer told of a lock in its way
+pub record WasBlocked (command : Option Command) (trail : List Event) (lock : Lock) (now : ℕ)
+    : Type 0 where
+  pub kind : LockKind
+  pub client : List ℕ
+  pub for : SessionFor command kind client
+  pub calls : List Event
+  pub whole : trail ≡ Began ∷ (calls ++ Ended ∷ [])
+  pub blocked : IsBlocked kind client (Began ∷ calls) lock now
+
+-- the trail is one session, whose lock wasn't shown in time
+pub record HasLost (command : Option Command) (trail : List Event) (seen : Seen) : Type 0 where
+  pub kind : LockKind
+  pub client : List ℕ
+  pub for : SessionFor command kind client
+  pub calls : List Event
+  pub whole : trail ≡ Began ∷ (calls ++ Ended ∷ [])
+  pub at : Phase
+  pub missed : HasMissed kind client at (Began ∷ calls) seen
 
 -- ---- why it ends so
 
--- what each command comes to, by how the run ended
-abbrev pub ComesTo : Verb → InputNow → List Event → Status → InputNow → Type 0
-ComesTo Help old trail status new = (status ≡ WentWell) ⊎ (status ≡ SinkFault)
-ComesTo (Check target client) old trail status new = ChecksOut client trail status
-ComesTo Tidy old trail status new = TidiesOut old status new
+-- a call was answered `Failed`, and the target's count rose
+abbrev pub HasFailed : TargetNow → List Event → TargetNow → Type 0
+HasFailed before trail after = (has_failed trail ≡ true) × HasRisen before.faults after.faults
 
--- each status, by its cause
-abbrev pub Answers : List (List ℕ) → InputNow → List Event → Status → InputNow → Type 0
-Answers words old trail Usage new = IsMeaningless words × (trail ≡ [])
-Answers words old trail NoMemory new = LacksMemory words trail
-Answers words old trail status new = (verb : Verb) × MeansVerb words verb × ComesTo verb old trail status new
+-- the command reads the input, which is past its limit; the number is the limit and one
+pub record IsTooLong (command : Option Command) (before : SourceNow) (number : ℕ) (after : SourceNow)
+    : Type 0 where
+  pub limit : ℕ
+  pub uses : (used command).input ≡ Some limit
+  pub past : WasTooLarge limit before after
+  pub is : number ≡ limit + 1
 
--- No count rose, and neither the words nor the trail nor the input is a cause for another answer.
-pub record HasNoCause (words : List (List ℕ)) (old : InputNow) (trail : List Event) (new : InputNow) (faults risen out_faults out_risen : ℕ) : Type 0 where
-  pub means : ¬ IsMeaningless words
-  pub unblocked : (lock : Lock) (now : ℕ) → ¬ HasRun words trail (Err (IsBusy lock now))
-  pub unmissed : (seen : Seen) → ¬ HasRun words trail (Err (HasLost seen))
-  pub tidiable : MeansTidy words → CanBeTidied old
-  pub sound : ¬ HasRisen faults risen
-  pub readable : ¬ HasRisen old.faults new.faults
-  pub writable : ¬ HasRisen out_faults out_risen
+abbrev pub IsTidy : Option Command → Type 0
+IsTidy command = command ≡ Some (record { verb = verbs.Tidy })
 
--- ---- the input
+-- a row for each status: its cause
+abbrev pub IsExplained : Option Command → Outside → List Event → Status → Outside → Type 0
+IsExplained command before trail statuses.Ok after = Unit {0}
+IsExplained command before trail statuses.Usage after = command ≡ None
+IsExplained command before trail (statuses.Busy lock now) after = WasBlocked command trail lock now
+IsExplained command before trail (statuses.LeaseLost seen) after = HasLost command trail seen
+IsExplained command before trail statuses.TargetFault after =
+    HasFailed before.target trail after.target
+IsExplained command before trail statuses.SourceFault after =
+    HasRisen before.input.faults after.input.faults
+IsExplained command before trail statuses.SinkFault after =
+    HasRisen before.out.faults after.out.faults
+IsExplained command before trail (statuses.TooLarge number) after =
+    IsTooLong command before.input number after.input
+IsExplained command before trail (statuses.BadItem bad) after =
+    IsTidy command × IsFaulty before.input after.input bad
+IsExplained command before trail statuses.NoMemory after = Unit {0}
 
--- The input's count didn't fall, and no more was read than the limit and a byte; a command other than `tidy` left it as
--- it was.
-pub record UsesInput (words : List (List ℕ)) (old new : InputNow) : Type 0 where
-  pub read : IsReadOf old new
-  pub unread : ¬ MeansTidy words → new ≡ old
+-- no refusal has its cause
+abbrev pub HasNoCause : Option Command → Outside → List Event → Outside → Type 0
+HasNoCause command before trail after =
+    (status : Status) → is_refusal status ≡ true → ¬ IsExplained command before trail status after
 
--- the same of a command
-abbrev pub UsesInputFor : Verb → InputNow → InputNow → Type 0
-UsesInputFor Tidy old new = IsReadOf old new
-UsesInputFor Help old new = new ≡ old
-UsesInputFor (Check target client) old new = new ≡ old
+-- ---- an input that tells its bytes
+
+-- an input of `tidy` that tells these bytes has this answer
+abbrev pub TidiesTold : List ℕ → Status → Type 0
+TidiesTold bytes status = (result : _) × StandsFor result status × IsAnswerTo bytes result
 
 -- ---- what is printed
 
--- what a command prints: how the program is called, `free`, or the text of the item that the input reads to
-abbrev pub IsOutput : Verb → InputNow → InputNow → List ℕ → Type 0
-IsOutput Help old new text = text ≡ usage_line
-IsOutput (Check target client) old new text = text ≡ codes "free" ++ 10 ∷ []
-IsOutput Tidy old new text = IsTidied old new text
+abbrev pub ComesToText : Option Command → Outside → List Event → List ℕ → Outside → Type 0
+ComesToText command before trail text after =
+    (c : Command) × (command ≡ Some c) × ComesTo c.verb before trail (Ok text) after
 
--- what the command of these words prints
-abbrev pub IsPrinted : List (List ℕ) → InputNow → InputNow → List ℕ → Type 0
-IsPrinted words old new text = (verb : Verb) × MeansVerb words verb × IsOutput verb old new text
+-- When all went well the command's text stands on standard output, and nothing more; after a failed
+-- write a prefix of it; else nothing.
+abbrev pub Prints : Option Command → Outside → List Event → Status → Outside → Type 0
+Prints command before trail statuses.Ok after =
+    (text : List ℕ) × ComesToText command before trail text after
+    × WasWritten before.out text after.out
+Prints command before trail statuses.SinkFault after =
+    (text : List ℕ) × ComesToText command before trail text after
+    × WasCut before.out text after.out
+Prints command before trail status after = after.out ≡ before.out
 
--- Where all went well such a text stands on standard output, and nothing more; after a failed write a front of it; else
--- nothing.
-abbrev pub Prints : (List ℕ → Type 0) → Option (List ℕ) → ℕ → Status → Option (List ℕ) → ℕ → Type 0
-Prints IsText before faults WentWell after risen = (text : List ℕ) × IsText text × Holds before text after
-Prints IsText before faults SinkFault after risen = (text : List ℕ) × IsText text × IsCut before faults text after risen
-Prints IsText before faults status after risen = after ≡ before
+-- this text stands in a sink, or a prefix of it if the sink has failed
+abbrev pub WritesLine : SinkNow → List ℕ → SinkNow → Type 0
+WritesLine before line after = WasWritten before line after ⊎ WasCut before line after
 
--- the line stands in a sink, or a front of it, where that has failed
-abbrev pub WritesLine : Option (List ℕ) → ℕ → List ℕ → Option (List ℕ) → ℕ → Type 0
-WritesLine before faults line after risen = Holds before line after ⊎ IsCut before faults line after risen
-
--- the line of the status stands on standard error, or a front of it, where that has failed
-abbrev pub Reports : Option (List ℕ) → ℕ → Status → Option (List ℕ) → ℕ → Type 0
-Reports before faults status after risen = WritesLine before faults (line_of status) after risen
-
--- ---- the target
-
--- The calls of the trail, and no others, were made on this target, which has failed only where its count rose.
-pub record UsesTarget (store : Option Store) (faults : ℕ) (trail : List Event) (after : Option Store) (risen : ℕ) : Type 0 where
-  pub later : faults ≤ risen
-  pub fault : has_failed trail ≡ true → HasRisen faults risen
-  pub told : TellsRun store trail after
-
--- no call was made, and the target is as it was
-pub record IsUntouched (store : Option Store) (faults : ℕ) (trail : List Event) (after : Option Store) (risen : ℕ) : Type 0 where
-  pub uncalled : trail ≡ []
-  pub store_is : after ≡ store
-  pub faults_are : risen ≡ faults
-
--- a command other than a check makes no call
-abbrev pub IsIdleFor : Verb → Option Store → ℕ → List Event → Option Store → ℕ → Type 0
-IsIdleFor (Check target client) store faults trail after risen = Unit {0}
-IsIdleFor Help store faults trail after risen = IsUntouched store faults trail after risen
-IsIdleFor Tidy store faults trail after risen = IsUntouched store faults trail after risen
+-- the line of the status stands on standard error, or a prefix of it if that has failed
+abbrev pub Reports : SinkNow → Status → SinkNow → Type 0
+Reports before status after = WritesLine before (row_of status).line after

@@ -1,23 +1,23 @@
 //! The program `jop` but for its edge: what the words on its command line mean, what it does, what it prints and how it
 //! ends. [`run`] is its top call; `main` only makes the real things that it is handed.
+//!
+//! Each command has a file in `command`, a row in [`read_words`] and an arm in `obey`; each status has a row.
 #![tactic(auto)]
 
-mod check;
 mod command;
-mod input;
-mod line;
-mod output;
+mod emit;
+mod piece;
 mod program;
 mod report;
 mod session_err;
 mod status;
-mod tidy;
+mod target_name;
 mod words;
 
-pub use check::check_on;
-pub use command::{Command, TargetKind, TargetName, Verb, WordsErr, read_words, target_words};
-pub use input::INPUT_LIMIT;
+pub use command::check::check_on;
+pub use command::{Command, Verb, WordsErr, read_words, target_words};
 pub use program::run;
 pub use session_err::SessionErr;
 pub use status::Status;
+pub use target_name::{TargetKind, TargetName};
 pub use words::Words;

@@ -6,7 +6,7 @@ use std::alloc::AllocError;
 pub enum SessionErr {
     /// A listing of that moment, in milliseconds since 1970, shows this live lock of another, which is in the way.
     Busy { lock: Lock, now: u64 },
-    /// The own lock wasn't shown in time.
+    /// Its own lock wasn't shown in time.
     LeaseLost(Seen),
     /// A call failed.
     TargetFault,
@@ -26,9 +26,9 @@ impl From<AllocError> for SessionErr {
 
 impl From<LeaseErr> for SessionErr {
     ghost use Rattle.std.specs.Prelude.{◌≡◌};
-    ghost use Rattle.jop_cli.specs.Check.{session_err};
+    ghost use Rattle.jop_cli.specs.Commands.Check.{session_err_of};
 
-    ghost from_gives = { λ l e. e ≡ session_err l };
+    ghost from_gives = { λ l e. e ≡ session_err_of l };
 
     fn from(error: LeaseErr) -> SessionErr {
         match error {

@@ -1,13 +1,10 @@
 ghost use Rattle.std.specs.Prelude.{◌≡◌};
-ghost use Rattle.jop_cli.specs.Output.{exit_of, fixed_line_of};
+ghost use Rattle.jop_cli.specs.Statuses.{row_of};
 
-use crate::input::InputErr;
+use crate::command::tidy::{TIDY_LIMIT, TidyErr};
 use crate::session_err::SessionErr;
-use item_text::{BadItem, ItemErr};
+use item_text::BadItem;
 use lease::{Lock, Seen};
-
-/// How the program is called.
-pub(crate) const USAGE_LINE: &str = "usage: jop [--profile PATH] COMMAND\n";
 
 /// How a run of the program ended.
 #[derive(Clone, Copy, Debug, PartialEq, Eq)]
@@ -17,7 +14,7 @@ pub enum Status {
     Usage,
     /// A listing of that moment, in milliseconds since 1970, shows this live lock of another, which is in the way.
     Busy { lock: Lock, now: u64 },
-    /// The own lock wasn't shown in time.
+    /// Its own lock wasn't shown in time.
     LeaseLost(Seen),
     /// A call of the target failed.
     TargetFault,
@@ -35,7 +32,7 @@ pub enum Status {
 impl Status {
     /// The exit status of the program.
     pub fn exit(&self) -> u8
-        ensures { result ≡ exit_of self.now }
+        ensures { result ≡ (row_of self.now).exit }
     {
         match self {
             Status::Ok => 0,
@@ -50,27 +47,11 @@ impl Status {
             Status::NoMemory => 22,
         }
     }
-
-    /// The line for standard error, with its line feed, where it is always the same; nothing where all went well, and
-    /// where the line is made for the one status.
-    pub(crate) fn fixed_line(&self) -> &'static str
-        ensures { result.now ≡ fixed_line_of self.now }
-    {
-        match self {
-            Status::Usage => USAGE_LINE,
-            Status::LeaseLost(_) => "lease lost\n",
-            Status::TargetFault => "target fault\n",
-            Status::SourceFault => "input fault\n",
-            Status::SinkFault => "output fault\n",
-            Status::NoMemory => "no memory\n",
-            _ => "",
-        }
-    }
 }
 
 impl From<SessionErr> for Status {
     ghost use Rattle.std.specs.Prelude.{◌≡◌};
-    ghost use Rattle.jop_cli.specs.Output.{status_of};
+    ghost use Rattle.jop_cli.specs.Commands.Check.{status_of};
 
     ghost from_gives = { λ s e. e ≡ status_of s };
 
@@ -84,31 +65,18 @@ impl From<SessionErr> for Status {
     }
 }
 
-impl From<InputErr> for Status {
+impl From<TidyErr> for Status {
     ghost use Rattle.std.specs.Prelude.{◌≡◌};
-    ghost use Rattle.jop_cli.specs.Output.{input_status};
+    ghost use Rattle.jop_cli.specs.Commands.Tidy.{status_of};
 
-    ghost from_gives = { λ i e. e ≡ input_status i };
+    ghost from_gives = { λ t e. e ≡ status_of t };
 
-    fn from(error: InputErr) -> Status {
+    fn from(error: TidyErr) -> Status {
         match error {
-            InputErr::Fault => Status::SourceFault,
-            InputErr::TooLarge(len) => Status::TooLarge(len),
-            InputErr::NoMemory => Status::NoMemory,
-        }
-    }
-}
-
-impl From<ItemErr> for Status {
-    ghost use Rattle.std.specs.Prelude.{◌≡◌};
-    ghost use Rattle.jop_cli.specs.Output.{item_status};
-
-    ghost from_gives = { λ i e. e ≡ item_status i };
-
-    fn from(error: ItemErr) -> Status {
-        match error {
-            ItemErr::Bad(bad) => Status::BadItem(bad),
-            ItemErr::NoMemory => Status::NoMemory,
+            TidyErr::Fault => Status::SourceFault,
+            TidyErr::TooLarge => Status::TooLarge(TIDY_LIMIT as u64 + 1),
+            TidyErr::Bad(bad) => Status::BadItem(bad),
+            TidyErr::NoMemory => Status::NoMemory,
         }
     }
 }

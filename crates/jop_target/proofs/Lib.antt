@@ -1,4 +1,7 @@
-pub mod BlobBytes
-pub mod FileOrder
-pub mod FolderOrder
+pub mod Blobs
+pub mod Calls
+pub mod Files
+pub mod Moments
+pub mod Replies
+pub mod Runs
 pub mod SoundStore

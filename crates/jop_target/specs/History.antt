@@ -1,23 +1,27 @@
 -- What all clients do at one store, as one sees it who sees all of them and the store.
-use Rattle.std.specs.Prelude.{ℕ, ◌≤◌, ◌≡◌, List, [], ◌∷◌, ◌++◌, take, slice_get, Bool, true, false, if◌then◌else◌, bytes_eq, Option, Some, None}
-use Rattle.jop_base.specs.Paths.{is_guarded}
+use Rattle.std.specs.Prelude.{ℕ, ◌≤◌, ◌≡◌, All, List, [], ◌∷◌, ◌++◌, take, slice_get, Bool, true, false, if◌then◌else◌, bytes_eq, Option, Some, None}
+use Rattle.jop_base.specs.Keyed.{IsSorted}
+use Rattle.jop_base.specs.Paths.{IsPath, is_guarded}
 use Rattle.jop_target.specs.declared.call.Call.{Call}
 use Rattle.jop_target.specs.declared.call.Call.TheVariants.{Put, Delete, PutBlob}
 use Rattle.jop_target.specs.declared.reply.Reply.{Reply}
 use Rattle.jop_target.specs.declared.reply.Reply.TheVariants.{Failed}
 use Rattle.jop_target.specs.declared.event.Event.{Event}
 use Rattle.jop_target.specs.declared.event.Event.TheVariants.{Began, Sent, Called, Made, Ended}
+use Rattle.jop_target.specs.declared.tree.File.{File}
 use Rattle.jop_target.specs.declared.tree.Tree.{Tree}
-use Rattle.jop_target.specs.Store.{reply_of, tree_after}
+use Rattle.jop_target.specs.Store.{file_key, reply_of, tree_after}
 
 -- ---- what happens
 
--- A call landed where the store took it in, whatever its client heard of it.
+-- A call landed if the store took it in, whatever its client heard of it.
 pub data Happening : Type 0 where
   Begins : Happening
   Answered : (call : Call) (reply : Reply) (landed : Bool) → Happening
   Unheard : (call : Call) (landed : Bool) → Happening
-  -- the change of this number is made to the client's own tables
+  -- A change is made to the client's own tables: that of this number, from 0 on, in the list of the
+  -- run that makes it. Each run of a client counts afresh, so over several runs a number alone says
+  -- nothing: what was changed stands in the list of the run to which the step belongs.
   Changed : (number : ℕ) → Happening
   Ends : Happening
   -- the program was stopped, or had no memory
@@ -55,19 +59,31 @@ tree_from tree (s ∷ ss) = tree_from (tree_with tree s.moment (landed_call s.ha
 abbrev pub tree_at : History → ℕ → Tree
 tree_at h place = tree_from h.opening (take place h.steps)
 
--- A reply other than `Failed` is the store's, though the moment that it tells may be an earlier one, and its call landed.
+-- A reply other than `Failed` is the store's, though the moment that it tells may be an earlier
+-- one, and its call landed.
 abbrev pub IsHonestReply : Tree → ℕ → Happening → Type 0
 IsHonestReply tree moment (Answered call Failed landed) = Unit {0}
-IsHonestReply tree moment (Answered call reply landed) = (landed ≡ true) × ((now : ℕ) × (now ≤ moment) × (reply ≡ reply_of tree now call))
+IsHonestReply tree moment (Answered call reply landed) =
+    (landed ≡ true) × ((now : ℕ) × (now ≤ moment) × (reply ≡ reply_of tree now call))
 IsHonestReply tree moment happening = Unit {0}
+
+-- each file's name is a path, and stands once, in the order of the texts
+pub record IsOrderly (tree : Tree) : Type 0 where
+  pub paths : All (λ (f : File). IsPath f.path) tree.files
+  pub ordered : IsSorted file_key tree.files
 
 -- Moments never fall, each reply is honest, and only calls that land change the tree.
 abbrev pub IsHonestFrom : Tree → ℕ → List Step → Type 0
 IsHonestFrom tree now [] = Unit {0}
-IsHonestFrom tree now (s ∷ ss) = (now ≤ s.moment) × IsHonestReply tree s.moment s.happens × IsHonestFrom (tree_with tree s.moment (landed_call s.happens)) s.moment ss
+IsHonestFrom tree now (s ∷ ss) =
+    (now ≤ s.moment)
+    × IsHonestReply tree s.moment s.happens
+    × IsHonestFrom (tree_with tree s.moment (landed_call s.happens)) s.moment ss
 
-abbrev pub IsHonest : History → Type 0
-IsHonest h = IsHonestFrom h.opening 0 h.steps
+-- the store was in order at first, and told the truth ever since
+pub record IsHonest (h : History) : Type 0 where
+  pub opening : IsOrderly h.opening
+  pub steps : IsHonestFrom h.opening 0 h.steps
 
 -- ---- the clients
 
@@ -83,7 +99,8 @@ noted Stopped = []
 -- a client's part of what happens: all that it writes down, in order
 abbrev pub part_of : List ℕ → List Step → List Event
 part_of client [] = []
-part_of client (s ∷ ss) = if bytes_eq s.client client then noted s.happens ++ part_of client ss else part_of client ss
+part_of client (s ∷ ss) =
+    if bytes_eq s.client client then noted s.happens ++ part_of client ss else part_of client ss
 
 -- ---- who writes
 

@@ -1,24 +1,31 @@
 -- What a store of files answers, and what each call makes of it.
 use Rattle.std.specs.Prelude.{ℕ, ◌+◌, List, [], ◌∷◌, length, Bool, true, if◌then◌else◌, min, nat_lt, nat_eq, bytes_eq, Option, Some, None}
-use Rattle.std.specs.Ordering.{is_eq, is_lt}
-use Rattle.jop_base.specs.Order.{path_cmp}
-use Rattle.jop_base.specs.Paths.{dir_of}
+use Rattle.jop_base.specs.Keyed.{at, put, cut}
+use Rattle.jop_base.specs.Paths.{dir_of, dir_text, path_text}
 use Rattle.jop_base.specs.Plan.{Calls, after_call, next_fate}
 use Rattle.jop_base.specs.declared.dir.Dir.{Dir}
 use Rattle.jop_base.specs.declared.dir.Dir.TheVariants.{Root, Resources, OldSync, Locks, Temp}
 use Rattle.jop_base.specs.declared.path.Path.{Path}
 use Rattle.jop_base.specs.declared.path.Path.TheVariants.{Blob}
-use Rattle.jop_base.specs.declared.time.TheConstants.{MAX_TIME}
-use Rattle.jop_target.specs.declared.limits.TheConstants.{FILE_LIMIT, BLOB_LIMIT}
+use Rattle.jop_base.specs.Times.{last_time}
 use Rattle.jop_target.specs.declared.call.Call.{Call}
 use Rattle.jop_target.specs.declared.call.Call.TheVariants.{List as ListDir, Get, Put, Delete, MakeDir, GetBlob, PutBlob}
 use Rattle.jop_target.specs.declared.reply.Reply.{Reply}
 use Rattle.jop_target.specs.declared.reply.Reply.TheVariants.{Listed, Got, GotBlob, Absent, Done, Failed, TooLarge}
 use Rattle.jop_target.specs.declared.reply.Entry.{Entry}
+use Rattle.jop_target.specs.declared.tree.BlobBytes.{BlobBytes}
 use Rattle.jop_target.specs.declared.tree.Content.{Content}
 use Rattle.jop_target.specs.declared.tree.Content.TheVariants.{Whole, Sized}
 use Rattle.jop_target.specs.declared.tree.File.{File}
 use Rattle.jop_target.specs.declared.tree.Tree.{Tree}
+
+-- the most bytes of a file that is read and isn't a blob: 16 MiB
+abbrev pub FILE_LIMIT : ℕ
+FILE_LIMIT = 16777216
+
+-- the most bytes of a blob that is read: 64 MiB
+abbrev pub BLOB_LIMIT : ℕ
+BLOB_LIMIT = 67108864
 
 -- the most bytes of a file that are read
 abbrev pub limit_of : Path → ℕ
@@ -27,64 +34,55 @@ limit_of path = FILE_LIMIT
 
 -- ---- files
 
+-- the text by which a file is found
+abbrev pub file_key : File → List ℕ
+file_key f = path_text f.path
+
+abbrev pub entry_key : Entry → List ℕ
+entry_key e = path_text e.path
+
 -- whether both are the same file: their texts are equal
 abbrev pub is_same : Path → Path → Bool
-is_same p q = is_eq (path_cmp p q)
-
--- whether the first path stands before the second, in the order of their texts
-abbrev pub is_before : Path → Path → Bool
-is_before p q = is_lt (path_cmp p q)
+is_same p q = bytes_eq (path_text p) (path_text q)
 
 -- the file at a path
-unfoldable pub file_at : List File → Path → Option File
-file_at [] path = None
-file_at (f ∷ fs) path = if is_same f.path path then Some f else file_at fs path
+abbrev pub file_at : List File → Path → Option File
+file_at files path = at file_key files (path_text path)
 
 -- the files with this one at its place
-unfoldable pub with_file : List File → File → List File
-with_file [] file = file ∷ []
-with_file (f ∷ fs) file =
-    if is_same f.path file.path then file ∷ fs
-    else if is_before file.path f.path then file ∷ f ∷ fs
-    else f ∷ with_file fs file
+abbrev pub with_file : List File → File → List File
+with_file files file = put file_key files file
 
--- the files but for the one at a path
-unfoldable pub without_file : List File → Path → List File
-without_file [] path = []
-without_file (f ∷ fs) path = if is_same f.path path then fs else f ∷ without_file fs path
+-- the files without the one at a path
+abbrev pub without_file : List File → Path → List File
+without_file files path = cut file_key files (path_text path)
 
 abbrev pub entry_of : File → Entry
 entry_of f = record { path = f.path; stamp = f.stamp }
 
--- where a folder's name stands among the others
-abbrev pub dir_rank : Dir → ℕ
-dir_rank Root = 0
-dir_rank Resources = 1
-dir_rank OldSync = 2
-dir_rank Locks = 3
-dir_rank Temp = 4
+-- which of the folders it is
+abbrev pub dir_number : Dir → ℕ
+dir_number Root = 0
+dir_number Resources = 1
+dir_number OldSync = 2
+dir_number Locks = 3
+dir_number Temp = 4
 
 abbrev pub is_same_dir : Dir → Dir → Bool
-is_same_dir d e = nat_eq (dir_rank d) (dir_rank e)
+is_same_dir d e = nat_eq (dir_number d) (dir_number e)
 
 -- the files of a folder
 unfoldable pub entries_in : List File → Dir → List Entry
 entries_in [] dir = []
-entries_in (f ∷ fs) dir = if is_same_dir (dir_of f.path) dir then entry_of f ∷ entries_in fs dir else entries_in fs dir
-
--- the folders with this one at its place
-unfoldable pub with_dir : List Dir → Dir → List Dir
-with_dir [] dir = dir ∷ []
-with_dir (d ∷ ds) dir =
-    if is_same_dir d dir then d ∷ ds
-    else if nat_lt (dir_rank dir) (dir_rank d) then dir ∷ d ∷ ds
-    else d ∷ with_dir ds dir
+entries_in (f ∷ fs) dir =
+    if is_same_dir (dir_of f.path) dir then entry_of f ∷ entries_in fs dir else entries_in fs dir
 
 -- ---- a call at a moment
 
 -- a file read whole; a blob isn't read so
 abbrev pub got_content : ℕ → ℕ → Content → Reply
-got_content now limit (Whole bytes) = if nat_lt limit (length bytes) then TooLarge (length bytes) else Got now bytes
+got_content now limit (Whole bytes) =
+    if nat_lt limit (length bytes) then TooLarge (length bytes) else Got now bytes
 got_content now limit (Sized len) = TooLarge len
 
 -- a blob's length
@@ -115,7 +113,9 @@ reply_of tree now (GetBlob id) = got_blob now (limit_of (Blob id)) (file_at tree
 reply_of tree now (PutBlob id len) = Done now
 
 abbrev pub set_file : Tree → Path → Content → ℕ → Tree
-set_file tree path content now = record tree { files = with_file tree.files (record { path = path; content = content; stamp = now }) }
+set_file tree path content now = record tree {
+  files = with_file tree.files (record { path = path; content = content; stamp = now });
+}
 
 -- the tree after a call at a moment
 unfoldable pub tree_after : Tree → ℕ → Call → Tree
@@ -123,40 +123,59 @@ tree_after tree now (ListDir dir) = tree
 tree_after tree now (Get path) = tree
 tree_after tree now (Put path content) = set_file tree path (Whole content) now
 tree_after tree now (Delete path) = record tree { files = without_file tree.files path }
-tree_after tree now (MakeDir dir) = record tree { folders = with_dir tree.folders dir }
+tree_after tree now (MakeDir dir) = record tree { folders = put dir_text tree.folders dir }
 tree_after tree now (GetBlob id) = tree
 tree_after tree now (PutBlob id len) = set_file tree (Blob id) (Sized len) now
 
 -- ---- the bytes of blobs
 
--- the bytes of a blob, where there are any
-unfoldable pub bytes_of : List (List ℕ × List ℕ) → List ℕ → List ℕ
-bytes_of [] id = []
-bytes_of (b ∷ bs) id = if bytes_eq b.0 id then b.1 else bytes_of bs id
+-- the text by which a blob's bytes are found
+abbrev pub blob_key : BlobBytes → List ℕ
+blob_key b = b.id
+
+abbrev pub bytes_in : Option BlobBytes → List ℕ
+bytes_in None = []
+bytes_in (Some b) = b.bytes
+
+-- the bytes of a blob, if there are any
+abbrev pub bytes_of : List BlobBytes → List ℕ → List ℕ
+bytes_of blobs id = bytes_in (at blob_key blobs id)
 
 -- the blobs with these bytes for that id
-unfoldable pub with_blob : List (List ℕ × List ℕ) → List ℕ → List ℕ → List (List ℕ × List ℕ)
-with_blob [] id bytes = (id, bytes) ∷ []
-with_blob (b ∷ bs) id bytes = if bytes_eq b.0 id then (id, bytes) ∷ bs else b ∷ with_blob bs id bytes
+abbrev pub with_blob : List BlobBytes → List ℕ → List ℕ → List BlobBytes
+with_blob blobs id bytes = put blob_key blobs (record { id = id; bytes = bytes })
 
--- the blobs but for that of an id
-unfoldable pub without_blob : List (List ℕ × List ℕ) → List ℕ → List (List ℕ × List ℕ)
-without_blob [] id = []
-without_blob (b ∷ bs) id = if bytes_eq b.0 id then bs else b ∷ without_blob bs id
+-- the blobs without the one whose file is at a path, if it is a blob's
+abbrev pub without_blob : List BlobBytes → Path → List BlobBytes
+without_blob blobs (Blob id) = cut blob_key blobs id
+without_blob blobs path = blobs
 
 -- the bytes of blobs after a call that hands in those of one
-abbrev pub blobs_after : List (List ℕ × List ℕ) → Call → List ℕ → List (List ℕ × List ℕ)
+abbrev pub blobs_after : List BlobBytes → Call → List ℕ → List BlobBytes
+blobs_after blobs (ListDir dir) bytes = blobs
+blobs_after blobs (Get path) bytes = blobs
+blobs_after blobs (Put path content) bytes = blobs
+blobs_after blobs (Delete path) bytes = without_blob blobs path
+blobs_after blobs (MakeDir dir) bytes = blobs
+blobs_after blobs (GetBlob id) bytes = blobs
 blobs_after blobs (PutBlob id len) bytes = with_blob blobs id bytes
-blobs_after blobs (Delete (Blob id)) bytes = without_blob blobs id
-blobs_after blobs call bytes = blobs
 
 -- ---- a store that tells what it holds
 
--- Its files; the bytes of its blobs; the moment of its next call; how much later each call is than the one before; and
+-- its files and folders, and the bytes of its blobs
+pub record Contents : Type 0 where
+  pub tree : Tree
+  pub blobs : List BlobBytes
+
+-- what it holds after a call at a moment, which hands in these bytes of a blob
+abbrev pub contents_after : Contents → ℕ → Call → List ℕ → Contents
+contents_after c now call bytes =
+    record { tree = tree_after c.tree now call; blobs = blobs_after c.blobs call bytes }
+
+-- What it holds; the moment of its next call; how much later each call is than the one before; and
 -- which calls are to fail.
 pub record Store : Type 0 where
-  pub tree : Tree
-  pub blobs : List (List ℕ × List ℕ)
+  pub contents : Contents
   pub moment : ℕ
   pub step : ℕ
   pub plan : Calls
@@ -172,16 +191,18 @@ fated (Some landed) reply = Failed
 
 -- what the next call is answered
 abbrev pub store_reply : Store → Call → Reply
-store_reply s call = fated (next_fate s.plan) (reply_of s.tree s.moment call)
+store_reply s call = fated (next_fate s.plan) (reply_of s.contents.tree s.moment call)
 
--- the store after the next call, which hands in these bytes of a blob
+-- what it holds after the next call, which hands in these bytes of a blob
+abbrev pub landed_contents : Store → Call → List ℕ → Contents
+landed_contents s call bytes =
+    if lands (next_fate s.plan) then contents_after s.contents s.moment call bytes else s.contents
+
+-- the store after that call
 abbrev pub store_after : Store → Call → List ℕ → Store
-store_after s call bytes =
-    let landed = lands (next_fate s.plan) in
-    record {
-      tree = if landed then tree_after s.tree s.moment call else s.tree;
-      blobs = if landed then blobs_after s.blobs call bytes else s.blobs;
-      moment = min (s.moment + s.step) MAX_TIME;
-      step = s.step;
-      plan = after_call s.plan;
-    }
+store_after s call bytes = record {
+  contents = landed_contents s call bytes;
+  moment = min (s.moment + s.step) last_time;
+  step = s.step;
+  plan = after_call s.plan;
+}

@@ -1,31 +1,43 @@
 ghost use Rattle.std.specs.Prelude.{◌≡◌, IfOk};
-ghost use Rattle.jop_base.specs.Id.{IsIdText};
-ghost use Rattle.jop_base.specs.Paths.{IsPath};
-ghost use Rattle.jop_target.specs.Store.{entries_in, file_at, got, got_blob, got_content, got_size, deleted, limit_of};
+ghost use Rattle.std.specs.Option.{option_copied};
+ghost use Rattle.jop_target.specs.Store.{entries_in, got, got_blob, got_content, got_size, deleted};
+ghost use Rattle.jop_target.specs.declared.tree.Content.TheVariants.{Whole};
 
-use crate::files::{find, list};
-use crate::limits::{BLOB_LIMIT, limit_of};
-use crate::reply::{Listing, Reply};
+use crate::limits::BLOB_LIMIT;
+use crate::reply::{Entry, Reply};
 use crate::tree::{Content, File};
-use jop_base::{Copied, Dir, Id, Path};
+use jop_base::{Bytes, Copied, Dir, Seq};
 use std::alloc::{AllocError, Global};
 
 /// The files of a folder.
-pub(crate) fn listed(alloc: Global, files: &[File], dir: Dir, now: u64) -> Result<Reply, AllocError>
-    ensures { IfOk result (λ reply. reply ≡ Reply.Listed (record { now = now; entries = entries_in files.now dir })) }
+#[tactic(auto, unfolding(crate::specs::Store::entries_in))]
+pub(crate) fn entries_in(alloc: Global, files: &[File], dir: Dir) -> Result<Seq<Entry>, AllocError>
+    ensures { IfOk result (λ entries. entries ≡ entries_in files.now dir) }
 {
-    let entries = list(alloc, files, dir)?;
-    Ok(Reply::Listed(Listing { now, entries }))
+    let mut entries = Seq::new(alloc);
+    for file in files {
+        if file.path.dir() == dir {
+            entries.push(Entry {
+                path: file.path,
+                stamp: file.stamp,
+            })?;
+        }
+    }
+    Ok(entries)
 }
 
-/// The file at a path.
-pub(crate) fn got(alloc: Global, files: &[File], path: &Path, now: u64) -> Result<Reply, AllocError>
-    ensures reply { IfOk result (λ reply. reply ≡ got now (limit_of path.now) (file_at files.now path.now)) }
-    ensures path { IsPath path.now }
+/// What a file holds, if it is there.
+pub(crate) fn got(
+    alloc: Global,
+    file: Option<&File>,
+    limit: u64,
+    now: u64,
+) -> Result<Reply, AllocError>
+    ensures { IfOk result (λ reply. reply ≡ got now limit (option_copied file.entry)) }
 {
-    match find(files, path) {
+    match file {
         None => Ok(Reply::Absent { now }),
-        Some(file) => got_content(alloc, &file.content, limit_of(path), now),
+        Some(file) => got_content(alloc, &file.content, limit, now),
     }
 }
 
@@ -34,33 +46,37 @@ fn got_content(alloc: Global, content: &Content, limit: u64, now: u64) -> Result
 {
     match content {
         Content::Sized(len) => Ok(Reply::TooLarge { len: *len }),
-        Content::Whole(bytes) => {
-            let len = bytes.len() as u64;
-            if limit < len {
-                return Ok(Reply::TooLarge { len });
-            }
-            let content = bytes.copy(alloc)?;
-            Ok(Reply::Got { now, content })
-        }
+        Content::Whole(bytes) => got_whole(alloc, bytes, limit, now),
     }
 }
 
-/// How long a blob is.
-pub(crate) fn got_blob(files: &[File], id: Id, now: u64) -> Reply
-    ensures reply { result ≡ got_blob now (limit_of (Path.Blob id)) (file_at files.now (Path.Blob id)) }
-    ensures id { IsIdText id }
+/// These bytes, unless they are too many.
+fn got_whole(alloc: Global, bytes: &Bytes, limit: u64, now: u64) -> Result<Reply, AllocError>
+    ensures { IfOk result (λ reply. reply ≡ got_content now limit (Whole bytes.now)) }
 {
-    match find(files, &Path::Blob(id)) {
+    let len = bytes.len() as u64;
+    if limit < len {
+        return Ok(Reply::TooLarge { len });
+    }
+    let content = bytes.copy(alloc)?;
+    Ok(Reply::Got { now, content })
+}
+
+/// How long a blob is, if it is there.
+pub(crate) fn got_blob(file: Option<&File>, now: u64) -> Reply
+    ensures { result ≡ got_blob now BLOB_LIMIT (option_copied file.entry) }
+{
+    match file {
         None => Reply::Absent { now },
-        Some(file) => got_size(&file.content, BLOB_LIMIT, now),
+        Some(file) => got_size(&file.content, now),
     }
 }
 
-fn got_size(content: &Content, limit: u64, now: u64) -> Reply
-    ensures { result ≡ got_size now limit content.now }
+fn got_size(content: &Content, now: u64) -> Reply
+    ensures { result ≡ got_size now BLOB_LIMIT content.now }
 {
     match content {
-        Content::Sized(len) if *len <= limit => Reply::GotBlob { now, len: *len },
+        Content::Sized(len) if *len <= BLOB_LIMIT => Reply::GotBlob { now, len: *len },
         Content::Sized(len) => Reply::TooLarge { len: *len },
         Content::Whole(bytes) => Reply::TooLarge {
             len: bytes.len() as u64,
@@ -69,10 +85,10 @@ fn got_size(content: &Content, limit: u64, now: u64) -> Reply
 }
 
 /// Whether there is a file to take out.
-pub(crate) fn deleted(files: &[File], path: &Path, now: u64) -> Reply
-    ensures { result ≡ deleted now (file_at files.now path.now) }
+pub(crate) fn deleted(file: Option<&File>, now: u64) -> Reply
+    ensures { result ≡ deleted now (option_copied file.entry) }
 {
-    match find(files, path) {
+    match file {
         None => Reply::Absent { now },
         Some(_) => Reply::Done { now },
     }

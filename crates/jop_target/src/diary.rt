@@ -1,4 +1,5 @@
 ghost use Rattle.std.specs.Prelude.{◌≡◌, ◌++◌, ◌∷◌, [], ◌≤◌, List, OnOk, OnErr, IsOk};
+ghost use Rattle.jop_target.specs.Trail.{last_moment};
 ghost use Rattle.jop_target.specs.declared.event.Event.{Event};
 ghost use Rattle.jop_target.specs.declared.event.Event.TheVariants.{Began, Sent, Called, Made, Ended};
 
@@ -12,23 +13,34 @@ use std::marker::Model;
 #[derive(Debug, Drop)]
 pub struct Diary {
     list: Vec<Event>,
+    /// The last moment that the last session was told; 0 before the first.
+    heard: u64,
 }
 
 impl Model for Diary {
-    ghost use Rattle.std.specs.Prelude.{◌-◌, vec_len, vec_capacity};
+    ghost use Rattle.std.specs.Prelude.{◌≡◌, ◌-◌, vec_len, vec_capacity};
     ghost use Rattle.jop_target.specs.Pages.{Pages};
+    ghost use Rattle.jop_target.specs.Trail.{last_moment};
 
     ghost Value = { Pages };
 
-    ghost view = { λ d. record { events = d.list.items; room = vec_capacity d.list - vec_len d.list } };
+    ghost view = { λ d. record {
+      events = d.list.items;
+      room = vec_capacity d.list - vec_len d.list;
+    } };
+
+    ghost invariant = { λ d. d.heard ≡ last_moment d.list.items };
 }
 
+#[tactic(auto, using(crate::proofs::Moments::moment_from_last))]
 impl Diary {
+    #[tactic(auto, unfolding(crate::specs::Trail::moment_from))]
     pub fn new(alloc: Global) -> Diary
         ensures { result.events ≡ [] }
     {
         Diary {
             list: Vec::new(alloc),
+            heard: 0,
         }
     }
 
@@ -39,6 +51,7 @@ impl Diary {
         ensures sure { 1 ≤ self.old.room → IsOk result }
     {
         self.list.push(Event::Began)?;
+        self.heard = 0;
         Ok(())
     }
 
@@ -52,7 +65,7 @@ impl Diary {
         Ok(())
     }
 
-    /// The change of this number, counted from 0, was made.
+    /// The change of this number, counted from 0 in the list of this run, was made.
     pub fn made(&mut self, number: u64) -> Result<(), AllocError>
         ensures ok { OnOk result (self.new.events ≡ self.old.events ++ Made number ∷ []) }
         ensures err { OnErr result (self.new.events ≡ self.old.events) }
@@ -77,6 +90,14 @@ impl Diary {
         self.list.as_slice()
     }
 
+    /// The last moment that the last session was told, in milliseconds since 1970; 0 before the
+    /// first.
+    pub fn heard(&self) -> u64
+        ensures { result ≡ last_moment self.now.events }
+    {
+        self.heard
+    }
+
     /// A call is sent.
     pub(crate) fn send(&mut self, call: Call) -> Result<(), AllocError>
         ensures ok { OnOk result (self.new.events ≡ self.old.events ++ Sent call ∷ []) }
@@ -88,8 +109,10 @@ impl Diary {
 
     /// The call that was sent last and has no reply yet.
     pub(crate) fn sent(&self) -> &Call
-        requires { (before : List Event) × (call : _) × (self.now.events ≡ before ++ Sent call ∷ []) }
-        ensures { (before : List Event) (call : _) → self.now.events ≡ before ++ Sent call ∷ [] → result.now ≡ call }
+        requires { (before : List Event) × (call : _) ×
+            (self.now.events ≡ before ++ Sent call ∷ []) }
+        ensures { (before : List Event) (call : _) →
+            self.now.events ≡ before ++ Sent call ∷ [] → result.now ≡ call }
     {
         match self.list.last() {
             Some(Event::Sent(call)) => call,
@@ -99,11 +122,15 @@ impl Diary {
 
     /// The call that was sent last is answered.
     pub(crate) fn answer(&mut self, reply: Reply)
-        requires { (before : List Event) × (call : _) × (self.old.events ≡ before ++ Sent call ∷ []) }
-        ensures { (before : List Event) (call : _) → self.old.events ≡ before ++ Sent call ∷ [] → self.new.events ≡ before ++ Called call reply ∷ [] }
+        requires { (before : List Event) × (call : _) ×
+            (self.old.events ≡ before ++ Sent call ∷ []) }
+        ensures { (before : List Event) (call : _) →
+            self.old.events ≡ before ++ Sent call ∷ []
+            → self.new.events ≡ before ++ Called call reply ∷ [] }
     {
         match self.list.pop() {
             Some(Event::Sent(call)) => {
+                self.heard = reply.moment().unwrap_or(self.heard);
                 let _ = self.list.push(Event::Called(call, reply));
             }
             _ => unreachable!(),

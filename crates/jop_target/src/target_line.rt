@@ -18,10 +18,11 @@ pub struct TargetLine<'a, T: Target> {
 }
 
 impl<'a, T: Target> Line for TargetLine<'a, T> {
-    ghost state = { λ l. record { trail = l.diary.now.events; faults = T.faults l.target.now; store = T.store l.target.now } };
+    ghost state = { λ l. record { trail = l.diary.now.events; target = T.state l.target.now } };
 
     // It stays the line over this target and this diary.
-    ghost keeps = { λ a b. (b.target.ghost_name ≡ a.target.ghost_name) × (b.diary.ghost_name ≡ a.diary.ghost_name) };
+    ghost keeps = { λ a b.
+        (b.target.ghost_name ≡ a.target.ghost_name) × (b.diary.ghost_name ≡ a.diary.ghost_name) };
 
     ghost keeps_same = { λ a. (refl, refl) };
 
@@ -39,5 +40,9 @@ impl<'a, T: Target> Line for TargetLine<'a, T> {
             Some(Event::Called(_, reply)) => reply,
             _ => unreachable!(),
         }
+    }
+
+    fn heard(&self) -> u64 {
+        self.diary.heard()
     }
 }

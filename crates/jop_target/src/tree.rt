@@ -1,6 +1,8 @@
-use jop_base::{Bytes, Dir, Path, Seq};
+ghost use Rattle.std.specs.Prelude.{◌≡◌};
 
-/// What stands in a file. Of a blob a tree keeps the number of bytes alone, which stand elsewhere.
+use jop_base::{Bytes, Dir, Id, Keyed, Path, Seq};
+
+/// What stands in a file. Of a blob a tree has the number of bytes alone, which stand elsewhere.
 #[derive(Debug, Drop)]
 pub enum Content {
     Whole(Bytes),
@@ -15,10 +17,39 @@ pub struct File {
     pub stamp: u64,
 }
 
-/// The files of a target, in the order of their paths' texts, and the folders that were made, in the order of their
-/// names. Each stands there once.
+impl Keyed for File {
+    type Key = Path;
+
+    ghost use Rattle.jop_base.specs.Paths.{path_text};
+
+    ghost key = { λ f. path_text f.path };
+
+    fn key(&self) -> Path {
+        self.path
+    }
+}
+
+/// The files of a target, in the order of their paths' texts, and the folders that were made, in
+/// the order of their names. Each stands there once.
 #[derive(Debug, Drop)]
 pub struct Tree {
     pub files: Seq<File>,
     pub folders: Seq<Dir>,
+}
+
+/// The bytes of a blob.
+#[derive(Debug, Drop)]
+pub struct BlobBytes {
+    pub id: Id,
+    pub bytes: Bytes,
+}
+
+impl Keyed for BlobBytes {
+    type Key = Id;
+
+    ghost key = { λ b. b.id };
+
+    fn key(&self) -> Id {
+        self.id
+    }
 }

@@ -1,204 +1,351 @@
 -- The calls of a lease, each in the phases that allow it.
-use Rattle.std.proofs.Common.{◌≡◌, ◌≤◌, ◌∙◌, refl, sym, ap, subst, inl, inr, arith, ℕ, List, [], ◌∷◌, ◌++◌, true, false}
+use Rattle.std.proofs.Common.{◌≡◌, ◌≤◌, ◌∙◌, refl, sym, ap, subst, inl, inr, arith, ℕ, List, [], ◌∷◌, ◌++◌, true, false, Option, Some, None}
 use Rattle.std.proofs.lemmas.Slice.Eq.{bytes_eq-Decides}
 use Rattle.jop_base.specs.declared.lock_name.LockKind.{LockKind}
+use Rattle.jop_base.specs.declared.lock_name.LockKind.TheVariants.{Sync, Exclusive}
 use Rattle.jop_base.specs.declared.dir.Dir.TheVariants.{Locks}
 use Rattle.jop_base.specs.declared.path.Path.{Path}
 use Rattle.jop_base.specs.declared.path.Path.TheVariants.{Lock as LockFile}
 use Rattle.jop_target.specs.declared.call.Call.{Call}
 use Rattle.jop_target.specs.declared.call.Call.TheVariants.{List as ListDir, Put, Delete, MakeDir}
 use Rattle.jop_target.specs.declared.reply.Reply.{Reply}
-use Rattle.jop_target.specs.declared.reply.Reply.TheVariants.{Listed, Got, GotBlob, Absent, Done, Failed, TooLarge}
+use Rattle.jop_target.specs.declared.reply.Reply.TheVariants.{Listed, Done, Failed}
 use Rattle.jop_target.specs.declared.reply.Listing.{Listing}
 use Rattle.jop_target.specs.declared.event.Event.{Event}
-use Rattle.jop_target.specs.declared.event.Event.TheVariants.{Called}
-use Rattle.jop_target.specs.Replies.{IsReplyTo, IsListing}
+use Rattle.jop_target.specs.Runs.{is_failed}
 use Rattle.jop_target.specs.Trail.{LineNow, EndsWith}
+use Rattle.jop_target.proofs.Replies.{made_or_failed, done_or_failed, listed_or_failed}
 use Rattle.lease.specs.declared.error.AskErr.{AskErr}
 use Rattle.lease.specs.declared.error.AskErr.TheVariants.{Fault, NoMemory}
-use Rattle.lease.specs.Discipline.{phase_of, keeps_lock_order}
-use Rattle.lease.specs.Locks.{own_name, is_own, content_of}
-use Rattle.lease.specs.Outcomes.{StandsIn, MayAsk, Hears, IsHeard, IsRefused, GivesUp, MayPut, is_held, is_leaving, EndsFailed}
-use Rattle.lease.specs.Phase.{Phase, Free, Looked, Asked, Held, Leaving, Over, Role, MakesLocks, ListsLocks, PutsOwn, DeletesOwn, Judgement, Holds, Blocked, Missed, role_of, putting_role, deleting_role, heard, judge, judged_phase}
-use Rattle.lease.proofs.LockFiles.{same_kind-itself}
-use Rattle.lease.proofs.Sessions.{may_ask, hears_at}
+use Rattle.lease.specs.declared.lock.Lock.{Lock}
+use Rattle.lease.specs.Added.{AddsCalls, put_calls}
+use Rattle.lease.specs.Calls.{MayAsk, Hears, IsHeard, IsRefused, GivesUp, MayPut, HasAsked, EndsFailed, asking, is_held, is_leaving}
+use Rattle.lease.specs.Discipline.{phase_of, keeps_lock_order, renews_in_time}
+use Rattle.lease.specs.Idle.{is_working, is_work}
+use Rattle.lease.specs.Locks.{own_name, is_own, same_kind, content_of}
+use Rattle.lease.specs.Phase.{Phase, Free, Looked, Asked, Held, Renewing, Leaving, Over, Role, MakesLocks, ListsLocks, PutsOwn, DeletesOwn, Plain, role_of, putting_role, deleting_role, allows, heard, listed_phase}
+use Rattle.lease.specs.Standing.{StandsIn}
+use Rattle.lease.proofs.Added.{adds_none, adds_sent, adds_heard, adds_failed, adds_on}
+use Rattle.lease.proofs.Sessions.{may_call, hears_at}
 
 -- ---- roles
+
+pub same_kind-itself : (kind : LockKind) → same_kind kind kind ≡ true
+same_kind-itself Sync = refl
+same_kind-itself Exclusive = refl
 
 is_own-own : (kind : LockKind) (client : List ℕ) → is_own client (own_name kind client) ≡ true
 is_own-own kind client = (bytes_eq-Decides client client).1 refl
 
-pub role_of-put : (kind : LockKind) (client : List ℕ) (path : Path) (content : List ℕ) → path ≡ LockFile (own_name kind client) → role_of client (Put path content) ≡ PutsOwn kind
-role_of-put kind client path content is = ap (putting_role client) is ∙ rw (is_own-own kind client) refl
+role_of-put : (kind : LockKind) (client : List ℕ) (path : Path) (content : List ℕ) →
+    path ≡ LockFile (own_name kind client) →
+    role_of client (Put path content) ≡ PutsOwn kind
+role_of-put kind client path content is =
+    ap (putting_role client) is ∙ rw (is_own-own kind client) refl
 
-pub role_of-delete : (kind : LockKind) (client : List ℕ) (path : Path) → path ≡ LockFile (own_name kind client) → role_of client (Delete path) ≡ DeletesOwn kind
+role_of-delete : (kind : LockKind) (client : List ℕ) (path : Path) →
+    path ≡ LockFile (own_name kind client) →
+    role_of client (Delete path) ≡ DeletesOwn kind
 role_of-delete kind client path is = ap (deleting_role client) is ∙ rw (is_own-own kind client) refl
 
 -- ---- the folder of locks is made
 
-pub asks_make : (client : List ℕ) (trail : List Event) → StandsIn client trail Free → MayAsk client trail (MakeDir Locks)
-asks_make client trail s = may_ask client trail Free (MakeDir Locks) s tt refl refl sound where
-  sound : (reply : Reply) → IsReplyTo (MakeDir Locks) reply → keeps_lock_order (heard client Free MakesLocks reply) ≡ true
-  sound Failed shape = refl
-  sound (Done now) shape = refl
-  sound (Listed l) shape = absurd shape
-  sound (Got now content) shape = absurd shape
-  sound (GotBlob now len) shape = absurd shape
-  sound (Absent now) shape = absurd shape
-  sound (TooLarge len) shape = absurd shape
+pub asks_make : (client : List ℕ) (trail : List Event) → StandsIn client trail Free →
+    MayAsk client trail (MakeDir Locks)
+asks_make client trail s = record {
+  may = may_call client trail Free (MakeDir Locks) MakesLocks s refl refl refl
+      (made_or_failed (λ r. keeps_lock_order (heard client Free MakesLocks r) ≡ true) Locks refl
+      (λ now early. refl));
+  own = tt;
+  idle = rw (s.phase) refl;
+}
 
-pub after_make : (client : List ℕ) (old new : LineNow) → StandsIn client old.trail Free → IsHeard client (MakeDir Locks) old new → StandsIn client new.trail Free
-after_make client old new s h = by_reply h.0 h.1.shape h.2 (hears_at client Free old new (MakeDir Locks) h.0 s h.1) where
-  by_reply : (reply : Reply) → IsReplyTo (MakeDir Locks) reply → ¬ (reply ≡ Failed) → StandsIn client new.trail (heard client Free MakesLocks reply) → StandsIn client new.trail Free
-  by_reply Failed shape ok t = absurd (ok refl)
-  by_reply (Done now) shape ok t = t
-  by_reply (Listed l) shape ok t = absurd shape
-  by_reply (Got now content) shape ok t = absurd shape
-  by_reply (GotBlob now len) shape ok t = absurd shape
-  by_reply (Absent now) shape ok t = absurd shape
-  by_reply (TooLarge len) shape ok t = absurd shape
+pub after_make : (client : List ℕ) (old new : LineNow) → StandsIn client old.trail Free →
+    IsHeard client (MakeDir Locks) old new → StandsIn client new.trail Free
+after_make client old new s h =
+    let Stays : Reply → Type 0 = λ r.
+    ¬ (r ≡ Failed) → StandsIn client new.trail (heard client Free MakesLocks r) →
+    StandsIn client new.trail Free in
+    made_or_failed Stays Locks (λ n t. absurd (n refl)) (λ now early n t. t) h.0 h.1.shape h.2
+    (hears_at client Free old new (MakeDir Locks) MakesLocks h.0 s refl h.1)
 
 -- ---- the folder of locks is listed
 
-keeps-judged : (kind : LockKind) (j : Judgement) → keeps_lock_order (judged_phase kind j) ≡ true
-keeps-judged kind (Holds stamp) = refl
-keeps-judged kind (Blocked lock) = refl
-keeps-judged kind (Missed own) = refl
+keeps-listed : (kind : LockKind) (own : Option ℕ) (blocking : Option Lock) →
+    keeps_lock_order (listed_phase kind own blocking) ≡ true
+keeps-listed kind None blocking = refl
+keeps-listed kind (Some stamp) None = refl
+keeps-listed kind (Some stamp) (Some lock) = refl
 
-pub asks_list : (client : List ℕ) (trail : List Event) → StandsIn client trail Free → MayAsk client trail (ListDir Locks)
-asks_list client trail s = may_ask client trail Free (ListDir Locks) s tt refl refl sound where
-  sound : (reply : Reply) → IsReplyTo (ListDir Locks) reply → keeps_lock_order (heard client Free ListsLocks reply) ≡ true
-  sound Failed shape = refl
-  sound (Listed l) shape = refl
-  sound (Done now) shape = absurd shape
-  sound (Got now content) shape = absurd shape
-  sound (GotBlob now len) shape = absurd shape
-  sound (Absent now) shape = absurd shape
-  sound (TooLarge len) shape = absurd shape
+lists_in_order : (client : List ℕ) (at : Phase) (l : Listing) → allows client at ListsLocks ≡ true →
+    keeps_lock_order (heard client at ListsLocks (Listed l)) ≡ true
+lists_in_order client Free l h = refl
+lists_in_order client (Asked kind) l h = keeps-listed kind _ _
+lists_in_order client (Renewing kind stamp) l h = keeps-listed kind _ _
+lists_in_order client at l h = cc
 
-pub asks_list_again : (kind : LockKind) (client : List ℕ) (trail : List Event) → StandsIn client trail (Asked kind) → MayAsk client trail (ListDir Locks)
-asks_list_again kind client trail s = may_ask client trail (Asked kind) (ListDir Locks) s tt refl refl sound where
-  sound : (reply : Reply) → IsReplyTo (ListDir Locks) reply → keeps_lock_order (heard client (Asked kind) ListsLocks reply) ≡ true
-  sound Failed shape = refl
-  sound (Listed l) shape = keeps-judged kind (judge kind client l)
-  sound (Done now) shape = absurd shape
-  sound (Got now content) shape = absurd shape
-  sound (GotBlob now len) shape = absurd shape
-  sound (Absent now) shape = absurd shape
-  sound (TooLarge len) shape = absurd shape
+lists_in_time : (client : List ℕ) (at : Phase) (now : ℕ) → allows client at ListsLocks ≡ true →
+    renews_in_time at now ListsLocks ≡ true
+lists_in_time client (Held kind stamp) now h = cc
+lists_in_time client at now h = refl
 
--- this listing was heard in a phase
-pub record HasListed (client : List ℕ) (at : Phase) (old new : LineNow) (listing : Listing) : Type 0 where
-  pub shape : IsListing Locks listing
-  pub ends : new.trail ≡ old.trail ++ Called (ListDir Locks) (Listed listing) ∷ []
-  pub stands : StandsIn client new.trail (heard client at ListsLocks (Listed listing))
+lists_idly : (client : List ℕ) (at : Phase) → allows client at ListsLocks ≡ true →
+    is_work at ListsLocks ≡ false
+lists_idly client (Held kind stamp) h = cc
+lists_idly client at h = refl
 
-pub after_list : (client : List ℕ) (at : Phase) (old new : LineNow) → StandsIn client old.trail at → IsHeard client (ListDir Locks) old new → (listing : Listing) × HasListed client at old new listing
-after_list client at old new s h = by_reply h.0 h.1.shape h.2 h.1.trail (hears_at client at old new (ListDir Locks) h.0 s h.1) where
-  by_reply : (reply : Reply) → IsReplyTo (ListDir Locks) reply → ¬ (reply ≡ Failed) → new.trail ≡ old.trail ++ Called (ListDir Locks) reply ∷ [] → StandsIn client new.trail (heard client at ListsLocks reply) → (listing : Listing) × HasListed client at old new listing
-  by_reply Failed shape ok ends t = absurd (ok refl)
-  by_reply (Listed l) shape ok ends t = (l, record { shape = shape; ends = ends; stands = t })
-  by_reply (Done now) shape ok ends t = absurd shape
-  by_reply (Got now content) shape ok ends t = absurd shape
-  by_reply (GotBlob now len) shape ok ends t = absurd shape
-  by_reply (Absent now) shape ok ends t = absurd shape
-  by_reply (TooLarge len) shape ok ends t = absurd shape
+pub asks_list : (client : List ℕ) (trail : List Event) (at : Phase) → StandsIn client trail at →
+    allows client at ListsLocks ≡ true → MayAsk client trail (ListDir Locks)
+asks_list client trail at s allowed = record {
+  may =
+      may_call client trail at (ListDir Locks) ListsLocks s refl allowed
+      (lists_in_time client at _ allowed)
+      (listed_or_failed (λ r. keeps_lock_order (heard client at ListsLocks r) ≡ true) Locks refl
+      (λ l shape. lists_in_order client at l allowed));
+  own = tt;
+  idle = rw (s.phase) (lists_idly client at allowed);
+}
+
+pub after_list : (client : List ℕ) (at : Phase) (old new : LineNow) → StandsIn client old.trail at →
+    IsHeard client (ListDir Locks) old new → (listing : Listing)
+    × HasAsked client at new.trail listing
+after_list client at old new s h =
+    let Lists : Reply → Type 0 = λ r.
+    ¬ (r ≡ Failed) → Hears client (ListDir Locks) old new r →
+    (listing : Listing) × HasAsked client at new.trail listing in
+    listed_or_failed Lists Locks (λ n hears. absurd (n refl)) (λ l shape n hears. (
+      l,
+      record {
+        before = old.trail;
+        asked = s;
+        ends = hears.trail;
+        shape = shape;
+        stands = hears_at client at old new (ListDir Locks) ListsLocks (Listed l) s refl hears;
+      },
+    )) h.0 h.1.shape h.2 h.1
 
 same_listing : (l m : Listing) → Listed l ≡ Listed m → l ≡ m
 same_listing l m e = cc
 
 -- the listing that was read is the one that was heard
-pub listed_as : (client : List ℕ) (at : Phase) (old new : LineNow) (r : Reply) (l : Listing) → (listing : Listing) × HasListed client at old new listing → ((c : Call) (y : Reply) → EndsWith new.trail c y → r ≡ y) → r ≡ Listed l → HasListed client at old new l
-listed_as client at old new r l listed last is =
-    let same = same_listing listed.0 l (sym (last (ListDir Locks) (Listed listed.0) (old.trail, listed.1.ends)) ∙ is) in
-    subst (λ (m : Listing). HasListed client at old new m) same listed.1
+pub listed_as : (client : List ℕ) (at : Phase) (new : List Event) (r : Reply) (l : Listing) →
+    (listing : Listing) × HasAsked client at new listing →
+    ((c : Call) (y : Reply) → EndsWith new c y → r ≡ y) →
+    r ≡ Listed l → HasAsked client at new l
+listed_as client at new r l h last is =
+    let same = same_listing h.0 l (sym (last (ListDir Locks) (Listed h.0) (h.1.before, h.1.ends)) ∙
+    is) in
+    subst (λ (m : Listing). HasAsked client at new m) same h.1
 
--- ---- the own lock is put
+-- ---- its own lock is put
 
-pub asks_put : (kind : LockKind) (client : List ℕ) (trail : List Event) (path : Path) (content : List ℕ) → MayPut kind client trail → path ≡ LockFile (own_name kind client) → content ≡ content_of kind client → MayAsk client trail (Put path content)
+heard_put : (kind : LockKind) (client : List ℕ) (at : Phase) (now : ℕ) →
+    allows client at (PutsOwn kind) ≡ true →
+    heard client at (PutsOwn kind) (Done now) ≡ asking kind at
+heard_put kind client (Looked listing) now h = refl
+heard_put kind client (Held own stamp) now h = refl
+heard_put kind client at now h = cc
+
+asking_in_order : (kind : LockKind) (at : Phase) → keeps_lock_order (asking kind at) ≡ true
+asking_in_order kind (Held own stamp) = refl
+asking_in_order kind at = refl
+
+puts_idly : (kind : LockKind) (at : Phase) → is_work at (PutsOwn kind) ≡ false
+puts_idly kind (Held own stamp) = refl
+puts_idly kind at = refl
+
+puts_in_earnest : (kind : LockKind) (client : List ℕ) (at : Phase) →
+    allows client at (PutsOwn kind) ≡ true →
+    is_leaving at ≡ false
+puts_in_earnest kind client (Leaving own) h = cc
+puts_in_earnest kind client at h = refl
+
+pub asking_lists : (kind : LockKind) (client : List ℕ) (at : Phase) →
+    allows client (asking kind at) ListsLocks ≡ true
+asking_lists kind client (Held own stamp) = refl
+asking_lists kind client at = refl
+
+asking_unheld : (kind : LockKind) (at : Phase) → is_held (asking kind at) ≡ false
+asking_unheld kind (Held own stamp) = refl
+asking_unheld kind at = refl
+
+asking_in_earnest : (kind : LockKind) (at : Phase) → is_leaving (asking kind at) ≡ false
+asking_in_earnest kind (Held own stamp) = refl
+asking_in_earnest kind at = refl
+
+pub asks_put : (kind : LockKind) (client : List ℕ) (trail : List Event) (path : Path)
+    (content : List ℕ) →
+    MayPut kind client trail → path ≡ LockFile (own_name kind client) →
+    content ≡ content_of kind client →
+    MayAsk client trail (Put path content)
 asks_put kind client trail path content may is whole =
-    may_ask client trail (Looked may.listing) (Put path content) may.looked (kind, is, whole) (rw (role_of-put kind client path content is, may.free) refl) refl (λ reply shape. rw (role_of-put kind client path content is) (sound reply shape)) where
-      sound : (reply : Reply) → IsReplyTo (Put path content) reply → keeps_lock_order (heard client (Looked may.listing) (PutsOwn kind) reply) ≡ true
-      sound Failed shape = refl
-      sound (Done now) shape = refl
-      sound (Listed l) shape = absurd shape
-      sound (Got now bytes) shape = absurd shape
-      sound (GotBlob now len) shape = absurd shape
-      sound (Absent now) shape = absurd shape
-      sound (TooLarge len) shape = absurd shape
+    let at = phase_of client trail in
+    let role = role_of-put kind client path content is in
+    record {
+      may =
+          may_call client trail at (Put path content) (PutsOwn kind)
+          may.stands role may.allowed may.in_time
+          (done_or_failed (λ r. keeps_lock_order (heard client at (PutsOwn kind) r) ≡ true)
+          path content refl
+          (λ now early. ap keeps_lock_order (heard_put kind client at now may.allowed) ∙
+          asking_in_order kind at));
+      own = (kind, is, whole);
+      idle = rw role (puts_idly kind at);
+    }
 
-pub after_put : (kind : LockKind) (client : List ℕ) (old new : LineNow) (path : Path) (content : List ℕ) → MayPut kind client old.trail → path ≡ LockFile (own_name kind client) → IsHeard client (Put path content) old new → StandsIn client new.trail (Asked kind)
+pub after_put : (kind : LockKind) (client : List ℕ) (old new : LineNow) (path : Path)
+    (content : List ℕ) →
+    MayPut kind client old.trail → path ≡ LockFile (own_name kind client) →
+    IsHeard client (Put path content) old new →
+    StandsIn client new.trail (asking kind (phase_of client old.trail))
 after_put kind client old new path content may is h =
-    by_reply h.0 h.1.shape h.2 (subst (λ (r : Role). StandsIn client new.trail (heard client (Looked may.listing) r h.0)) (role_of-put kind client path content is) (hears_at client (Looked may.listing) old new (Put path content) h.0 may.looked h.1)) where
-      by_reply : (reply : Reply) → IsReplyTo (Put path content) reply → ¬ (reply ≡ Failed) → StandsIn client new.trail (heard client (Looked may.listing) (PutsOwn kind) reply) → StandsIn client new.trail (Asked kind)
-      by_reply Failed shape ok t = absurd (ok refl)
-      by_reply (Done now) shape ok t = t
-      by_reply (Listed l) shape ok t = absurd shape
-      by_reply (Got now bytes) shape ok t = absurd shape
-      by_reply (GotBlob now len) shape ok t = absurd shape
-      by_reply (Absent now) shape ok t = absurd shape
-      by_reply (TooLarge len) shape ok t = absurd shape
+    let at = phase_of client old.trail in
+    let Asks : Reply → Type 0 = λ r.
+    ¬ (r ≡ Failed) → StandsIn client new.trail (heard client at (PutsOwn kind) r) →
+    StandsIn client new.trail (asking kind at) in
+    done_or_failed Asks path content (λ n t. absurd (n refl))
+    (λ now early n t. subst (λ (p : Phase). StandsIn client new.trail p)
+    (heard_put kind client at now may.allowed) t)
+    h.0 h.1.shape h.2
+    (hears_at client at old new (Put path content) (PutsOwn kind) h.0 may.stands
+    (role_of-put kind client path content is) h.1)
 
--- ---- the own lock is deleted
+-- ---- its own lock is deleted
 
-pub over_leaving : (client : List ℕ) (kind own : LockKind) (reply : Reply) → heard client (Leaving kind) (DeletesOwn own) reply ≡ Over
-over_leaving client kind own Failed = refl
-over_leaving client kind own (Listed l) = refl
-over_leaving client kind own (Got now bytes) = refl
-over_leaving client kind own (GotBlob now len) = refl
-over_leaving client kind own (Absent now) = refl
-over_leaving client kind own (Done now) = refl
-over_leaving client kind own (TooLarge len) = refl
+pub over_deleted : (kind : LockKind) (client : List ℕ) (at : Phase) (reply : Reply) →
+    allows client at (DeletesOwn kind) ≡ true → heard client at (DeletesOwn kind) reply ≡ Over
+over_deleted kind client (Leaving own) Failed h = refl
+over_deleted kind client (Leaving own) reply h = refl
+over_deleted kind client (Held own stamp) Failed h = refl
+over_deleted kind client (Held own stamp) reply h = refl
+over_deleted kind client at reply h = cc
 
-pub over_held : (client : List ℕ) (kind own : LockKind) (stamp : ℕ) (reply : Reply) → heard client (Held kind stamp) (DeletesOwn own) reply ≡ Over
-over_held client kind own stamp Failed = refl
-over_held client kind own stamp (Listed l) = refl
-over_held client kind own stamp (Got now bytes) = refl
-over_held client kind own stamp (GotBlob now len) = refl
-over_held client kind own stamp (Absent now) = refl
-over_held client kind own stamp (Done now) = refl
-over_held client kind own stamp (TooLarge len) = refl
+deletes_in_time : (kind : LockKind) (at : Phase) (now : ℕ) →
+    renews_in_time at now (DeletesOwn kind) ≡ true
+deletes_in_time kind (Held own stamp) now = refl
+deletes_in_time kind at now = refl
 
-pub asks_leave : (kind : LockKind) (client : List ℕ) (trail : List Event) (path : Path) → StandsIn client trail (Leaving kind) → path ≡ LockFile (own_name kind client) → MayAsk client trail (Delete path)
-asks_leave kind client trail path s is =
-    may_ask client trail (Leaving kind) (Delete path) s (kind, is) (rw (role_of-delete kind client path is, same_kind-itself kind) refl) refl (λ reply shape. rw (role_of-delete kind client path is, over_leaving client kind kind reply) refl)
+deletes_idly : (kind : LockKind) (at : Phase) → is_work at (DeletesOwn kind) ≡ false
+deletes_idly kind (Held own stamp) = refl
+deletes_idly kind at = refl
 
-pub after_leave : (kind : LockKind) (client : List ℕ) (old new : LineNow) (path : Path) (reply : Reply) → StandsIn client old.trail (Leaving kind) → path ≡ LockFile (own_name kind client) → Hears client (Delete path) old new reply → StandsIn client new.trail Over
-after_leave kind client old new path reply s is h =
-    let t = hears_at client (Leaving kind) old new (Delete path) reply s h in
-    let role = ap (λ (r : Role). heard client (Leaving kind) r reply) (role_of-delete kind client path is) ∙ over_leaving client kind kind reply in
-    subst (λ (p : Phase). StandsIn client new.trail p) role t
+pub asks_delete : (kind : LockKind) (client : List ℕ) (at : Phase) (trail : List Event)
+    (path : Path) →
+    StandsIn client trail at → allows client at (DeletesOwn kind) ≡ true →
+    path ≡ LockFile (own_name kind client) →
+    MayAsk client trail (Delete path)
+asks_delete kind client at trail path s allowed is =
+    let role = role_of-delete kind client path is in
+    record {
+      may =
+          may_call client trail at (Delete path) (DeletesOwn kind) s role allowed
+          (deletes_in_time kind at _)
+          (λ reply shape. ap keeps_lock_order (over_deleted kind client at reply allowed));
+      own = (kind, is);
+      idle = rw (s.phase, role) (deletes_idly kind at);
+    }
 
-pub asks_release : (kind : LockKind) (client : List ℕ) (stamp : ℕ) (trail : List Event) (path : Path) → StandsIn client trail (Held kind stamp) → path ≡ LockFile (own_name kind client) → MayAsk client trail (Delete path)
-asks_release kind client stamp trail path s is =
-    may_ask client trail (Held kind stamp) (Delete path) s (kind, is) (rw (role_of-delete kind client path is, same_kind-itself kind) refl) (rw (role_of-delete kind client path is) refl) (λ reply shape. rw (role_of-delete kind client path is, over_held client kind kind stamp reply) refl)
+-- ---- a lease is held on
 
-pub after_release : (kind : LockKind) (client : List ℕ) (stamp : ℕ) (old new : LineNow) (path : Path) (reply : Reply) → StandsIn client old.trail (Held kind stamp) → path ≡ LockFile (own_name kind client) → Hears client (Delete path) old new reply → StandsIn client new.trail Over
-after_release kind client stamp old new path reply s is h =
-    let t = hears_at client (Held kind stamp) old new (Delete path) reply s h in
-    let role = ap (λ (r : Role). heard client (Held kind stamp) r reply) (role_of-delete kind client path is) ∙ over_held client kind kind stamp reply in
-    subst (λ (p : Phase). StandsIn client new.trail p) role t
+pub held_stays : (client : List ℕ) (kind : LockKind) (stamp : ℕ) (role : Role) (reply : Reply) →
+    is_working role ≡ true →
+    is_failed reply ≡ false → heard client (Held kind stamp) role reply ≡ Held kind stamp
+held_stays client kind stamp MakesLocks Failed h f = cc
+held_stays client kind stamp MakesLocks reply h f = refl
+held_stays client kind stamp Plain Failed h f = cc
+held_stays client kind stamp Plain reply h f = refl
+held_stays client kind stamp role reply h f = cc
 
 -- ---- calls that gave nothing
 
-pub heard-failed : (client : List ℕ) (at : Phase) (role : Role) → heard client at role Failed ≡ Over
-heard-failed client at role = refl
-
-pub not_held : (client : List ℕ) (trail : List Event) (at : Phase) → StandsIn client trail at → is_held at ≡ false → is_held (phase_of client trail) ≡ false
-not_held client trail at s h = rw (s.phase) h
-
-pub ends_failed : (client : List ℕ) (old new : LineNow) (call : Call) (at : Phase) → StandsIn client old.trail at → is_leaving at ≡ false → Hears client call old new Failed → EndsFailed client new.trail
+ends_failed : (client : List ℕ) (old new : LineNow) (call : Call) (at : Phase) →
+    StandsIn client old.trail at →
+    is_leaving at ≡ false → Hears client call old new Failed → EndsFailed client new.trail
 ends_failed client old new call at s stays h = record {
   before = old.trail;
   call = call;
   ends = h.trail;
   matters = rw (s.phase) stays;
-  over = subst (λ (p : Phase). StandsIn client new.trail p) (heard-failed client (phase_of client old.trail) (role_of client call)) h.stands;
+  over = h.stands;
 }
 
-pub gives_up : (client : List ℕ) (old mid new : LineNow) (call : Call) (at : Phase) (e : AskErr) → old.faults ≤ mid.faults → StandsIn client mid.trail at → is_held at ≡ false → is_leaving at ≡ false → IsRefused client call mid new e → GivesUp client old new e
-gives_up client old mid new call at Fault later s free stays refused = record { failed = ends_failed client mid new call at s stays refused.0; rose = omega (arith, later, refused.1) }
-gives_up client old mid new call at NoMemory later s free stays refused = elim refused [
-  | inl same ↦ not_held client new.trail (phase_of client mid.trail) same (not_held client mid.trail at s free)
-  | inr over ↦ not_held client new.trail Over over refl
+pub starved : (client : List ℕ) (old new : LineNow) (call : Call) (rest : List Call) →
+    IsRefused client call old new NoMemory → GivesUp (call ∷ rest) client old new NoMemory
+starved client old new call rest refused = elim refused [
+  | inl same ↦ (inl same, (call ∷ rest, adds_none (call ∷ rest) old.trail new.trail same))
+  | inr last ↦ (
+    inr (rw (last.over.phase) refl),
+    (rest, adds_sent call rest old.trail new.trail last.trail),
+  )
 ]
+
+-- the first of some calls
+pub gives_up : (client : List ℕ) (old new : LineNow) (call : Call) (rest : List Call) (at : Phase)
+    (e : AskErr) →
+    StandsIn client old.trail at → is_leaving at ≡ false → IsRefused client call old new e →
+    GivesUp (call ∷ rest) client old new e
+gives_up client old new call rest at Fault s stays refused = (
+  record { failed = ends_failed client old new call at s stays refused.0; rose = refused.1 },
+  (rest, adds_failed call rest old.trail new.trail refused.0.trail),
+)
+gives_up client old new call rest at NoMemory s stays refused =
+    starved client old new call rest refused
+
+-- some calls behind others
+pub gives_up_on : (client : List ℕ) (a b c : LineNow) (first calls : List Call) (at : Phase)
+    (e : AskErr) →
+    AddsCalls first [] false a.trail b.trail → a.target.faults ≤ b.target.faults →
+    StandsIn client b.trail at → is_held at ≡ false →
+    GivesUp calls client b c e → GivesUp (first ++ calls) client a c e
+gives_up_on client a b c first calls at Fault h later s free k = (
+  record { failed = k.0.failed; rose = let r = k.0.rose in omega arith },
+  (k.1.0, adds_on first calls k.1.0 true a.trail b.trail c.trail h k.1.1),
+)
+gives_up_on client a b c first calls at NoMemory h later s free k = (
+  elim (k.0) [ inl same ↦ inr (rw (same, s.phase) free) | inr unheld ↦ inr unheld ],
+  (k.1.0, adds_on first calls k.1.0 false a.trail b.trail c.trail h k.1.1),
+)
+
+-- ---- the put and the listing behind it
+
+put_is : (kind : LockKind) (client : List ℕ) (path : Path) (content : List ℕ) →
+    path ≡ LockFile (own_name kind client) →
+    content ≡ content_of kind client → Put path content ≡ Put (LockFile (own_name kind client))
+    (content_of kind client)
+put_is kind client path content is whole = cc
+
+pub put_heard : (kind : LockKind) (client : List ℕ) (old new : LineNow) (path : Path)
+    (content : List ℕ) →
+    path ≡ LockFile (own_name kind client) → content ≡ content_of kind client →
+    IsHeard client (Put path content) old new →
+    AddsCalls (Put (LockFile (own_name kind client)) (content_of kind client) ∷ []) []
+    false old.trail new.trail
+put_heard kind client old new path content is whole h =
+    subst (λ (c : Call). AddsCalls (c ∷ []) [] false old.trail new.trail)
+    (put_is kind client path content is whole)
+    (adds_heard (Put path content) [] h.0 old.trail new.trail h.1.trail h.2)
+
+pub put_refused : (kind : LockKind) (client : List ℕ) (old new : LineNow) (path : Path)
+    (content : List ℕ) (e : AskErr) →
+    MayPut kind client old.trail → path ≡ LockFile (own_name kind client) →
+    content ≡ content_of kind client →
+    IsRefused client (Put path content) old new e → GivesUp (put_calls kind client) client old new e
+put_refused kind client old new path content e may is whole refused =
+    subst (λ (c : Call). GivesUp (c ∷ ListDir Locks ∷ []) client old new e)
+    (put_is kind client path content is whole)
+    (gives_up client old new (Put path content) (ListDir Locks ∷ []) (phase_of client old.trail)
+    e may.stands
+    (puts_in_earnest kind client (phase_of client old.trail) may.allowed) refused)
+
+pub look_refused : (kind : LockKind) (client : List ℕ) (a b c : LineNow) (at : Phase) (e : AskErr) →
+    AddsCalls (Put (LockFile (own_name kind client)) (content_of kind client) ∷ []) []
+    false a.trail b.trail →
+    a.target.faults ≤ b.target.faults → StandsIn client b.trail (asking kind at) →
+    IsRefused client (ListDir Locks) b c e →
+    GivesUp (put_calls kind client) client a c e
+look_refused kind client a b c at e h later s refused =
+    gives_up_on client a b c (Put (LockFile (own_name kind client)) (content_of kind client) ∷ [])
+    (ListDir Locks ∷ [])
+    (asking kind at) e h later s (asking_unheld kind at)
+    (gives_up client b c (ListDir Locks) [] (asking kind at) e s (asking_in_earnest kind at)
+    refused)

@@ -1,3 +1,4 @@
+pub mod Added
 pub mod Blocks
 pub mod Calls
 pub mod Example
@@ -7,7 +8,13 @@ pub mod Law
 pub mod LockFiles
 pub mod Moves
 pub mod Named
+pub mod Outcomes
+pub mod Renewals
 pub mod Sessions
 pub mod Shown
 pub mod Stamps
+pub mod Touched
+pub mod WholeSessions
+pub mod Works
 pub mod World
+pub mod Written

@@ -1,43 +1,80 @@
--- The stamps of locks are those of the listing's entries.
-use Rattle.std.proofs.Common.{◌≡◌, ◌≤◌, ◌+◌, refl, arith, ℕ, suc, List, [], ◌∷◌, Bool, true, false, find, option_map, nat_lt, cond, Option, Some, None}
+-- The stamp of a client's own lock in a listing.
+use Rattle.std.proofs.Common.{◌≡◌, ◌≤◌, ◌<◌, ◌+◌, refl, arith, ℕ, suc, List, [], ◌∷◌, Bool, true, false, cond, nat_lt, find, option_map, Option, Some, None}
 use Rattle.std.specs.Prelude.{All}
+use Rattle.std.proofs.lemmas.Bool.{and_parts, ltb-true}
 use Rattle.jop_base.specs.declared.lock_name.LockKind.{LockKind}
 use Rattle.jop_base.specs.declared.path.Path.{Path}
-use Rattle.jop_base.specs.declared.path.Path.TheVariants.{Info, OldVersion, Item, Blob, Lock as LockFile, Temp}
+use Rattle.jop_base.specs.declared.path.Path.TheVariants.{Lock as LockFile}
 use Rattle.jop_target.specs.declared.reply.Entry.{Entry}
 use Rattle.jop_target.specs.declared.reply.Listing.{Listing}
 use Rattle.lease.specs.declared.lock.Lock.{Lock}
-use Rattle.lease.specs.Locks.{RENEWAL}
-use Rattle.lease.specs.Locks.{locks_in, with_lock, is_own_of}
-use Rattle.lease.specs.Phase.{Holds, Missed, judged, in_way_of, judge}
+use Rattle.lease.specs.Locks.{RENEWAL, locks_in, with_lock, is_own_of, own_stamp}
+use Rattle.lease.specs.Phase.{is_in_time, stamp_in_time}
 
-chosen : (b : Bool) (most : ℕ) (lock found : Lock) (rest : Option Lock) → lock.stamp ≤ most → (rest ≡ Some found → found.stamp ≤ most) → cond b (Some lock) rest ≡ Some found → found.stamp ≤ most
-chosen true most lock found rest first others is = let same : lock.stamp ≡ found.stamp = cc in omega arith
+-- ---- no stamp is later than those of the listing
+
+chosen : (b : Bool) (most : ℕ) (lock found : Lock) (rest : Option Lock) → lock.stamp ≤ most →
+    (rest ≡ Some found → found.stamp ≤ most) → cond b (Some lock) rest ≡ Some found →
+    found.stamp ≤ most
+chosen true most lock found rest first others is =
+    let same : lock.stamp ≡ found.stamp = cc in omega arith
 chosen false most lock found rest first others is = others is
 
-behind : (p : Lock → Bool) (most : ℕ) (path : Path) (stamp : ℕ) (locks : List Lock) (found : Lock) → stamp ≤ most → (find p locks ≡ Some found → found.stamp ≤ most) → find p (with_lock path stamp locks) ≡ Some found → found.stamp ≤ most
-behind p most (LockFile name) stamp locks found small rest is = chosen (p (record { name = name; stamp = stamp })) most (record { name = name; stamp = stamp }) found (find p locks) small rest is
-behind p most Info stamp locks found small rest is = rest is
-behind p most OldVersion stamp locks found small rest is = rest is
-behind p most (Item id) stamp locks found small rest is = rest is
-behind p most (Blob id) stamp locks found small rest is = rest is
-behind p most (Temp id) stamp locks found small rest is = rest is
+behind : (p : Lock → Bool) (most : ℕ) (path : Path) (stamp : ℕ) (locks : List Lock) (found : Lock) →
+    stamp ≤ most →
+    (find p locks ≡ Some found → found.stamp ≤ most) →
+    find p (with_lock path stamp locks) ≡ Some found → found.stamp ≤ most
+behind p most (LockFile name) stamp locks found small rest is =
+    let lock : Lock = record { name = name; stamp = stamp } in
+    chosen (p lock) most lock found (find p locks) small rest is
+behind p most path stamp locks found small rest is = rest is
 
-pub find-locks_in : (p : Lock → Bool) (most : ℕ) (es : List Entry) (found : Lock) → All (λ (e : Entry). e.stamp ≤ most) es → find p (locks_in es) ≡ Some found → found.stamp ≤ most
-find-locks_in p most [] found small is = cc
-find-locks_in p most (e ∷ es) found small is = behind p most e.path e.stamp (locks_in es) found (small 0 e (omega arith)) (find-locks_in p most es found (λ i d lt. small (suc i) d (omega arith))) is
+found-le : (p : Lock → Bool) (most : ℕ) (es : List Entry) (found : Lock) →
+    All (λ (e : Entry). e.stamp ≤ most) es →
+    find p (locks_in es) ≡ Some found → found.stamp ≤ most
+found-le p most [] found small is = cc
+found-le p most (e ∷ es) found small is =
+    behind p most e.path e.stamp (locks_in es) found (small 0 e (omega arith))
+    (found-le p most es found (λ i d lt. small (suc i) d (omega arith))) is
 
-stamp_of : (most u : ℕ) (o : Option Lock) → ((found : Lock) → o ≡ Some found → found.stamp ≤ most) → option_map (λ (lock : Lock). lock.stamp) o ≡ Some u → u ≤ most
+stamp_of : (most u : ℕ) (o : Option Lock) → ((found : Lock) → o ≡ Some found → found.stamp ≤ most) →
+    option_map (λ (lock : Lock). lock.stamp) o ≡ Some u → u ≤ most
 stamp_of most u None small is = cc
-stamp_of most u (Some lock) small is = let same : lock.stamp ≡ u = cc in omega (arith, small lock refl)
+stamp_of most u (Some lock) small is =
+    let same : lock.stamp ≡ u = cc in omega (arith, small lock refl)
 
-holds : (now stamp : ℕ) (own : Option ℕ) (blocking : Option Lock) → judged now own blocking ≡ Holds stamp → own ≡ Some stamp
-holds now stamp None blocking is = cc
-holds now stamp (Some u) blocking is = in_time (nat_lt now (u + RENEWAL)) blocking is where
-  in_time : (b : Bool) (o : Option Lock) → cond b (in_way_of u o) (Missed (Some u)) ≡ Holds stamp → Some u ≡ Some stamp
-  in_time true None k = cc
-  in_time true (Some lock) k = cc
-  in_time false o k = cc
+pub own_stamp-le : (kind : LockKind) (client : List ℕ) (listing : Listing) (most stamp : ℕ) →
+    All (λ (e : Entry). e.stamp ≤ most) listing.entries →
+    own_stamp kind client listing ≡ Some stamp → stamp ≤ most
+own_stamp-le kind client listing most stamp small is =
+    stamp_of most stamp (find (is_own_of kind client) (locks_in listing.entries))
+    (λ found. found-le (is_own_of kind client) most listing.entries found small) is
 
-pub stamp-le : (kind : LockKind) (client : List ℕ) (listing : Listing) (most stamp : ℕ) → All (λ (e : Entry). e.stamp ≤ most) listing.entries → judge kind client listing ≡ Holds stamp → stamp ≤ most
-stamp-le kind client listing most stamp small is = stamp_of most stamp (find (is_own_of kind client) (locks_in listing.entries)) (λ found. find-locks_in (is_own_of kind client) most listing.entries found small) (holds listing.now stamp _ _ is)
+-- ---- a stamp in time
+
+pub record IsInTime (end : Option ℕ) (now : ℕ) (own : Option ℕ) (stamp : ℕ) : Type 0 where
+  pub own_is : own ≡ Some stamp
+  pub in_time : is_in_time end now stamp ≡ true
+
+in_time_if : (end : Option ℕ) (now u stamp : ℕ) (b : Bool) → is_in_time end now u ≡ b →
+    cond b (Some u) None ≡ Some stamp →
+    IsInTime end now (Some u) stamp
+in_time_if end now u stamp true is h =
+    let same : u ≡ stamp = cc in record { own_is = h; in_time = rw (← same) is }
+in_time_if end now u stamp false is h = cc
+
+pub stamp_is_in_time : (end : Option ℕ) (now : ℕ) (own : Option ℕ) (stamp : ℕ) →
+    stamp_in_time end now own ≡ Some stamp →
+    IsInTime end now own stamp
+stamp_is_in_time end now None stamp h = cc
+stamp_is_in_time end now (Some u) stamp h = in_time_if end now u stamp (is_in_time end now u) refl h
+
+pub in_time-soon : (end : Option ℕ) (now stamp : ℕ) → is_in_time end now stamp ≡ true →
+    now < stamp + RENEWAL
+in_time-soon None now stamp h = ltb-true _ _ h
+in_time-soon (Some end) now stamp h =
+    ltb-true _ _ (and_parts (nat_lt stamp end) (nat_lt now (stamp + RENEWAL)) h).1
+
+pub in_time-before : (end now stamp : ℕ) → is_in_time (Some end) now stamp ≡ true → stamp < end
+in_time-before end now stamp h =
+    ltb-true _ _ (and_parts (nat_lt stamp end) (nat_lt now (stamp + RENEWAL)) h).0

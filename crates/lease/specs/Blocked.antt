@@ -14,11 +14,16 @@ use Rattle.lease.specs.declared.lock.Lock.{Lock}
 use Rattle.lease.specs.Exclusion.{EndsIn}
 use Rattle.lease.specs.Locks.{excludes, is_live, is_own}
 
--- The lock stands among the files with its stamp; at this moment it is live; it is another's; and it keeps the client
--- from a lease of this kind.
-pub record StandsInTheWay (files : List File) (now : ℕ) (kind : LockKind) (client : List ℕ) (lock : Lock) : Type 0 where
+-- The lock stands among the files with its stamp; at this moment it is live; it is another's; and
+-- it keeps the client from a lease of this kind.
+pub record StandsInTheWay (files : List File) (now : ℕ) (kind : LockKind) (client : List ℕ)
+    (lock : Lock) : Type 0 where
   pub content : Content
-  pub stands : Contains files (record { path = LockFile lock.name; content = content; stamp = lock.stamp })
+  pub stands : Contains files (record {
+    path = LockFile lock.name;
+    content = content;
+    stamp = lock.stamp;
+  })
   pub live : is_live lock now ≡ true
   pub another : is_own client lock.name ≡ false
   pub excluded : excludes kind lock.name.kind ≡ true
@@ -31,8 +36,10 @@ pub record IsShown (h : History) (place : ℕ) (client : List ℕ) (listing : Li
   pub by : step.client ≡ client
   pub listed : step.happens ≡ Answered (ListDir Locks) (Listed listing) landed
 
--- Behind so many of its events the client was shown the locks at this moment, and the lock stood in its way.
-pub record WasInTheWay (h : History) (behind : ℕ) (kind : LockKind) (client : List ℕ) (lock : Lock) (now : ℕ) : Type 0 where
+-- Behind so many of its events the client was shown the locks at this moment, and the lock stood in
+-- its way.
+pub record WasInTheWay (h : History) (behind : ℕ) (kind : LockKind) (client : List ℕ) (lock : Lock)
+    (now : ℕ) : Type 0 where
   pub place : ℕ
   pub listing : Listing
   pub shown : IsShown h place client listing
@@ -40,6 +47,9 @@ pub record WasInTheWay (h : History) (behind : ℕ) (kind : LockKind) (client : 
   pub in_trail : behind ≤ length (part_of client (take place h.steps))
   pub stood : StandsInTheWay (tree_at h place).files now kind client lock
 
--- Whatever honest history this trail is a client's last part of: the lock stood in its way, at a listing of the trail.
+-- Whatever honest history this trail is a client's last part of: the lock stood in its way, at a
+-- listing of the trail.
 abbrev pub NamesALiveLock : LockKind → List ℕ → List Event → Lock → ℕ → Type 0
-NamesALiveLock kind client trail lock now = (h : History) → IsHonest h → (ends : EndsIn h client trail) → WasInTheWay h (length ends.earlier) kind client lock now
+NamesALiveLock kind client trail lock now =
+    (h : History) → IsHonest h → (ends : EndsIn h client trail) →
+    WasInTheWay h (length ends.earlier) kind client lock now

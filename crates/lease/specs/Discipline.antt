@@ -2,14 +2,15 @@
 use Rattle.std.specs.Prelude.{ℕ, ◌+◌, List, [], ◌∷◌, Bool, true, false, ◌&&◌, nat_le, nat_lt, ◌≡◌}
 use Rattle.jop_target.specs.declared.call.Call.{Call}
 use Rattle.jop_target.specs.declared.reply.Reply.{Reply}
-use Rattle.jop_target.specs.declared.reply.Reply.TheVariants.{Listed, Got, GotBlob, Absent, Done, Failed, TooLarge}
 use Rattle.jop_target.specs.declared.event.Event.{Event}
 use Rattle.jop_target.specs.declared.event.Event.TheVariants.{Began, Sent, Called, Made, Ended}
+use Rattle.jop_target.specs.Trail.{told}
 use Rattle.lease.specs.Locks.{RENEWAL}
 use Rattle.lease.specs.Phase.{Phase, Free, Looked, Held, Over, Broken, Role, PutsOwn, DeletesOwn, role_of, phase_after, phase_unheard}
 
--- What is seen of the last session of a trail: whether it goes on; its phase; the last moment that it was told, 0 before
--- the first; and whether it has kept the discipline.
+-- What is seen of the last session of a trail: whether it goes on; its phase; the last moment that
+-- it was told, 0 before the first; and whether it has kept its locks in order so far, and renewed
+-- in time.
 pub record Session : Type 0 where
   pub running : Bool
   pub phase : Phase
@@ -18,12 +19,13 @@ pub record Session : Type 0 where
 
 -- ---- the three tests
 
--- only own locks are put and deleted, each in its order, and nothing is called when all is over
+-- only its own locks are put and deleted, each in its order, and nothing is called when all is over
 abbrev pub keeps_lock_order : Phase → Bool
 keeps_lock_order Broken = false
 keeps_lock_order phase = true
 
--- a held lease is renewed when it is due by the last moment heard, before anything else, and not sooner
+-- a held lease is renewed when it is due by the last moment heard, before anything else, and not
+-- sooner
 abbrev pub renews_in_time : Phase → ℕ → Role → Bool
 renews_in_time (Held kind stamp) now (PutsOwn own) = nat_le (stamp + RENEWAL) now
 renews_in_time (Held kind stamp) now (DeletesOwn own) = true
@@ -39,16 +41,6 @@ ends_released phase = false
 
 -- ---- the monitor
 
--- the moment that a reply tells
-abbrev pub told : ℕ → Reply → ℕ
-told last (Listed listing) = listing.now
-told last (Got now content) = now
-told last (GotBlob now len) = now
-told last (Absent now) = now
-told last (Done now) = now
-told last Failed = last
-told last (TooLarge len) = last
-
 -- a session that begins, whatever stands before it
 abbrev pub begun : Session
 begun = record { running = true; phase = Free; now = 0; lawful = true }
@@ -62,7 +54,9 @@ after_call client s call reply = record {
   running = s.running;
   phase = phase_after client s.phase call reply;
   now = told s.now reply;
-  lawful = s.lawful && (s.running && (renews_in_time s.phase s.now (role_of client call) && keeps_lock_order (phase_after client s.phase call reply)));
+  lawful = s.lawful && (s.running
+      && (renews_in_time s.phase s.now (role_of client call)
+      && keeps_lock_order (phase_after client s.phase call reply)));
 }
 
 abbrev pub after_unheard : List ℕ → Session → Call → Session
@@ -70,7 +64,9 @@ after_unheard client s call = record {
   running = s.running;
   phase = phase_unheard client s.phase call;
   now = s.now;
-  lawful = s.lawful && (s.running && (renews_in_time s.phase s.now (role_of client call) && keeps_lock_order (phase_unheard client s.phase call)));
+  lawful = s.lawful && (s.running
+      && (renews_in_time s.phase s.now (role_of client call)
+      && keeps_lock_order (phase_unheard client s.phase call)));
 }
 
 abbrev pub session_after : List ℕ → Session → Event → Session
@@ -78,7 +74,12 @@ session_after client s Began = begun
 session_after client s (Sent call) = after_unheard client s call
 session_after client s (Called call reply) = after_call client s call reply
 session_after client s (Made number) = s
-session_after client s Ended = record { running = false; phase = s.phase; now = s.now; lawful = s.lawful && (s.running && ends_released s.phase) }
+session_after client s Ended = record {
+  running = false;
+  phase = s.phase;
+  now = s.now;
+  lawful = s.lawful && s.running;
+}
 
 unfoldable pub session_from : List ℕ → Session → List Event → Session
 session_from client s [] = s
@@ -100,6 +101,20 @@ lawful_from client s [] = s.lawful
 lawful_from client s (Began ∷ es) = s.lawful && lawful_from client begun es
 lawful_from client s (e ∷ es) = lawful_from client (session_after client s e) es
 
--- each session of the trail keeps the lock discipline for this client, and no call stands outside a session
-abbrev pub ObeysLocks : List ℕ → List Event → Type 0
-ObeysLocks client trail = lawful_from client outside trail ≡ true
+-- each session that ends has released its lock, as far as it can know
+unfoldable pub released_from : List ℕ → Session → List Event → Bool
+released_from client s [] = true
+released_from client s (Ended ∷ es) =
+    ends_released s.phase && released_from client (session_after client s Ended) es
+released_from client s (e ∷ es) = released_from client (session_after client s e) es
+
+-- each session of the trail keeps this client's locks in order and renews in time, and no call
+-- stands outside a session
+abbrev pub KeepsLocks : List ℕ → List Event → Type 0
+KeepsLocks client trail = lawful_from client outside trail ≡ true
+
+-- each session of the trail obeys the lock discipline: it keeps its locks, and releases them at its
+-- end
+pub record ObeysLocks (client : List ℕ) (trail : List Event) : Type 0 where
+  pub keeps : KeepsLocks client trail
+  pub releases : released_from client outside trail ≡ true

@@ -5,7 +5,7 @@ use Rattle.jop_base.specs.declared.lock_name.LockKind.TheVariants.{Exclusive}
 use Rattle.jop_target.specs.History.{History, Step, Writes, IsHonest, part_of}
 use Rattle.jop_target.specs.declared.event.Event.{Event}
 use Rattle.jop_target.specs.declared.event.Event.TheVariants.{Began}
-use Rattle.lease.specs.Discipline.{ObeysLocks, phase_of}
+use Rattle.lease.specs.Discipline.{KeepsLocks, phase_of}
 use Rattle.lease.specs.Locks.{LIFE}
 use Rattle.lease.specs.Phase.{Phase, Held}
 
@@ -31,21 +31,24 @@ session_at client before = count_by is_began (part_of client before)
 
 -- each write lands before the end of the lease under which it is made
 pub record IsTimely (h : History) : Type 0 where
-  pub each : (place : ℕ) (client : List ℕ) (kind : LockKind) (stamp : ℕ) (write : Writes h place client) → Holds h place client kind stamp → write.step.moment < stamp + LIFE
+  pub each : (place : ℕ) (client : List ℕ) (kind : LockKind) (stamp : ℕ)
+      (write : Writes h place client) → Holds h place client kind stamp →
+      write.step.moment < stamp + LIFE
 
--- each session of each client keeps the lock discipline, whatever it writes
-pub record AllObey (h : History) : Type 0 where
-  pub each : (client : List ℕ) → ObeysLocks client (part_of client h.steps)
+-- each session of each client keeps its locks in order and renews in time, whatever it writes; it
+-- need not release them
+pub record AllKeepLocks (h : History) : Type 0 where
+  pub each : (client : List ℕ) → KeepsLocks client (part_of client h.steps)
 
--- What this client did is earlier sessions that keep the lock discipline, and then this trail.
+-- What this client did is earlier sessions that keep its locks, and then this trail.
 pub record EndsIn (h : History) (client : List ℕ) (trail : List Event) : Type 0 where
   pub earlier : List Event
   pub part : part_of client h.steps ≡ earlier ++ trail
-  pub obeyed : ObeysLocks client earlier
+  pub kept : KeepsLocks client earlier
 
--- the sessions of all other clients keep the lock discipline
-pub record OthersObey (h : History) (client : List ℕ) : Type 0 where
-  pub each : (other : List ℕ) → other ≢ client → ObeysLocks other (part_of other h.steps)
+-- the sessions of all other clients keep theirs
+pub record OthersKeepLocks (h : History) (client : List ℕ) : Type 0 where
+  pub each : (other : List ℕ) → other ≢ client → KeepsLocks other (part_of other h.steps)
 
 -- ---- upgrades
 
@@ -77,13 +80,18 @@ pub record HasUpgrade (h : History) : Type 0 where
 
 -- ---- the promise
 
-pub record IsExclusive (h : History) : Type 0 where
+pub record IsHeldApart (h : History) : Type 0 where
   -- no other client writes within an upgrade
-  pub alone : (place : ℕ) (client other : List ℕ) (session : ℕ) → IsInSpan h place client session → Writes h place other → other ≡ client
+  pub alone : (place : ℕ) (client other : List ℕ) (session : ℕ) → IsInSpan h place client session →
+      Writes h place other → other ≡ client
   -- no two upgrades overlap
-  pub apart : (place : ℕ) (client other : List ℕ) (session number : ℕ) → IsInSpan h place client session → IsInSpan h place other number → (client ≡ other) × (session ≡ number)
+  pub apart : (place : ℕ) (client other : List ℕ) (session number : ℕ) →
+      IsInSpan h place client session → IsInSpan h place other number →
+      (client ≡ other) × (session ≡ number)
 
--- Whatever history this trail is a client's last part of: where the store is honest, each write lands in time and all
--- other clients keep the lock discipline, upgrades are held apart.
+-- Whatever history this trail is a client's last part of: if the store is honest, each write lands
+-- in time and all other clients keep their locks, upgrades are held apart.
 abbrev pub KeepsApart : List ℕ → List Event → Type 0
-KeepsApart client trail = (h : History) → IsHonest h → IsTimely h → EndsIn h client trail → OthersObey h client → IsExclusive h
+KeepsApart client trail =
+    (h : History) → IsHonest h → IsTimely h → EndsIn h client trail → OthersKeepLocks h client →
+    IsHeldApart h

@@ -1,7 +1,13 @@
+pub mod Added
 pub mod Blocked
+pub mod Calls
 pub mod Discipline
 pub mod Exclusion
+pub mod Idle
 pub mod Locks
 pub mod Outcomes
 pub mod Phase
+pub mod Standing
 pub mod Stories
+pub mod WholeSession
+pub mod Work

@@ -46,7 +46,9 @@ same_kind kind other = false
 
 -- the content of a lock's file, which nobody reads
 abbrev pub content_of : LockKind → List ℕ → List ℕ
-content_of kind client = codes "{\"type\":" ++ kind_digit kind ∷ (codes ",\"clientType\":3,\"clientId\":\"" ++ (client ++ codes "\"}"))
+content_of kind client =
+    codes "{\"type\":" ++ kind_digit kind ∷
+    (codes ",\"clientType\":3,\"clientId\":\"" ++ (client ++ codes "\"}"))
 
 -- ---- in a listing
 
@@ -61,11 +63,13 @@ locks_in (e ∷ es) = with_lock e.path e.stamp (locks_in es)
 
 -- whether a lock keeps the client from taking one of this kind: another's, live, and in the way
 abbrev pub is_in_way : LockKind → List ℕ → ℕ → Lock → Bool
-is_in_way kind client now lock = excludes kind lock.name.kind && not (is_own client lock.name) && is_live lock now
+is_in_way kind client now lock =
+    excludes kind lock.name.kind && not (is_own client lock.name) && is_live lock now
 
 -- the first lock of a listing that keeps the client from taking one of this kind
 abbrev pub blocking_in : LockKind → List ℕ → Listing → Option Lock
-blocking_in kind client listing = find (is_in_way kind client listing.now) (locks_in listing.entries)
+blocking_in kind client listing =
+    find (is_in_way kind client listing.now) (locks_in listing.entries)
 
 -- whether a lock is the client's own of this kind
 abbrev pub is_own_of : LockKind → List ℕ → Lock → Bool
@@ -73,4 +77,6 @@ is_own_of kind client lock = is_own client lock.name && same_kind kind lock.name
 
 -- the stamp of the client's own lock of this kind in a listing
 abbrev pub own_stamp : LockKind → List ℕ → Listing → Option ℕ
-own_stamp kind client listing = option_map (λ (lock : Lock). lock.stamp) (find (is_own_of kind client) (locks_in listing.entries))
+own_stamp kind client listing =
+    option_map (λ (lock : Lock). lock.stamp) (find (is_own_of kind client)
+    (locks_in listing.entries))

@@ -55,30 +55,17 @@ role_of client (MakeDir dir) = making_role dir
 role_of client (GetBlob id) = Plain
 role_of client (PutBlob id len) = Plain
 
--- ---- what a listing says that was asked for behind a put of the own lock
+-- ---- what a listing shows of its own lock
 
-pub data Judgement : Type 0 where
-  -- the own lock stands there in time, and no lock is in its way: the lease is held, from that stamp on
-  Holds : (stamp : ℕ) → Judgement
-  -- the own lock stands there in time, and this lock is in its way
-  Blocked : (lock : Lock) → Judgement
-  -- the own lock isn't there, or is shown too late
-  Missed : (own : Option ℕ) → Judgement
+-- its own lock was put before the lease's old end, if there is one, and is shown in time
+abbrev pub is_in_time : Option ℕ → ℕ → ℕ → Bool
+is_in_time None now stamp = nat_lt now (stamp + RENEWAL)
+is_in_time (Some end) now stamp = nat_lt stamp end && nat_lt now (stamp + RENEWAL)
 
-abbrev pub in_way_of : ℕ → Option Lock → Judgement
-in_way_of stamp None = Holds stamp
-in_way_of stamp (Some lock) = Blocked lock
-
-abbrev pub judged : ℕ → Option ℕ → Option Lock → Judgement
-judged now None blocking = Missed None
-judged now (Some stamp) blocking = if nat_lt now (stamp + RENEWAL) then in_way_of stamp blocking else Missed (Some stamp)
-
-abbrev pub judge : LockKind → List ℕ → Listing → Judgement
-judge kind client listing = judged listing.now (own_stamp kind client listing) (blocking_in kind client listing)
-
--- the own lock stands there in time, and was put before the lease's end
-abbrev pub is_renewed : ℕ → ℕ → ℕ → Bool
-is_renewed end now stamp = nat_lt stamp end && nat_lt now (stamp + RENEWAL)
+-- the stamp from which the lease is held, if its own lock is there in time
+abbrev pub stamp_in_time : Option ℕ → ℕ → Option ℕ → Option ℕ
+stamp_in_time old_end now None = None
+stamp_in_time old_end now (Some stamp) = if is_in_time old_end now stamp then Some stamp else None
 
 -- ---- phases
 
@@ -86,27 +73,40 @@ pub data Phase : Type 0 where
   Free : Phase
   -- the locks were listed
   Looked : (listing : Listing) → Phase
-  -- the own lock was put
+  -- its own lock was put
   Asked : (kind : LockKind) → Phase
-  -- the lease is held, and the own lock has this stamp
+  -- the lease is held, and its own lock has this stamp
   Held : (kind : LockKind) (stamp : ℕ) → Phase
-  -- the own lock was put again
+  -- its own lock was put again
   Renewing : (kind : LockKind) (stamp : ℕ) → Phase
-  -- there is no lease, and the own lock is still to be deleted
+  -- there is no lease, and its own lock is still to be deleted
   Leaving : (kind : LockKind) → Phase
   -- nothing more may be called
   Over : Phase
   -- something was called that may not be
   Broken : Phase
 
-abbrev pub judged_phase : LockKind → Judgement → Phase
-judged_phase kind (Holds stamp) = Held kind stamp
-judged_phase kind (Blocked lock) = Leaving kind
-judged_phase kind (Missed own) = Leaving kind
+-- when the lease ends that is being renewed
+abbrev pub old_end : Phase → Option ℕ
+old_end (Renewing kind stamp) = Some (stamp + LIFE)
+old_end phase = None
 
-abbrev pub renewed_phase : LockKind → ℕ → ℕ → Option ℕ → Phase
-renewed_phase kind end now None = Leaving kind
-renewed_phase kind end now (Some stamp) = if is_renewed end now stamp then Held kind stamp else Leaving kind
+-- a lease is held from that stamp on if its own lock is shown in time, and no lock is in its way
+abbrev pub listed_phase : LockKind → Option ℕ → Option Lock → Phase
+listed_phase kind None blocking = Leaving kind
+listed_phase kind (Some stamp) None = Held kind stamp
+listed_phase kind (Some stamp) (Some lock) = Leaving kind
+
+-- behind its first put; behind a later one no lock is in its way any more
+abbrev pub asked_phase : LockKind → List ℕ → Listing → Phase
+asked_phase kind client listing =
+    let shown = stamp_in_time None listing.now (own_stamp kind client listing) in
+    listed_phase kind shown (blocking_in kind client listing)
+
+abbrev pub renewed_phase : LockKind → ℕ → List ℕ → Listing → Phase
+renewed_phase kind stamp client listing =
+    let shown = stamp_in_time (Some (stamp + LIFE)) listing.now (own_stamp kind client listing) in
+    listed_phase kind shown None
 
 -- the calls that a phase allows
 abbrev pub allows : List ℕ → Phase → Role → Bool
@@ -128,18 +128,23 @@ heard client phase role Failed = Over
 heard client Free MakesLocks (Done now) = Free
 heard client Free ListsLocks (Listed listing) = Looked listing
 heard client (Looked listing) (PutsOwn kind) (Done now) = Asked kind
-heard client (Asked kind) ListsLocks (Listed listing) = judged_phase kind (judge kind client listing)
+heard client (Asked kind) ListsLocks (Listed listing) = asked_phase kind client listing
 heard client (Held kind stamp) (PutsOwn own) (Done now) = Renewing kind stamp
 heard client (Held kind stamp) (DeletesOwn own) reply = Over
 heard client (Held kind stamp) MakesLocks reply = Held kind stamp
 heard client (Held kind stamp) Plain reply = Held kind stamp
-heard client (Renewing kind stamp) ListsLocks (Listed listing) = renewed_phase kind (stamp + LIFE) listing.now (own_stamp kind client listing)
+heard client (Renewing kind stamp) ListsLocks (Listed listing) =
+    renewed_phase kind stamp client listing
 heard client (Leaving kind) (DeletesOwn own) reply = Over
 heard client phase role reply = Broken
 
 abbrev pub phase_after : List ℕ → Phase → Call → Reply → Phase
-phase_after client phase call reply = if allows client phase (role_of client call) then heard client phase (role_of client call) reply else Broken
+phase_after client phase call reply =
+    if allows client phase (role_of client call)
+    then heard client phase (role_of client call) reply
+    else Broken
 
 -- an allowed call whose reply is never heard is the last one
 abbrev pub phase_unheard : List ℕ → Phase → Call → Phase
-phase_unheard client phase call = if allows client phase (role_of client call) then Over else Broken
+phase_unheard client phase call =
+    if allows client phase (role_of client call) then Over else Broken

@@ -30,20 +30,23 @@ abbrev pub ends : List ℕ → ℕ → Step
 ends client moment = record { client = client; moment = moment; happens = Ends }
 
 abbrev pub calls : List ℕ → ℕ → Call → Reply → Step
-calls client moment call reply = record { client = client; moment = moment; happens = Answered call reply true }
+calls client moment call reply =
+    record { client = client; moment = moment; happens = Answered call reply true }
 
 abbrev pub makes_locks : List ℕ → ℕ → Step
 makes_locks client moment = calls client moment (MakeDir Locks) (Done moment)
 
 abbrev pub lists_locks : List ℕ → ℕ → List Entry → Step
-lists_locks client moment entries = calls client moment (ListDir Locks) (Listed (record { now = moment; entries = entries }))
+lists_locks client moment entries =
+    calls client moment (ListDir Locks) (Listed (record { now = moment; entries = entries }))
 
--- the own lock
+-- a client's own lock
 abbrev pub lock_of : LockKind → List ℕ → Path
 lock_of kind client = LockFile (own_name kind client)
 
 abbrev pub puts_lock : List ℕ → ℕ → LockKind → Step
-puts_lock client moment kind = calls client moment (Put (lock_of kind client) (content_of kind client)) (Done moment)
+puts_lock client moment kind =
+    calls client moment (Put (lock_of kind client) (content_of kind client)) (Done moment)
 
 abbrev pub deletes_lock : List ℕ → ℕ → LockKind → Step
 deletes_lock client moment kind = calls client moment (Delete (lock_of kind client)) (Done moment)
@@ -60,7 +63,8 @@ misses client moment path = calls client moment (Get path) (Absent moment)
 
 -- ---- an upgrade
 
--- One client upgrades by two writes, while another finds its lock in the way; the other comes back later, and writes.
+-- One client upgrades by two writes, while another finds its lock in the way; the other comes back
+-- later, and writes.
 abbrev pub an_upgrade : History
 an_upgrade = record {
   opening = record { files = []; folders = [] };

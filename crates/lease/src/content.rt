@@ -4,7 +4,8 @@ ghost use Rattle.lease.specs.Locks.{content_of};
 use jop_base::{Bytes, ClientId, LockKind, Text};
 use std::alloc::{AllocError, Global};
 
-/// The content of the client's own lock, 71 bytes of JSON. Nobody reads it: a lock's name and stamp decide.
+/// The content of the client's own lock, 71 bytes of JSON. Nobody reads it: a lock's name and stamp
+/// decide.
 pub(crate) fn own_content(
     alloc: Global,
     kind: LockKind,

@@ -3,8 +3,8 @@ ghost use Rattle.std.specs.Prelude.{◌≡◌};
 use crate::lock::Lock;
 use std::alloc::AllocError;
 
-/// What was seen when a lease was lost: the stamp of the own lock, where it was there; the moment of the listing; and,
-/// at a renewal, the end of the lease as it was. All in milliseconds since 1970.
+/// What was seen when a lease was lost: the stamp of its own lock, if it was there; the moment of
+/// the listing; and, at a renewal, the end of the lease as it was. All in milliseconds since 1970.
 #[derive(Clone, Copy, Debug, PartialEq, Eq)]
 pub struct Seen {
     pub own: Option<u64>,
@@ -15,9 +15,10 @@ pub struct Seen {
 /// Why there is no lease.
 #[derive(Clone, Copy, Debug, PartialEq, Eq)]
 pub enum LeaseErr {
-    /// A listing of that moment, in milliseconds since 1970, shows this live lock of another, which is in the way.
+    /// A listing of that moment, in milliseconds since 1970, shows this live lock of another, which
+    /// is in the way.
     Busy { lock: Lock, now: u64 },
-    /// The own lock isn't shown in time.
+    /// Its own lock isn't shown in time.
     Lost(Seen),
     /// The target failed at a call that the lease needs.
     TargetFault,

@@ -23,10 +23,8 @@ impl<'a> Iterator for Locks<'a> {
         while let Some((entry, rest)) = self.entries.split_first() {
             self.entries = rest;
             if let Path::Lock(name) = entry.path {
-                return Some(Lock {
-                    name,
-                    stamp: entry.stamp,
-                });
+                let stamp = entry.stamp;
+                return Some(Lock { name, stamp });
             }
         }
         None
@@ -42,7 +40,8 @@ pub fn locks_of(listing: &Listing) -> Locks<'_>
     }
 }
 
-/// The first lock of a listing that is another's, is live, and keeps this client from taking a lock of this kind.
+/// The first lock of a listing that is another's, is live, and keeps this client from taking a lock
+/// of this kind.
 pub fn blocking(listing: &Listing, kind: LockKind, client: &ClientId) -> Option<Lock>
     ensures { result ≡ blocking_in kind client.now listing.entry.now }
 {

@@ -1,50 +1,66 @@
 ghost use Rattle.std.specs.Prelude.{◌≡◌};
-ghost use Rattle.lease.specs.Outcomes.{as_judgement};
-ghost use Rattle.lease.specs.Phase.{judge};
+ghost use Rattle.lease.specs.Calls.{sight_of};
+ghost use Rattle.lease.specs.Phase.{is_in_time, stamp_in_time};
 
+use crate::error::Seen;
 use crate::lock::{Lock, RENEWAL};
 use crate::locks::{blocking, own_stamp};
 use jop_base::{ClientId, LockKind};
 use jop_target::Listing;
 
-/// What matters of a session's first listing: its moment, in milliseconds since 1970, and the first lock in the way.
-#[derive(Clone, Copy, Debug, PartialEq, Eq)]
-pub(crate) struct Look {
-    pub now: u64,
-    pub blocking: Option<Lock>,
-}
-
-/// What matters of the listing that was asked for behind a put of the own lock: its moment, in milliseconds since 1970,
-/// and what it says.
+/// What matters of a listing of the locks: its moment and the stamp of the client's own lock, if it
+/// is there, both in milliseconds since 1970; and the first lock in the way.
 #[derive(Clone, Copy, Debug, PartialEq, Eq)]
 pub(crate) struct Sight {
     pub now: u64,
-    pub says: Says,
+    pub own: Option<u64>,
+    pub blocking: Option<Lock>,
 }
 
-/// What a listing says that was asked for behind a put of the own lock.
-#[derive(Clone, Copy, Debug, PartialEq, Eq)]
-pub(crate) enum Says {
-    /// The own lock stands there in time, with this stamp, and no lock is in its way.
-    Holds(u64),
-    /// The own lock stands there in time, and this lock is in its way.
-    Blocked(Lock),
-    /// The own lock isn't there, or has this stamp and is shown too late.
-    Missed(Option<u64>),
-}
+impl Sight {
+    ghost use Rattle.std.specs.Prelude.{◌≡◌};
 
-/// What the listing says to a client that has put its own lock of this kind.
-pub(crate) fn judge(listing: &Listing, kind: LockKind, client: &ClientId) -> Says
-    ensures { as_judgement result ≡ judge kind client.now listing.entry.now }
-{
-    let Some(stamp) = own_stamp(listing, kind, client) else {
-        return Says::Missed(None);
-    };
-    if listing.now >= stamp && listing.now - stamp >= RENEWAL {
-        return Says::Missed(Some(stamp));
+    /// What a client has seen that gets no lease by this listing, or none any more behind this end
+    /// of it.
+    pub fn seen(self, old_end: Option<u64>) -> Seen
+        ensures { result ≡ record { own = self.own; now = self.now; old_end = old_end } }
+    {
+        Seen {
+            own: self.own,
+            now: self.now,
+            old_end,
+        }
     }
-    match blocking(listing, kind, client) {
-        Some(lock) => Says::Blocked(lock),
-        None => Says::Holds(stamp),
+}
+
+/// What matters of a listing to a client that goes for a lease of this kind.
+pub(crate) fn sight_of(listing: &Listing, kind: LockKind, client: &ClientId) -> Sight
+    ensures { result ≡ sight_of kind client.now listing.entry.now }
+{
+    Sight {
+        now: listing.now,
+        own: own_stamp(listing, kind, client),
+        blocking: blocking(listing, kind, client),
+    }
+}
+
+/// The stamp from which the lease is held, if its own lock is shown in time, and was put before the
+/// end of the lease as it was.
+pub(crate) fn stamp_in_time(old_end: Option<u64>, now: u64, own: Option<u64>) -> Option<u64>
+    ensures { result ≡ stamp_in_time old_end now own }
+{
+    match own {
+        Some(stamp) if is_in_time(old_end, now, stamp) => Some(stamp),
+        _ => None,
+    }
+}
+
+fn is_in_time(old_end: Option<u64>, now: u64, stamp: u64) -> bool
+    ensures { result ≡ is_in_time old_end now stamp }
+{
+    let shown = now < stamp || now - stamp < RENEWAL;
+    match old_end {
+        None => shown,
+        Some(end) => stamp < end && shown,
     }
 }

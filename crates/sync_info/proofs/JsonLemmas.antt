@@ -30,10 +30,12 @@ value_in-read json d reads = sym (ap (λ found. unwrap_or found null) reads)
 value_of : {limit : ℕ} {json : List ℕ} → (c : IsCompact limit json) → c.value ≡ value_in json
 value_of c = value_in-read _ c.value c.reads
 
-compact_text-value_in : (limit : ℕ) (json : List ℕ) → IsCompact limit json → compact_text (value_in json) ≡ json
+compact_text-value_in : (limit : ℕ) (json : List ℕ) → IsCompact limit json
+    → compact_text (value_in json) ≡ json
 compact_text-value_in limit json c = ap compact_text (sym (value_of c)) ∙ c.compact
 
-whole-value_in : (limit : ℕ) (json : List ℕ) → IsCompact limit json → has_float (value_in json) ≡ false
+whole-value_in : (limit : ℕ) (json : List ℕ) → IsCompact limit json
+    → has_float (value_in json) ≡ false
 whole-value_in limit json c = ap has_float (sym (value_of c)) ∙ c.whole
 
 depth-value_in : (limit : ℕ) (json : List ℕ) → IsCompact limit json → depth (value_in json) ≤ limit
@@ -41,11 +43,15 @@ depth-value_in limit json c = subst (λ (d : Data). depth d ≤ limit) (value_of
 
 -- ---- kept members
 
-pub whole-members_of : (limit : ℕ) (ms : List Member) → AllByRecursion (λ m. IsCompact limit m.json) ms → members_have_float (members_of ms) ≡ false
+pub whole-members_of : (limit : ℕ) (ms : List Member)
+    → AllByRecursion (λ m. IsCompact limit m.json) ms → members_have_float (members_of ms) ≡ false
 whole-members_of limit [] compact = refl
-whole-members_of limit (m ∷ ms) compact = or_from (has_float (value_in m.json)) _ (whole-value_in limit m.json compact.0) (whole-members_of limit ms compact.1)
+whole-members_of limit (m ∷ ms) compact =
+    or_from (has_float (value_in m.json)) _ (whole-value_in limit m.json compact.0)
+    (whole-members_of limit ms compact.1)
 
-pub depth-members_of : (limit : ℕ) (ms : List Member) → AllByRecursion (λ m. IsCompact limit m.json) ms → members_depth (members_of ms) ≤ limit
+pub depth-members_of : (limit : ℕ) (ms : List Member)
+    → AllByRecursion (λ m. IsCompact limit m.json) ms → members_depth (members_of ms) ≤ limit
 depth-members_of limit [] compact = omega arith
 depth-members_of limit (m ∷ ms) compact =
     let here = depth-value_in limit m.json compact.0 in
@@ -53,11 +59,14 @@ depth-members_of limit (m ∷ ms) compact =
     omega arith
 
 -- what was kept is kept when it is read again
-pub kept_of-members_of : (of : Holder) (limit : ℕ) (ms : List Member) → AllByRecursion (λ m. is_own of m.name ≡ false) ms → AllByRecursion (λ m. IsCompact limit m.json) ms → kept_of of (members_of ms) ≡ ms
+pub kept_of-members_of : (of : Holder) (limit : ℕ) (ms : List Member)
+    → AllByRecursion (λ m. is_own of m.name ≡ false) ms
+    → AllByRecursion (λ m. IsCompact limit m.json) ms → kept_of of (members_of ms) ≡ ms
 kept_of-members_of of limit [] foreign compact = refl
 kept_of-members_of of limit (m ∷ ms) foreign compact =
     cond-false (is_own of m.name) _ _ foreign.0
-    ∙ ap (λ json. record { name = m.name; json = json } ∷ kept_of of (members_of ms)) (compact_text-value_in limit m.json compact.0)
+    ∙ ap (λ json. record { name = m.name; json = json } ∷ kept_of of (members_of ms))
+    (compact_text-value_in limit m.json compact.0)
     ∙ ap (λ more. m ∷ more) (kept_of-members_of of limit ms foreign.1 compact.1)
 
 -- ---- an own member among them
@@ -65,19 +74,26 @@ kept_of-members_of of limit (m ∷ ms) foreign compact =
 same_name : (k l : List ℕ) → slice_cmp nat_cmp k l ≡ Equal → k ≡ l
 same_name k l equal = (bytes_eq-Decides k l).0 (sym (is_eq-slice_cmp k l) ∙ ap is_eq equal)
 
-kept_of-put_at : (of : Holder) (o : Ordering) (k l : List ℕ) (d e : Data) (ms : Members) → slice_cmp nat_cmp k l ≡ o → is_own of k ≡ true → kept_of of (put k d ms) ≡ kept_of of ms
-    → kept_of of (match_ordering o (member k d (member l e ms)) (member l d ms) (member l e (put k d ms))) ≡ kept_of of (member l e ms)
+kept_of-put_at : (of : Holder) (o : Ordering) (k l : List ℕ) (d e : Data) (ms : Members)
+    → slice_cmp nat_cmp k l ≡ o → is_own of k ≡ true → kept_of of (put k d ms) ≡ kept_of of ms
+    → kept_of of
+    (match_ordering o (member k d (member l e ms)) (member l d ms) (member l e (put k d ms)))
+    ≡ kept_of of (member l e ms)
 kept_of-put_at of Less k l d e ms is own later = cond-true (is_own of k) _ _ own
 kept_of-put_at of Equal k l d e ms is own later =
     let own_too : is_own of l ≡ true = ap (is_own of) (sym (same_name k l is)) ∙ own in
     cond-true (is_own of l) _ _ own_too ∙ sym (cond-true (is_own of l) _ _ own_too)
-kept_of-put_at of Greater k l d e ms is own later = ap (λ more. cond (is_own of l) more (record { name = l; json = compact_text e } ∷ more)) later
+kept_of-put_at of Greater k l d e ms is own later =
+    ap (λ more. cond (is_own of l) more (record { name = l; json = compact_text e } ∷ more)) later
 
-kept_of-put : (of : Holder) (k : List ℕ) (d : Data) (ms : Members) → is_own of k ≡ true → kept_of of (put k d ms) ≡ kept_of of ms
+kept_of-put : (of : Holder) (k : List ℕ) (d : Data) (ms : Members) → is_own of k ≡ true
+    → kept_of of (put k d ms) ≡ kept_of of ms
 kept_of-put of k d no_members own = cond-true (is_own of k) _ _ own
-kept_of-put of k d (member l e ms) own = kept_of-put_at of _ k l d e ms refl own (kept_of-put of k d ms own)
+kept_of-put of k d (member l e ms) own =
+    kept_of-put_at of _ k l d e ms refl own (kept_of-put of k d ms own)
 
-pub kept_of-put_all : (of : Holder) (own : List (List ℕ × Data)) (ms : Members) → list_all (λ m. is_own of m.0) own ≡ true → kept_of of (put_all own ms) ≡ kept_of of ms
+pub kept_of-put_all : (of : Holder) (own : List (List ℕ × Data)) (ms : Members)
+    → list_all (λ m. is_own of m.0) own ≡ true → kept_of of (put_all own ms) ≡ kept_of of ms
 kept_of-put_all of [] ms all = refl
 kept_of-put_all of (m ∷ own) ms all =
     let parts = and_parts (is_own of m.0) (list_all (λ m. is_own of m.0) own) all in
@@ -85,28 +101,41 @@ kept_of-put_all of (m ∷ own) ms all =
 
 -- ---- one kept member more
 
-below_middle : (first : List ℕ) (ms : List Member) (m : Member) (more : List Member) → AllByRecursion (λ name. slice_cmp nat_cmp first name ≡ Less) (map (λ m. m.name) (ms ++ m ∷ more)) → slice_cmp nat_cmp first m.name ≡ Less
+below_middle : (first : List ℕ) (ms : List Member) (m : Member) (more : List Member)
+    → AllByRecursion (λ name. slice_cmp nat_cmp first name ≡ Less)
+    (map (λ m. m.name) (ms ++ m ∷ more)) → slice_cmp nat_cmp first m.name ≡ Less
 below_middle first [] m more above = above.0
 below_middle first (x ∷ ms) m more above = below_middle first ms m more above.1
 
-put_last : (ms : List Member) (m : Member) (more : List Member) → IsStrictlySortedBy (slice_cmp nat_cmp) (map (λ m. m.name) (ms ++ m ∷ more)) → put m.name (value_in m.json) (members_of ms) ≡ members_of (ms ++ m ∷ [])
+put_last : (ms : List Member) (m : Member) (more : List Member)
+    → IsStrictlySortedBy (slice_cmp nat_cmp) (map (λ m. m.name) (ms ++ m ∷ more))
+    → put m.name (value_in m.json) (members_of ms) ≡ members_of (ms ++ m ∷ [])
 unfolding IsStrictlySortedBy
 put_last [] m more sorted = refl
 put_last (first ∷ ms) m more sorted =
-    let above : slice_cmp nat_cmp m.name first.name ≡ Greater = nat_list_cmp_total.antisymm m.name first.name ∙ ap ordering_reverse (below_middle first.name ms m more sorted.0) in
+    let above : slice_cmp nat_cmp m.name first.name ≡ Greater =
+    nat_list_cmp_total.antisymm m.name first.name
+    ∙ ap ordering_reverse (below_middle first.name ms m more sorted.0) in
     rw above (ap (member first.name (value_in first.json)) (put_last ms m more sorted.1))
 
-pub members_of-more : (ms : List Member) (i : ℕ) (m : Member) → i < length ms → m ≡ get_or ms i m → IsStrictlySortedBy (slice_cmp nat_cmp) (map (λ m. m.name) ms)
+pub members_of-more : (ms : List Member) (i : ℕ) (m : Member) → i < length ms → m ≡ get_or ms i m
+    → IsStrictlySortedBy (slice_cmp nat_cmp) (map (λ m. m.name) ms)
     → put m.name (value_in m.json) (members_of (take i ms)) ≡ members_of (take (i + 1) ms)
 members_of-more ms i m within is sorted =
     let parts : ms ≡ take i ms ++ m ∷ drop (i + 1) ms =
-    sym (take-append-drop i ms) ∙ ap (λ more. take i ms ++ more) (drop_more ms i m within ∙ ap (λ x. x ∷ drop (i + 1) ms) (sym is)) in
-    put_last (take i ms) m (drop (i + 1) ms) (subst (λ (all : List Member). IsStrictlySortedBy (slice_cmp nat_cmp) (map (λ m. m.name) all)) parts sorted)
+    sym (take-append-drop i ms)
+    ∙ ap (λ more. take i ms ++ more)
+    (drop_more ms i m within ∙ ap (λ x. x ∷ drop (i + 1) ms) (sym is)) in
+    put_last (take i ms) m (drop (i + 1) ms)
+    (subst (λ (all : List Member). IsStrictlySortedBy (slice_cmp nat_cmp) (map (λ m. m.name) all))
+    parts sorted)
     ∙ ap members_of (sym (take_more ms i m within ∙ ap (λ x. take i ms ++ x ∷ []) (sym is)))
 
 -- ---- one record more
 
-items_of-push : (vs : List Value) (ks : List KeyRecord) (v : Value) (k : KeyRecord) → items_view vs ≡ records_json ks → view v ≡ record_json k → items_view (vs ++ v ∷ []) ≡ records_json (ks ++ k ∷ [])
+items_of-push : (vs : List Value) (ks : List KeyRecord) (v : Value) (k : KeyRecord)
+    → items_view vs ≡ records_json ks → view v ≡ record_json k
+    → items_view (vs ++ v ∷ []) ≡ records_json (ks ++ k ∷ [])
 items_of-push [] [] v k same here = ap (λ d. item d no_items) here
 items_of-push [] (l ∷ ks) v k same here = absurd (cc)
 items_of-push (w ∷ vs) [] v k same here = absurd (cc)
@@ -115,7 +144,10 @@ items_of-push (w ∷ vs) (l ∷ ks) v k same here =
     let rest : items_view vs ≡ records_json ks = cc in
     ap₂ item first (items_of-push vs ks v k rest here)
 
-pub records_json-more : (vs : List Value) (ks : List KeyRecord) (i : ℕ) (v : Value) (k : KeyRecord) → i < length ks → k ≡ get_or ks i k → items_view vs ≡ records_json (take i ks) → view v ≡ record_json k
+pub records_json-more : (vs : List Value) (ks : List KeyRecord) (i : ℕ) (v : Value) (k : KeyRecord)
+    → i < length ks → k ≡ get_or ks i k → items_view vs ≡ records_json (take i ks)
+    → view v ≡ record_json k
     → items_view (vs ++ v ∷ []) ≡ records_json (take (i + 1) ks)
 records_json-more vs ks i v k within is so_far here =
-    items_of-push vs (take i ks) v k so_far here ∙ ap records_json (sym (take_more ks i k within ∙ ap (λ x. take i ks ++ x ∷ []) (sym is)))
+    items_of-push vs (take i ks) v k so_far here
+    ∙ ap records_json (sym (take_more ks i k within ∙ ap (λ x. take i ks ++ x ∷ []) (sym is)))

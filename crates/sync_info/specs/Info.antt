@@ -6,7 +6,7 @@ use Rattle.std.specs.List.Sorted.{IsStrictlySortedBy}
 use Rattle.std.specs.Ordering.{nat_cmp}
 use Rattle.std.specs.Str.{bytes_eq}
 use Rattle.jop_base.specs.Id.{IsIdText, is_digit}
-use Rattle.jop_base.specs.declared.time.TheConstants.{MAX_TIME}
+use Rattle.jop_base.specs.Times.{last_time}
 use Rattle.serde_json.specs.Data.{Data, depth}
 use Rattle.serde_json.specs.Read.{read}
 use Rattle.serde_json.specs.Written.{has_float, compact_text}
@@ -37,10 +37,14 @@ are_distinct (key ∷ keys) = not (list_any (has_id key.id) keys) && are_distinc
 
 -- the members that are read, and so are never among those that are kept
 abbrev pub is_own : Holder → List ℕ → Bool
-is_own holder.Info name = bytes_eq name (codes "activeMasterKeyId") || bytes_eq name (codes "e2ee") || bytes_eq name (codes "masterKeys") || bytes_eq name (codes "version")
-is_own holder.KeyRecord name = bytes_eq name (codes "content") || bytes_eq name (codes "id") || bytes_eq name (codes "updated_time")
+is_own holder.Info name =
+    bytes_eq name (codes "activeMasterKeyId") || bytes_eq name (codes "e2ee")
+    || bytes_eq name (codes "masterKeys") || bytes_eq name (codes "version")
+is_own holder.KeyRecord name =
+    bytes_eq name (codes "content") || bytes_eq name (codes "id")
+    || bytes_eq name (codes "updated_time")
 
--- how deep a kept value may nest, where the whole text nests 127 deep at most: a record stands in a list in the info
+-- how deep a kept value may nest, if the whole text nests 127 deep at most: a record stands in a list in the info
 abbrev pub room : Holder → ℕ
 room holder.Info = 126
 room holder.KeyRecord = 124
@@ -61,7 +65,7 @@ pub record AreKept (of : Holder) (others : List Member) : Type 0 where
 
 pub record IsKeyRecord (key : KeyRecord) : Type 0 where
   pub id : IsIdText key.id
-  pub updated : key.updated ≤ MAX_TIME
+  pub updated : key.updated ≤ last_time
   pub others : AreKept holder.KeyRecord key.others
 
 -- records of which no two have one id
@@ -72,16 +76,23 @@ pub record AreKeys (keys : List KeyRecord) : Type 0 where
 -- the choice of a key: its id or none, and when it was made
 pub record IsActive (active : Timed (List ℕ)) : Type 0 where
   pub name : is_key_name active.value ≡ true
-  pub updated : active.updated ≤ MAX_TIME
+  pub updated : active.updated ≤ last_time
 
 -- an info that some text holds
 pub record IsInfo (info : Info) : Type 0 where
   pub version : info.version < 2 ^ 64
-  pub e2ee : info.e2ee.updated ≤ MAX_TIME
+  pub e2ee : info.e2ee.updated ≤ last_time
   pub active : IsActive info.active
   pub keys : AreKeys info.keys
   pub others : AreKept holder.Info info.others
 
 -- the info of a target that holds nothing yet
 abbrev pub new_info : ℕ → Info
-new_info version = record { version = version; e2ee = record { value = false; updated = 0 }; active = record { value = []; updated = 0 }; keys = []; others = [] }
+new_info version =
+    record {
+      version = version;
+      e2ee = record { value = false; updated = 0 };
+      active = record { value = []; updated = 0 };
+      keys = [];
+      others = [];
+    }

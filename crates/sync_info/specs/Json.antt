@@ -22,7 +22,9 @@ put_all [] others = others
 put_all (m ∷ ms) others = put m.0 m.1 (put_all ms others)
 
 abbrev pub setting_json : Data → ℕ → Data
-setting_json value updated = object (put_all ((codes "updatedTime", number (unsigned updated)) ∷ (codes "value", value) ∷ []) no_members)
+setting_json value updated =
+    let members = (codes "updatedTime", number (unsigned updated)) ∷ (codes "value", value) ∷ [] in
+    object (put_all members no_members)
 
 -- a record's own members
 abbrev pub record_members : KeyRecord → List (List ℕ × Data)

@@ -1,8 +1,6 @@
-ghost use Rattle.std.specs.Prelude.{◌≡◌, ◌≤◌, false, suc, IfOk};
-ghost use Rattle.serde_json.specs.Data.{depth, members_depth};
+ghost use Rattle.std.specs.Prelude.{◌≡◌, false, IfOk};
 ghost use Rattle.serde_json.specs.View.{view, members_view};
 ghost use Rattle.serde_json.specs.Written.{has_float, members_have_float};
-ghost use Rattle.sync_info.specs.Info.{AreKept, room};
 ghost use Rattle.sync_info.specs.Read.{kept_of, kept_in};
 
 use crate::holder::Holder;
@@ -17,10 +15,8 @@ fn kept_of(
     members: &Map<String, Value>,
     of: Holder,
 ) -> Result<Seq<Member>, AllocError>
-    requires whole { members_have_float (members_view members.now.entries) ≡ false }
-    requires nests { members_depth (members_view members.now.entries) ≤ room of }
-    ensures kept { IfOk result (λ kept. kept ≡ kept_of of (members_view members.now.entries)) }
-    ensures valid { IfOk result (AreKept of) }
+    requires { members_have_float (members_view members.now.entries) ≡ false }
+    ensures { IfOk result (λ kept. kept ≡ kept_of of (members_view members.now.entries)) }
 {
     let mut kept = Seq::new(alloc);
     for (name, value) in members.iter() {
@@ -33,10 +29,8 @@ fn kept_of(
 
 /// The members of an object that are not its own. What is no object has none.
 pub(crate) fn kept_in(alloc: Global, value: &Value, of: Holder) -> Result<Seq<Member>, AllocError>
-    requires whole { has_float (view value.now) ≡ false }
-    requires nests { depth (view value.now) ≤ suc (room of) }
-    ensures kept { IfOk result (λ kept. kept ≡ kept_in of (view value.now)) }
-    ensures valid { IfOk result (AreKept of) }
+    requires { has_float (view value.now) ≡ false }
+    ensures { IfOk result (λ kept. kept ≡ kept_in of (view value.now)) }
 {
     match value.as_object() {
         Some(members) => kept_of(alloc, members, of),

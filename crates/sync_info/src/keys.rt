@@ -1,11 +1,7 @@
-ghost use Rattle.std.specs.Prelude.{◌≡◌, ◌≤◌, suc, false, IfOk, IfSome};
-ghost use Rattle.std.specs.List.{AllByRecursion};
-ghost use Rattle.jop_base.specs.declared.time.TheConstants.{MAX_TIME};
-ghost use Rattle.serde_json.specs.Data.{depth, items_depth};
-ghost use Rattle.serde_json.specs.Read.{max_depth};
+ghost use Rattle.std.specs.Prelude.{◌≡◌, false, IfOk};
 ghost use Rattle.serde_json.specs.View.{view, items_view};
 ghost use Rattle.serde_json.specs.Written.{has_float, items_have_float};
-ghost use Rattle.sync_info.specs.Info.{are_distinct, room, IsKeyRecord, AreKeys};
+ghost use Rattle.sync_info.specs.Info.{are_distinct};
 ghost use Rattle.sync_info.specs.Read.{updated_in, record_of, records_of, keys_of, keys_in};
 
 use crate::holder::Holder;
@@ -17,10 +13,9 @@ use serde_json::Value;
 use std::alloc::{AllocError, Global};
 use std::collections::BTreeSet;
 
-/// 0 where it is absent.
+/// 0 if it is absent.
 fn updated_in(value: &Value) -> Option<u64>
-    ensures time { result ≡ updated_in (view value.now) }
-    ensures bound { IfSome result (λ time. time ≤ MAX_TIME) }
+    ensures { result ≡ updated_in (view value.now) }
 {
     match value.get("updated_time") {
         Some(time) => time_of(time),
@@ -29,10 +24,8 @@ fn updated_in(value: &Value) -> Option<u64>
 }
 
 fn record_of(alloc: Global, value: &Value) -> Result<Option<KeyRecord>, AllocError>
-    requires whole { has_float (view value.now) ≡ false }
-    requires nests { depth (view value.now) ≤ suc (room Holder.KeyRecord) }
-    ensures record { IfOk result (λ found. found ≡ record_of (view value.now)) }
-    ensures valid { IfOk result (λ found. IfSome found IsKeyRecord) }
+    requires { has_float (view value.now) ≡ false }
+    ensures { IfOk result (λ found. found ≡ record_of (view value.now)) }
 {
     let Some(id) = value.get("id").and_then(id_of) else {
         return Ok(None);
@@ -51,12 +44,10 @@ fn record_of(alloc: Global, value: &Value) -> Result<Option<KeyRecord>, AllocErr
     }))
 }
 
-/// None where an item is no record.
+/// None if an item is no record.
 fn records_of(alloc: Global, items: &[Value]) -> Result<Option<Seq<KeyRecord>>, AllocError>
-    requires whole { items_have_float (items_view items.now) ≡ false }
-    requires nests { items_depth (items_view items.now) ≤ suc (room Holder.KeyRecord) }
-    ensures records { IfOk result (λ found. found ≡ records_of (items_view items.now)) }
-    ensures valid { IfOk result (λ found. IfSome found (AllByRecursion IsKeyRecord)) }
+    requires { items_have_float (items_view items.now) ≡ false }
+    ensures { IfOk result (λ found. found ≡ records_of (items_view items.now)) }
 {
     let mut keys = Seq::new(alloc);
     for item in items {
@@ -81,10 +72,8 @@ fn are_distinct(alloc: Global, keys: &[KeyRecord]) -> Result<bool, AllocError>
 }
 
 fn keys_of(alloc: Global, value: &Value) -> Result<Option<Seq<KeyRecord>>, AllocError>
-    requires whole { has_float (view value.now) ≡ false }
-    requires nests { depth (view value.now) ≤ suc (suc (room Holder.KeyRecord)) }
-    ensures keys { IfOk result (λ found. found ≡ keys_of (view value.now)) }
-    ensures valid { IfOk result (λ found. IfSome found AreKeys) }
+    requires { has_float (view value.now) ≡ false }
+    ensures { IfOk result (λ found. found ≡ keys_of (view value.now)) }
 {
     let Some(items) = value.as_array() else {
         return Ok(None);
@@ -101,10 +90,8 @@ fn keys_of(alloc: Global, value: &Value) -> Result<Option<Seq<KeyRecord>>, Alloc
 
 /// Where the list is absent there are no keys.
 pub(crate) fn keys_in(alloc: Global, value: &Value) -> Result<Option<Seq<KeyRecord>>, AllocError>
-    requires whole { has_float (view value.now) ≡ false }
-    requires nests { depth (view value.now) ≤ max_depth }
-    ensures keys { IfOk result (λ found. found ≡ keys_in (view value.now)) }
-    ensures valid { IfOk result (λ found. IfSome found AreKeys) }
+    requires { has_float (view value.now) ≡ false }
+    ensures { IfOk result (λ found. found ≡ keys_in (view value.now)) }
 {
     match value.get("masterKeys") {
         Some(keys) => keys_of(alloc, keys),

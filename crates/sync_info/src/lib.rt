@@ -6,6 +6,7 @@
 
 mod bad_info;
 mod holder;
+mod index;
 mod info;
 mod kept;
 mod key_record;
@@ -15,8 +16,6 @@ mod member;
 mod merging;
 mod parts;
 mod read;
-#[cfg(test)]
-mod tests;
 mod timed;
 mod whole;
 mod write;
@@ -24,7 +23,7 @@ mod write;
 pub use bad_info::{BadInfo, InfoErr};
 pub use info::Info;
 pub use key_record::KeyRecord;
-pub use laws::{merges_once, merges_valid, new_text};
+pub use laws::{merges_once, merges_valid, new_text, reads_what_is_written, what_is_read_is_valid};
 pub use member::Member;
 pub use merging::merge;
 pub use read::read_info;

@@ -18,10 +18,11 @@ pub struct Member {
 
 impl Member {
     pub fn new(alloc: Global, name: &str, value: &Value) -> Result<Member, AllocError>
-        requires whole { has_float (view value.now) ≡ false }
-        requires nests { depth (view value.now) ≤ max_depth }
-        ensures member { IfOk result (λ m. m ≡ record { name = name.now; json = compact_text (view value.now) }) }
-        ensures compact { IfOk result (λ m. (limit : ℕ) → depth (view value.now) ≤ limit → IsCompact limit m.json) }
+        requires { has_float (view value.now) ≡ false }
+        ensures member { IfOk result (λ m. m
+            ≡ record { name = name.now; json = compact_text (view value.now) }) }
+        ensures compact { IfOk result (λ m. depth (view value.now) ≤ max_depth
+            → (limit : ℕ) → depth (view value.now) ≤ limit → IsCompact limit m.json) }
     {
         let json = value.to_string(alloc)?;
         Ok(Member {

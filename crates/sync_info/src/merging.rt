@@ -1,16 +1,16 @@
 ghost use Rattle.std.specs.Prelude.{◌≡◌, IfOk};
-ghost use Rattle.std.specs.List.{find, list_any};
 ghost use Rattle.std.specs.Option.{option_copied};
-ghost use Rattle.sync_info.specs.Info.{has_id, IsInfo};
+ghost use Rattle.sync_info.specs.Info.{IsInfo};
 ghost use Rattle.sync_info.specs.Merge.{later, later_record, renewed, joined, merged};
 
+use crate::index::{has_record, index_of, record_of};
 use crate::info::Info;
 use crate::key_record::KeyRecord;
 use crate::timed::Timed;
-use jop_base::{Copied, Id, Seq};
+use jop_base::{Copied, Seq};
 use std::alloc::{AllocError, Global};
 
-/// The setting that was changed later, the remote one where both were at one time.
+/// The setting that was changed later, the remote one if both were at one time.
 fn later<'a, T>(local: &'a Timed<T>, remote: &'a Timed<T>) -> &'a Timed<T>
     ensures { result.now ≡ later local.now remote.now }
 {
@@ -21,24 +21,11 @@ fn later<'a, T>(local: &'a Timed<T>, remote: &'a Timed<T>) -> &'a Timed<T>
     }
 }
 
-/// Whether a record has this id.
-fn has_record(keys: &[KeyRecord], id: &Id) -> bool
-    ensures { result ≡ list_any (has_id id.now) keys.now }
+/// The remote record, or the local one of its id if that was changed later.
+fn later_record<'a>(local: Option<&'a KeyRecord>, remote: &'a KeyRecord) -> &'a KeyRecord
+    ensures { result.now ≡ later_record (option_copied local.entry) remote.now }
 {
-    keys.iter().any(|key| key.id == *id)
-}
-
-fn record_of<'a>(keys: &'a [KeyRecord], id: &Id) -> Option<&'a KeyRecord>
-    ensures { option_copied result ≡ find (has_id id.now) keys.now }
-{
-    keys.iter().find(|key| key.id == *id)
-}
-
-/// The remote record, or the local one of its id where that was changed later.
-fn later_record<'a>(local: &'a [KeyRecord], remote: &'a KeyRecord) -> &'a KeyRecord
-    ensures { result.now ≡ later_record (find (has_id remote.now.id) local.now) remote.now }
-{
-    match record_of(local, &remote.id) {
+    match local {
         Some(key) if remote.updated < key.updated => key,
         _ => remote,
     }
@@ -51,9 +38,11 @@ fn renewed(
 ) -> Result<Seq<KeyRecord>, AllocError>
     ensures { IfOk result (λ keys. keys ≡ renewed local.now remote.now) }
 {
+    let index = index_of(alloc, local)?;
     let mut keys = Seq::new(alloc);
     for key in remote {
-        keys.push(later_record(local, key).copy(alloc)?)?;
+        let same = record_of(local, &index, &key.id);
+        keys.push(later_record(same, key).copy(alloc)?)?;
     }
     Ok(keys)
 }
@@ -65,9 +54,10 @@ fn joined(
 ) -> Result<Seq<KeyRecord>, AllocError>
     ensures { IfOk result (λ keys. keys ≡ joined local.now remote.now) }
 {
+    let index = index_of(alloc, remote)?;
     let mut keys = renewed(alloc, local, remote)?;
     for key in local {
-        if !has_record(remote, &key.id) {
+        if !has_record(remote, &index, &key.id) {
             keys.push(key.copy(alloc)?)?;
         }
     }
@@ -75,7 +65,7 @@ fn joined(
 }
 
 /// One info of a client's and its target's: each setting and each key as it was changed later, and the rest as the
-/// target has it.
+/// target has it. The time that it takes grows with the number of keys and not with its square.
 pub fn merge(alloc: Global, local: &Info, remote: &Info) -> Result<Info, AllocError>
     requires local { IsInfo local.now }
     requires remote { IsInfo remote.now }

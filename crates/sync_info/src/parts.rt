@@ -1,7 +1,6 @@
-ghost use Rattle.std.specs.Prelude.{◌≡◌, ◌≤◌, true, IfOk, IfSome, option_map, Some};
-ghost use Rattle.jop_base.specs.Id.{IsIdText};
+ghost use Rattle.std.specs.Prelude.{◌≡◌, IfOk, option_map, Some};
 ghost use Rattle.serde_json.specs.View.{view};
-ghost use Rattle.sync_info.specs.Info.{IsActive, is_id, is_key_name};
+ghost use Rattle.sync_info.specs.Info.{is_id, is_key_name};
 ghost use Rattle.sync_info.specs.Read.{option_filter, version_in, time_of, id_of, key_name_of, e2ee_of, e2ee_in, active_of, active_in};
 
 use crate::timed::Timed;
@@ -10,23 +9,20 @@ use serde_json::Value;
 use std::alloc::{AllocError, Global};
 
 pub(crate) fn time_of(value: &Value) -> Option<u64>
-    ensures time { result ≡ time_of (view value.now) }
-    ensures bound { IfSome result (λ time. time ≤ MAX_TIME) }
+    ensures { result ≡ time_of (view value.now) }
 {
     let time = value.as_u64()?;
     if time <= MAX_TIME { Some(time) } else { None }
 }
 
 fn read_id(text: &str) -> Option<Id>
-    ensures id { result ≡ option_filter is_id (Some text.now) }
-    ensures valid { IfSome result IsIdText }
+    ensures { result ≡ option_filter is_id (Some text.now) }
 {
     Id::read(text.as_bytes())
 }
 
 pub(crate) fn id_of(value: &Value) -> Option<Id>
-    ensures id { result ≡ id_of (view value.now) }
-    ensures valid { IfSome result IsIdText }
+    ensures { result ≡ id_of (view value.now) }
 {
     read_id(value.as_str()?)
 }
@@ -39,8 +35,7 @@ fn is_key_name(name: &str) -> bool
 
 /// The id of a key, or the empty text.
 fn key_name_of(value: &Value) -> Option<&str>
-    ensures name { option_map (λ s. s.now) result ≡ key_name_of (view value.now) }
-    ensures valid { IfSome result (λ name. is_key_name name.now ≡ true) }
+    ensures { option_map (λ s. s.now) result ≡ key_name_of (view value.now) }
 {
     let name = value.as_str()?;
     if is_key_name(name) { Some(name) } else { None }
@@ -53,8 +48,7 @@ pub(crate) fn version_in(value: &Value) -> Option<u64>
 }
 
 fn e2ee_of(value: &Value) -> Option<Timed<bool>>
-    ensures e2ee { result ≡ e2ee_of (view value.now) }
-    ensures bound { IfSome result (λ e2ee. e2ee.updated ≤ MAX_TIME) }
+    ensures { result ≡ e2ee_of (view value.now) }
 {
     Some(Timed {
         value: value.get("value")?.as_bool()?,
@@ -63,8 +57,7 @@ fn e2ee_of(value: &Value) -> Option<Timed<bool>>
 }
 
 fn active_of(alloc: Global, value: &Value) -> Result<Option<Timed<Text>>, AllocError>
-    ensures active { IfOk result (λ active. active ≡ active_of (view value.now)) }
-    ensures valid { IfOk result (λ active. IfSome active IsActive) }
+    ensures { IfOk result (λ active. active ≡ active_of (view value.now)) }
 {
     let Some(name) = value.get("value").and_then(key_name_of) else {
         return Ok(None);
@@ -80,8 +73,7 @@ fn active_of(alloc: Global, value: &Value) -> Result<Option<Timed<Text>>, AllocE
 
 /// Where it is absent, sealing was never asked for.
 pub(crate) fn e2ee_in(value: &Value) -> Option<Timed<bool>>
-    ensures e2ee { result ≡ e2ee_in (view value.now) }
-    ensures bound { IfSome result (λ e2ee. e2ee.updated ≤ MAX_TIME) }
+    ensures { result ≡ e2ee_in (view value.now) }
 {
     match value.get("e2ee") {
         Some(e2ee) => e2ee_of(e2ee),
@@ -94,8 +86,7 @@ pub(crate) fn e2ee_in(value: &Value) -> Option<Timed<bool>>
 
 /// Where it is absent, no key was ever chosen.
 pub(crate) fn active_in(alloc: Global, value: &Value) -> Result<Option<Timed<Text>>, AllocError>
-    ensures active { IfOk result (λ active. active ≡ active_in (view value.now)) }
-    ensures valid { IfOk result (λ active. IfSome active IsActive) }
+    ensures { IfOk result (λ active. active ≡ active_in (view value.now)) }
 {
     match value.get("activeMasterKeyId") {
         Some(active) => active_of(alloc, active),

@@ -1,6 +1,4 @@
-ghost use Rattle.std.specs.Prelude.{◌≡◌, ◌≤◌, None, Some, false, IfOk, IfErr, IfSome};
-ghost use Rattle.serde_json.specs.Data.{depth};
-ghost use Rattle.serde_json.specs.Read.{max_depth};
+ghost use Rattle.std.specs.Prelude.{◌≡◌, None, Some, false, IfOk};
 ghost use Rattle.serde_json.specs.View.{view};
 ghost use Rattle.serde_json.specs.Written.{has_float};
 ghost use Rattle.sync_info.specs.Info.{IsInfo};
@@ -16,12 +14,10 @@ use crate::whole::has_float;
 use serde_json::Value;
 use std::alloc::{AllocError, Global};
 
-/// None where the value is no object of an info.
+/// None if the value is no object of an info.
 fn info_of(alloc: Global, value: &Value) -> Result<Option<Info>, AllocError>
-    requires whole { has_float (view value.now) ≡ false }
-    requires nests { depth (view value.now) ≤ max_depth }
-    ensures info { IfOk result (λ found. found ≡ info_of (view value.now)) }
-    ensures valid { IfOk result (λ found. IfSome found IsInfo) }
+    requires { has_float (view value.now) ≡ false }
+    ensures { IfOk result (λ found. found ≡ info_of (view value.now)) }
 {
     let Some(version) = version_in(value) else {
         return Ok(None);
@@ -44,11 +40,10 @@ fn info_of(alloc: Global, value: &Value) -> Result<Option<Info>, AllocError>
     }))
 }
 
-/// The JSON value of a text, where its numbers are whole ones.
+/// The JSON value of a text, if its numbers are whole ones.
 fn read_value(alloc: Global, text: &[u8]) -> Result<Value, InfoErr>
     ensures ok { IfOk result (λ value. whole_value text.now ≡ Some (view value)) }
     ensures whole { IfOk result (λ value. has_float (view value) ≡ false) }
-    ensures nests { IfOk result (λ value. depth (view value) ≤ max_depth) }
     ensures bad { result ≡ Err (InfoErr.Bad (record {})) → whole_value text.now ≡ None }
 {
     let value = match Value::from_slice(alloc, text) {

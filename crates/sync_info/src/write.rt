@@ -46,13 +46,15 @@ fn members_of(alloc: Global, kept: &[Member]) -> Result<Map<String, Value>, Allo
 }
 
 fn e2ee_value(alloc: Global, e2ee: &Timed<bool>) -> Result<Value, AllocError>
-    ensures { IfOk result (λ value. view value ≡ setting_json (boolean e2ee.now.value) e2ee.now.updated) }
+    ensures { IfOk result
+        (λ value. view value ≡ setting_json (boolean e2ee.now.value) e2ee.now.updated) }
 {
     json!(in alloc; {"value": e2ee.value, "updatedTime": e2ee.updated})
 }
 
 fn active_value(alloc: Global, active: &Timed<Text>) -> Result<Value, AllocError>
-    ensures { IfOk result (λ value. view value ≡ setting_json (string active.now.value) active.now.updated) }
+    ensures { IfOk result
+        (λ value. view value ≡ setting_json (string active.now.value) active.now.updated) }
 {
     json!(in alloc; {"value": active.value.as_str(), "updatedTime": active.updated})
 }
@@ -106,7 +108,8 @@ pub fn write_info(alloc: Global, info: &Info) -> Result<Bytes, AllocError>
     requires { IsInfo info.now }
     ensures text { IfOk result (λ bytes. bytes ≡ info_text info.now) }
     ensures reads_back { IfOk result (λ bytes. info_in bytes ≡ Some info.now) }
-    ensures version { IfOk result (λ bytes. (has_old : Bool) → version_of (Some bytes) has_old ≡ Some info.now.version) }
+    ensures version { IfOk result
+        (λ bytes. (has_old : Bool) → version_of (Some bytes) has_old ≡ Some info.now.version) }
 {
     let value = info_value(alloc, info)?;
     Ok(Bytes::from_vec(value.to_vec(alloc)?))

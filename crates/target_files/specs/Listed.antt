@@ -1,12 +1,13 @@
 -- What stands in a folder's listing.
 use Rattle.std.specs.Prelude.{◌≡◌, ◌≤◌, List, All}
-use Rattle.jop_base.specs.Paths.{dir_of}
+use Rattle.jop_base.specs.Paths.{IsPath, dir_of}
 use Rattle.jop_base.specs.declared.dir.Dir.{Dir}
 use Rattle.jop_base.specs.declared.time.TheConstants.{MAX_TIME}
 use Rattle.jop_target.specs.declared.reply.Entry.{Entry}
 
 -- a file of that folder, with a time that may stand in a listing
 pub record IsEntryOf (dir : Dir) (entry : Entry) : Type 0 where
+  pub path : IsPath entry.path
   pub inside : dir_of entry.path ≡ dir
   pub stamp : entry.stamp ≤ MAX_TIME
 

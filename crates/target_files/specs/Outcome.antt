@@ -18,7 +18,8 @@ abbrev pub LeavesBlob : List ℕ → Result Reply Trouble → List ℕ → Type 
 LeavesBlob before (Ok (GotBlob now len)) after = len ≡ length after
 LeavesBlob before answer after = after ≡ before
 
--- A reply stays as it is. A fault raises the count and is `Failed`, nothing else does or is. Want of memory is no fault.
+-- A reply stays as it is. A fault raises the count and is `Failed`, nothing else does or is. Want of memory is no
+-- fault.
 abbrev pub Counts : ℕ → Result Reply Trouble → Result Reply AllocError → ℕ → Type 0
 Counts before (Ok reply) result after = (result ≡ Ok reply) × (after ≡ before)
 Counts before (Err Fault) result after = (result ≡ Ok Failed) × (after ≡ min (before + 1) (2 ^ 64 - 1))

@@ -6,15 +6,17 @@ ghost use Rattle.jop_target.specs.Replies.{IsListing};
 ghost use Rattle.jop_target.specs.Store.{limit_of};
 ghost use Rattle.target_files.specs.Reading.{IsWithin};
 
-use crate::files::{Reading, make_folder, read, write};
+use crate::files::{Reading, read};
+use crate::folders::{flush_folder, make_folder};
 use crate::listing::entries_in;
-use crate::moment::stamp_of;
+use crate::lock_file::write_in_place;
+use crate::named::is_file;
+use crate::temporary::{moment_by, replace};
 use crate::trouble::{Trouble, found};
 use jop_base::{Dir, Id, Path, Seq, Text};
 use jop_target::{Listing, limit_of};
 use std::alloc::{AllocError, Global};
 use std::fs;
-use std::fs::OpenFile;
 use std::path::PathBuf;
 use std::rt::Files;
 
@@ -49,25 +51,45 @@ impl<R: Files + Alloc + Clone + Drop> Folder<R> {
         read(&self.rt, alloc, name.as_str(), limit_of(path))
     }
 
-    /// Puts a file, and answers when it was written: a lock in place, any other by its temporary file.
+    /// Puts a file, flushes it and its folder, and answers when it was written.
     pub fn put(&self, alloc: Global, path: &Path, content: &[u8]) -> Result<u64, Trouble>
         ensures { IfOk result (λ stamp. stamp ≤ MAX_TIME) }
     {
         self.make(alloc, path.dir())?;
-        let name = self.name_of(alloc, path.text(alloc)?.as_str())?;
-        if let Path::Lock(_) = path {
-            return write(&self.rt, name.as_str(), content);
-        }
-        let temp = self.temp_name(alloc)?;
-        let stamp = write(&self.rt, temp.as_str(), content)?;
-        fs::rename(&self.rt, &temp, &name)?;
+        let stamp = self.write(alloc, path, content)?;
+        self.flush(alloc, path.dir())?;
         Ok(stamp)
     }
 
-    /// Deletes a file. None where there is none.
+    /// Writes a file, and answers when that was: a lock in place, any other by its temporary file.
+    fn write(&self, alloc: Global, path: &Path, content: &[u8]) -> Result<u64, Trouble>
+        ensures { IfOk result (λ stamp. stamp ≤ MAX_TIME) }
+    {
+        let name = self.name_of(alloc, path.text(alloc)?.as_str())?;
+        if let Path::Lock(_) = path {
+            return write_in_place(&self.rt, name.as_str(), content);
+        }
+        let temp = self.temp_name(alloc)?;
+        replace(&self.rt, temp.as_str(), name.as_str(), content)
+    }
+
+    /// Deletes a file, and flushes its folder. None where there is none.
     pub fn delete(&self, alloc: Global, path: &Path) -> Result<Option<()>, Trouble> {
         let name = self.name_of(alloc, path.text(alloc)?.as_str())?;
-        found(fs::remove_file(&self.rt, &name))
+        if !is_file(&self.rt, name.as_str())? {
+            return Ok(None);
+        }
+        match found(fs::remove_file(&self.rt, &name))? {
+            Some(()) => Ok(Some(self.flush(alloc, path.dir())?)),
+            None => Ok(None),
+        }
+    }
+
+    /// Flushes one of its folders. The slash at the end keeps the system from opening anything but a folder.
+    fn flush(&self, alloc: Global, dir: Dir) -> Result<(), Trouble> {
+        let mut name = self.name_of(alloc, dir.as_str())?;
+        name.push("")?;
+        flush_folder(&self.rt, name.as_str())
     }
 
     /// Makes one of its folders, unless it is there. It makes no root.
@@ -75,23 +97,24 @@ impl<R: Files + Alloc + Clone + Drop> Folder<R> {
         if dir == Dir::Root {
             return Ok(());
         }
-        make_folder(&self.rt, self.name_of(alloc, dir.as_str())?.as_str())
+        let name = self.name_of(alloc, dir.as_str())?;
+        if make_folder(&self.rt, name.as_str())? {
+            self.flush(alloc, Dir::Root)?;
+        }
+        Ok(())
     }
 
-    /// The moment, by the clock of the file system: the time of the temporary file, made empty and removed again.
+    /// The moment, by the clock of the file system.
     pub fn moment(&self, alloc: Global) -> Result<u64, Trouble>
         ensures { IfOk result (λ moment. moment ≤ MAX_TIME) }
     {
-        let temp = self.temp_name(alloc)?;
-        let file = fs::create(&self.rt, &temp)?;
-        let moment = stamp_of(&file.metadata()?);
-        fs::remove_file(&self.rt, &temp)?;
-        Ok(moment)
+        moment_by(&self.rt, self.temp_name(alloc)?.as_str())
     }
 
     /// The name of the temporary file, whose folder it makes.
     fn temp_name(&self, alloc: Global) -> Result<PathBuf, Trouble>
-        ensures { IfOk result (λ name. path_buf_bytes name ≡ path_join self.now.root (path_text (Path.Temp self.now.temp))) }
+        ensures { IfOk result
+            (λ name. path_buf_bytes name ≡ path_join self.now.root (path_text (Path.Temp self.now.temp))) }
     {
         self.make(alloc, Dir::Temp)?;
         let temp = Path::Temp(self.temp).text(alloc)?;

@@ -13,31 +13,44 @@ use std::rt::Files;
 /// A target over a folder of the system, which other programs see too. It tells no store, since no clause can say what
 /// stands in a folder.
 ///
-/// **Files.** A file has its path's text as its name below the root. A lock is written in place. Any other file is
-/// written to `temp/<temp>.tmp` and renamed over its place, so it is whole or not there, also where the program is
-/// killed in the middle. `temp`, and the folder of a file that is put, are made where they are missing. The root never
-/// is.
+/// **Files.** A file has its path's text as its name below the root. A lock is written in place, since its time has to
+/// be the moment from which others see it: a rename would show it late, with the time of its writing, and whoever
+/// removed it first would be without it for a moment. Any other file is written to `temp/<temp>.tmp` and renamed over
+/// its place, so it is whole or not there, also if the program is killed in the middle; it takes the rights of the file
+/// that it replaces, and not its owner. `temp`, and the folder of a file that is put, are made where they are missing.
+/// The root never is.
 ///
-/// **Where the machine stops.** A put flushes its file (fsync) before the rename and before its reply, so each file
-/// that was renamed is whole afterwards, and the server of a shared folder has a lock's bytes and its time. The folders
-/// aren't flushed, since each put would wait a second time: the last puts and deletes may be undone. Nor is the empty
-/// file flushed that tells the time, since nobody reads it.
+/// **Links.** A symbolic link is no file, wherever it leads: it isn't listed, a get and a delete find nothing there, a
+/// lock that is put there is a fault, and any other file that is put replaces the link. Nothing is written through one.
+/// The temporary file is made anew (`O_EXCL`), and what bears its name is removed first. A lock is written only if the
+/// file that was opened is the one that bore the name, and has that name alone: what has a second one (a hard link) is
+/// a fault. The standard library can't open a file without following a link, so a link that comes between the look and
+/// the opening is opened, seen to be another file, and closed again. Folders, and the root, may be links.
+///
+/// **If the machine stops.** A put flushes its file (fsync) before the rename, and its folder before its reply; a
+/// delete flushes its folder, and a folder that is made the root. So what was answered `Done` stays done. A file system
+/// that can't flush a folder, and says so, promises no more than it does. The empty file that tells the time isn't
+/// flushed, since nobody reads it.
 ///
 /// **Times** are those of the file system, in whole milliseconds since 1970, rounded down: 0 before 1970, and at most
 /// `MAX_TIME`. Each call but a put first makes the temporary file, takes its time as `now`, and removes it. The `now`
 /// of a put is the time of its own file: that of its writing, a little before a rename makes it appear.
 ///
 /// **What isn't there.** A missing file is `Absent`, a missing folder has no files, and `MakeDir` of a folder that is
-/// there is `Done`. A directory, a pipe or a device is no file, whatever its name, and a get or put that sees one
-/// doesn't open it. A listing leaves out names that no path has, and files that are gone before their time is read.
+/// there is `Done`. A directory, a link, a pipe or a device is no file, whatever its name: no call opens one, a delete
+/// leaves it. A listing leaves out names that no path has, and files that are gone before their time is read.
 ///
 /// **Limits.** A file that is longer than its limit is `TooLarge` by its length, and isn't read. If a file grows while
 /// it is read, only what it was long at first is.
 ///
 /// **Faults.** Every other error of the system raises the count and is `Failed`: a root that isn't there or is a file,
 /// a full disk, a file that is cut short while it is read, a lock that is put where something stands that is no file.
-/// So does a listing of a folder that holds a name that isn't UTF-8, or in which the system names a file twice. Nothing
-/// else is `Failed`. Want of memory is no fault.
+/// So is a name that is given to another file each time that it is opened, and a listing of a folder that holds a name
+/// which isn't UTF-8, or in which the system names a file twice. Nothing else is `Failed`. Want of memory is no fault.
+///
+/// **What is left behind.** A call that fails removes its temporary file, and a lock that it made and couldn't write. A
+/// run that is killed may leave one of each; a later run overwrites its client's lock, and leaves the temporary file,
+/// since it removes nothing that it didn't make.
 #[derive(Drop)]
 pub struct FolderTarget<R> {
     folder: Folder<R>,
@@ -139,9 +152,7 @@ impl<R: Files + Alloc + Clone + Drop> FolderTarget<R> {
 }
 
 impl<R: Files + Alloc + Clone + Drop> Target for FolderTarget<R> {
-    ghost faults = { λ t. t.faults };
-
-    ghost store = { λ _. None };
+    ghost state = { λ t. record { store = None; faults = t.faults } };
 
     fn call(&mut self, alloc: Global, call: &Call, blob: &mut Bytes) -> Result<Reply, AllocError> {
         let answer = self.answer(alloc, call, blob);

@@ -8,11 +8,12 @@
 mod files;
 mod folder;
 mod folder_target;
+mod folders;
 mod listing;
+mod lock_file;
 mod moment;
+mod named;
+mod temporary;
 mod trouble;
 
 pub use folder_target::FolderTarget;
-
-#[cfg(test)]
-mod tests;

@@ -26,7 +26,7 @@ pub(crate) fn entries_in<R: Files + Alloc + Clone + Drop>(
     };
     let mut entries = Vec::new(alloc);
     for name in names {
-        if let Some(entry) = read_entry(rt, dir, &name?)? {
+        if let Some(entry) = read_entry(dir, &name?)? {
             entries.push(entry)?;
         }
     }
@@ -39,9 +39,8 @@ pub(crate) fn entries_in<R: Files + Alloc + Clone + Drop>(
 }
 
 /// The file that bears a name of the folder. None where the name is none of a target's, where there is no such file
-/// any more, and where a directory bears the name.
+/// any more, and where a link or a directory bears the name.
 fn read_entry<R: Files, A: Allocator>(
-    rt: &R,
     dir: Dir,
     name: &DirEntry<R, A>,
 ) -> Result<Option<Entry>, Trouble>
@@ -50,7 +49,7 @@ fn read_entry<R: Files, A: Allocator>(
     let Some(path) = Path::read(dir, name.file_name().as_bytes()) else {
         return Ok(None);
     };
-    match found(fs::metadata(rt, name.path()))? {
+    match found(name.metadata())? {
         Some(metadata) if metadata.is_file() => Ok(Some(Entry {
             path,
             stamp: stamp_of(&metadata),

@@ -1,6 +1,6 @@
 ghost use Rattle.std.specs.Prelude.{◌≡◌};
 ghost use Rattle.std.specs.IoError.{error_kind};
-ghost use Rattle.target_files.specs.Trouble.{trouble_of, Finds};
+ghost use Rattle.target_files.specs.Trouble.{trouble_of, Finds, Creates};
 ghost use Rattle.target_files.specs.declared.trouble.Trouble.TheVariants.{NoMemory};
 
 use std::alloc::{AllocError, AllocFailed};
@@ -52,5 +52,16 @@ pub(crate) fn found<T: Drop>(given: io::Result<T>) -> Result<Option<T>, Trouble>
             ErrorKind::NotFound | ErrorKind::IsADirectory => Ok(None),
             _ => Err(error.into()),
         },
+    }
+}
+
+/// The file that was made. None where something bears its name.
+pub(crate) fn created<T: Drop>(made: io::Result<T>) -> Result<Option<T>, Trouble>
+    ensures { Creates made result }
+{
+    match made {
+        Ok(file) => Ok(Some(file)),
+        Err(error) if error.kind() == ErrorKind::AlreadyExists => Ok(None),
+        Err(error) => Err(error.into()),
     }
 }

@@ -1,86 +1,95 @@
--- The written histories are honest, and their clients keep the lock discipline.
-use Rattle.std.proofs.Common.{◌≡◌, ◌≤◌, refl, subst, arith, inl, inr, ℕ, List, [], ◌∷◌}
+-- The written histories are honest, their clients keep their locks, and each busy answer has its lock.
+use Rattle.std.proofs.Common.{◌≡◌, ◌≤◌, refl, arith, inl, inr, ℕ, List, [], ◌∷◌, true}
 use Rattle.std.specs.Prelude.{take, All}
+use Rattle.std.specs.List.{list_all}
 use Rattle.std.proofs.lemmas.List.Elements.{All-nil, All-cons}
-use Rattle.jop_base.specs.Order.{path_cmp}
-use Rattle.jop_base.specs.Paths.{dir_of}
+use Rattle.std.proofs.lemmas.List.Sums.{AllPass-from_list_all}
+use Rattle.jop_base.specs.Id.{IsIdText, is_digit}
+use Rattle.jop_base.specs.Keyed.{at, cut, put}
+use Rattle.jop_base.specs.Paths.{IsPath, dir_of}
+use Rattle.jop_base.specs.Times.{last_time}
 use Rattle.jop_base.specs.declared.dir.Dir.TheVariants.{Locks}
+use Rattle.jop_base.specs.declared.lock_name.LockKind.{LockKind}
 use Rattle.jop_base.specs.declared.lock_name.LockKind.TheVariants.{Sync, Exclusive}
-use Rattle.jop_target.specs.History.{IsHonest, part_of}
+use Rattle.jop_target.specs.History.{IsHonest, IsOrderly, part_of}
 use Rattle.jop_target.specs.Replies.{IsListing}
-use Rattle.jop_target.specs.Store.{reply_of, tree_after, file_at, with_file, without_file, entries_in, with_dir}
+use Rattle.jop_target.specs.Store.{entries_in, reply_of, tree_after}
 use Rattle.jop_target.specs.declared.event.Event.TheVariants.{Began}
-use Rattle.jop_base.specs.declared.time.TheConstants.{MAX_TIME}
 use Rattle.jop_target.specs.declared.reply.Entry.{Entry}
 use Rattle.jop_target.specs.declared.reply.Reply.TheVariants.{Done}
-use Rattle.lease.specs.Discipline.{ObeysLocks, lawful_from, session_from}
-use Rattle.lease.specs.Exclusion.{AllObey}
+use Rattle.jop_target.specs.declared.tree.File.{File}
+use Rattle.lease.specs.Discipline.{lawful_from, session_from}
+use Rattle.lease.specs.Exclusion.{AllKeepLocks}
 use Rattle.lease.specs.Outcomes.{IsBlocked}
-use Rattle.lease.specs.Stories.{one, two, shown}
-use Rattle.lease.proofs.Invariant.{same_or_not, apart}
+use Rattle.lease.specs.Stories.{one, two, lock_of, shown}
+use Rattle.lease.proofs.Written.{all_keep_locks, is_honest, orderly_empty}
 use Rattle.worked_rows.specs.Histories.{two_upgraders, renewed_in_time, renewed_too_late, behind_a_sync_lock, lock, both_locks}
 
 -- ---- honest stores
 
+id_one : IsIdText one
+id_one = record { long = refl; digits = AllPass-from_list_all is_digit one refl }
+
+id_two : IsIdText two
+id_two = record { long = refl; digits = AllPass-from_list_all is_digit two refl }
+
+path_one : (kind : LockKind) → IsPath (lock_of kind one)
+path_one kind = record { client_type = omega arith; client = id_one }
+
+path_two : (kind : LockKind) → IsPath (lock_of kind two)
+path_two kind = record { client_type = omega arith; client = id_two }
+
 pub honest_two : IsHonest two_upgraders
-unfolding reply_of tree_after file_at with_file without_file entries_in with_dir path_cmp
-honest_two = (omega arith, tt, (omega arith, tt, (omega arith, (refl, (0, (omega arith), refl)), (omega arith, (refl, (1, (omega arith), refl)), (omega arith, (refl, (2, (omega arith), refl)), (omega arith, (refl, (3, (omega arith), refl)), (omega arith, (refl, (4, (omega arith), refl)), (omega arith, (refl, (5, (omega arith), refl)), (omega arith, (refl, (6, (omega arith), refl)), (omega arith, (refl, (7, (omega arith), refl)), (omega arith, (refl, (8, (omega arith), refl)), (omega arith, (refl, (9, (omega arith), refl)), tt))))))))))))
+unfolding reply_of tree_after at put cut entries_in
+honest_two = is_honest two_upgraders orderly_empty refl
 
 pub honest_in_time : IsHonest renewed_in_time
-unfolding reply_of tree_after file_at with_file without_file entries_in with_dir path_cmp
-honest_in_time = (omega arith, tt, (omega arith, (refl, (998, (omega arith), refl)), (omega arith, (refl, (999, (omega arith), refl)), (omega arith, (refl, (1000, (omega arith), refl)), (omega arith, (refl, (1001, (omega arith), refl)), (omega arith, (refl, (61000, (omega arith), refl)), (omega arith, (refl, (180999, (omega arith), refl)), (omega arith, (refl, (181000, (omega arith), refl)), tt))))))))
+unfolding reply_of tree_after at put cut entries_in
+honest_in_time = is_honest renewed_in_time orderly_empty refl
 
 pub honest_too_late : IsHonest renewed_too_late
-unfolding reply_of tree_after file_at with_file without_file entries_in with_dir path_cmp
-honest_too_late = (omega arith, tt, (omega arith, (refl, (998, (omega arith), refl)), (omega arith, (refl, (999, (omega arith), refl)), (omega arith, (refl, (1000, (omega arith), refl)), (omega arith, (refl, (1001, (omega arith), refl)), (omega arith, (refl, (61000, (omega arith), refl)), (omega arith, (refl, (181000, (omega arith), refl)), (omega arith, (refl, (181001, (omega arith), refl)), tt))))))))
+unfolding reply_of tree_after at put cut entries_in
+honest_too_late = is_honest renewed_too_late orderly_empty refl
+
+orderly_behind : IsOrderly (behind_a_sync_lock 184999).opening
+orderly_behind = record {
+  paths = All-cons (λ (f : File). IsPath f.path) _ [] (path_two Sync)
+      (All-nil (λ (f : File). IsPath f.path));
+  ordered = (tt, tt);
+}
 
 pub honest_behind : IsHonest (behind_a_sync_lock 184999)
-unfolding reply_of tree_after file_at entries_in path_cmp
-honest_behind = (omega arith, tt, (omega arith, (refl, (184999, (omega arith), refl)), tt))
+unfolding reply_of tree_after at put cut entries_in
+honest_behind = is_honest (behind_a_sync_lock 184999) orderly_behind refl
 
 -- ---- the discipline
 
-pub obey_two : AllObey two_upgraders
+pub keep_two : AllKeepLocks two_upgraders
 unfolding lawful_from
-obey_two = record {
-  each = λ client. elim (same_or_not one client) [
-    | inl e ↦ subst (λ (c : List ℕ). ObeysLocks c (part_of c two_upgraders.steps)) e refl
-    | inr n ↦ elim (same_or_not two client) [
-      | inl e ↦ subst (λ (c : List ℕ). ObeysLocks c (part_of c two_upgraders.steps)) e refl
-      | inr m ↦ rw (apart one client n, apart two client m) refl
-    ]
-  ];
-}
+keep_two = all_keep_locks two_upgraders refl
 
-pub obey_in_time : AllObey renewed_in_time
+pub keep_in_time : AllKeepLocks renewed_in_time
 unfolding lawful_from
-obey_in_time = record {
-  each = λ client. elim (same_or_not one client) [
-    | inl e ↦ subst (λ (c : List ℕ). ObeysLocks c (part_of c renewed_in_time.steps)) e refl
-    | inr n ↦ rw (apart one client n) refl
-  ];
-}
+keep_in_time = all_keep_locks renewed_in_time refl
 
-pub obey_too_late : AllObey renewed_too_late
+pub keep_too_late : AllKeepLocks renewed_too_late
 unfolding lawful_from
-obey_too_late = record {
-  each = λ client. elim (same_or_not one client) [
-    | inl e ↦ subst (λ (c : List ℕ). ObeysLocks c (part_of c renewed_too_late.steps)) e refl
-    | inr n ↦ rw (apart one client n) refl
-  ];
-}
+keep_too_late = all_keep_locks renewed_too_late refl
 
 -- ---- locks in the way
 
-of_both : (P : Entry → Type 0) → P (shown Exclusive one 4) → P (shown Exclusive two 5) → All P both_locks
-of_both P h k = All-cons P (shown Exclusive one 4) (shown Exclusive two 5 ∷ []) h (All-cons P (shown Exclusive two 5) [] k (All-nil P))
+of_both : (P : Entry → Type 0) → P (shown Exclusive one 4) → P (shown Exclusive two 5) →
+    All P both_locks
+of_both P h k =
+    All-cons P (shown Exclusive one 4) (shown Exclusive two 5 ∷ []) h
+    (All-cons P (shown Exclusive two 5) [] k (All-nil P))
 
-both_listed : (now : ℕ) → now ≤ MAX_TIME → IsListing Locks (record { now = now; entries = both_locks })
-unfolding path_cmp
-both_listed now le = record {
-  now = le;
+both_listed : (now : ℕ) → now ≤ last_time → IsListing Locks (record { now = now; entries = both_locks })
+both_listed now early = record {
+  now = early;
+  paths = of_both (λ (e : Entry). IsPath e.path) (path_one Exclusive) (path_two Exclusive);
   inside = of_both (λ (e : Entry). dir_of e.path ≡ Locks) refl refl;
-  stamps = of_both (λ (e : Entry). e.stamp ≤ MAX_TIME) (omega arith) (omega arith);
+  stamps = of_both (λ (e : Entry). e.stamp ≤ last_time) (omega arith) (omega arith);
   rising = (refl, (tt, tt));
 }
 
@@ -102,6 +111,8 @@ first_blocked = inr (record {
     ends = refl;
     over = record { running = refl; lawful = refl; phase = refl };
   };
+  stamp = 4;
+  shown = refl;
   blocking = refl;
 })
 
@@ -123,10 +134,13 @@ second_blocked = inr (record {
     ends = refl;
     over = record { running = refl; lawful = refl; phase = refl };
   };
+  stamp = 5;
+  shown = refl;
   blocking = refl;
 })
 
-pub upgrader_blocked : IsBlocked Exclusive one (part_of one (behind_a_sync_lock 184999).steps) (lock Sync two 5000) 184999
+pub upgrader_blocked :
+    IsBlocked Exclusive one (part_of one (behind_a_sync_lock 184999).steps) (lock Sync two 5000) 184999
 unfolding session_from
 upgrader_blocked = inl (record {
   listing = record { now = 184999; entries = shown Sync two 5000 ∷ [] };

@@ -71,7 +71,10 @@ renewed_too_late = renewed 181000 181001
 
 abbrev pub behind_a_sync_lock : ℕ → History
 behind_a_sync_lock now = record {
-  opening = record { files = record { path = lock_of Sync two; content = Whole []; stamp = 5000 } ∷ []; folders = Locks ∷ [] };
+  opening = record {
+    files = record { path = lock_of Sync two; content = Whole []; stamp = 5000 } ∷ [];
+    folders = Locks ∷ [];
+  };
   steps =
       begins one now
       ∷ lists_locks one now (shown Sync two 5000 ∷ [])

@@ -8,6 +8,17 @@ use std::test::Fail;
 
 const ONE: &str = "11111111111111111111111111111111";
 
+/// The trail of a check that went well.
+const WHOLE_CHECK: &str = concat!(
+    "began\n",
+    "make locks/: done at 0\n",
+    "list locks/: listed at 1\n",
+    "put locks/1_3_11111111111111111111111111111111.json, 71 bytes: done at 2\n",
+    "list locks/: listed at 3, locks/1_3_11111111111111111111111111111111.json of 2\n",
+    "delete locks/1_3_11111111111111111111111111111111.json: done at 4\n",
+    "ended\n"
+);
+
 const TWO: &[u8] = b"22222222222222222222222222222222";
 
 fn check_words(alloc: Global) -> Result<Words, AllocError> {
@@ -41,10 +52,7 @@ fn takes_a_lock_lists_again_and_releases_it(rt: HostRuntime) -> Result<(), Fail>
     assert_eq!(rt; ran.status.exit(), 0);
     assert_eq!(rt; out.written.as_slice(), b"free\n".as_slice());
     assert!(rt; ran.err.written.is_empty());
-    assert_eq!(rt;
-        ran.trail.as_str(),
-        "began\nmake locks at 0\nlist locks at 1\nput locks/1_3_11111111111111111111111111111111.json at 2\nlist locks at 3\ndelete locks/1_3_11111111111111111111111111111111.json at 4\nended\n"
-    );
+    assert_eq!(rt; ran.trail.as_str(), WHOLE_CHECK);
     Ok(())
 }
 
@@ -62,7 +70,12 @@ fn names_the_live_lock_in_the_way(rt: HostRuntime) -> Result<(), Fail> {
     );
     assert_eq!(rt;
         busy.trail.as_str(),
-        "began\nmake locks at 180998\nlist locks at 180999\nended\n"
+        concat!(
+            "began\n",
+            "make locks/: done at 180998\n",
+            "list locks/: listed at 180999, locks/2_3_22222222222222222222222222222222.json of 1000\n",
+            "ended\n"
+        )
     );
     Ok(())
 }
@@ -98,7 +111,13 @@ fn calls_nothing_more_after_a_failed_call(rt: HostRuntime) -> Result<(), Fail> {
     assert_eq!(rt; ran.err.written.as_slice(), b"target fault\n".as_slice());
     assert_eq!(rt;
         ran.trail.as_str(),
-        "began\nmake locks at 0\nlist locks at 1\nput locks/1_3_11111111111111111111111111111111.json failed\nended\n"
+        concat!(
+            "began\n",
+            "make locks/: done at 0\n",
+            "list locks/: listed at 1\n",
+            "put locks/1_3_11111111111111111111111111111111.json, 71 bytes: failed\n",
+            "ended\n"
+        )
     );
     assert_eq!(rt; target.tree().files.len(), 1);
     Ok(())
@@ -131,7 +150,7 @@ fn loses_a_lease_that_is_shown_too_late(rt: HostRuntime) -> Result<(), Fail> {
     assert_eq!(rt; lost.err.written.as_slice(), b"lease lost\n".as_slice());
     assert!(rt;
         lost.trail.as_str().ends_with(
-            "delete locks/1_3_11111111111111111111111111111111.json at 240000\nended\n"
+            "delete locks/1_3_11111111111111111111111111111111.json: done at 240000\nended\n"
         )
     );
     let kept = check(alloc, &mut MemTarget::new(alloc, 0, 59_999))?;

@@ -3,7 +3,7 @@
 ghost use Rattle.std.specs.Prelude.{◌≡◌, ◌∷◌, [], ℕ, List, None};
 ghost use Rattle.jop_base.specs.declared.lock_name.LockKind.TheVariants.{Exclusive, Sync};
 ghost use Rattle.jop_target.specs.History.{IsHonest, Writes, part_of};
-ghost use Rattle.lease.specs.Exclusion.{AllObey, phase_at};
+ghost use Rattle.lease.specs.Exclusion.{AllKeepLocks, phase_at};
 ghost use Rattle.lease.specs.Locks.{blocking_in};
 ghost use Rattle.lease.specs.Outcomes.{IsBlocked};
 ghost use Rattle.lease.specs.Phase.{Held, Leaving};
@@ -13,7 +13,7 @@ ghost use Rattle.worked_rows.specs.Histories.{behind_a_sync_lock, lock, renewed_
 /// Two clients that go for an upgrade at once both find the other's lock in the way, and neither writes.
 pub fn two_upgraders_block_each_other()
     ensures honest { IsHonest two_upgraders }
-    ensures obey { AllObey two_upgraders }
+    ensures keep { AllKeepLocks two_upgraders }
     ensures first { IsBlocked Exclusive one (part_of one two_upgraders.steps) (lock Exclusive two 5) 6 }
     ensures second { IsBlocked Exclusive two (part_of two two_upgraders.steps) (lock Exclusive one 4) 7 }
     ensures quiet { (place : ℕ) (client : List ℕ) → Writes two_upgraders place client → ⊥ }
@@ -24,7 +24,7 @@ pub fn renews_before_the_end_alone()
     ensures kept { phase_at one renewed_in_time.steps ≡ Held Sync 180999 }
     ensures lost { phase_at one renewed_too_late.steps ≡ Leaving Sync }
     ensures honest { IsHonest renewed_in_time × IsHonest renewed_too_late }
-    ensures obey { AllObey renewed_in_time × AllObey renewed_too_late }
+    ensures keep { AllKeepLocks renewed_in_time × AllKeepLocks renewed_too_late }
 {}
 
 /// Another's sync lock keeps a client from an upgrade until its life is over.

@@ -10,8 +10,6 @@ mod histories;
 mod ran;
 #[cfg(test)]
 mod tidying;
-#[cfg(test)]
-mod trail;
 
 pub use histories::{
     a_sync_lock_blocks_an_upgrade, renews_before_the_end_alone, two_upgraders_block_each_other,

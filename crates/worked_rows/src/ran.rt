@@ -1,7 +1,6 @@
-use crate::trail::trail_text;
 use jop_base::{Bytes, MemSink, MemSource, Seq, Text};
 use jop_cli::{Status, Words, run};
-use jop_target::{Diary, MemTarget};
+use jop_target::{Diary, Event, MemTarget};
 use std::alloc::{AllocError, Global};
 
 /// What a run came to: its status, what it wrote on standard error, and its trail.
@@ -44,4 +43,13 @@ pub(crate) fn run_over(
     let status = run(alloc, words, target, input, out, &mut err, &mut diary);
     let trail = trail_text(alloc, diary.events())?;
     Ok(Ran { status, err, trail })
+}
+
+/// The events of a trail, one a line.
+fn trail_text(alloc: Global, events: &[Event]) -> Result<String, AllocError> {
+    let mut text = String::new(alloc);
+    for event in events {
+        text.push_str(format!(in alloc; "{event}\n")?.as_str())?;
+    }
+    Ok(text)
 }

@@ -4,4 +4,4 @@ use Rattle.item_text.proofs.read.read_bytes.Goals as goal
 
 pub returns-in-Err : goal.returns-in-Err
 unfolding Answers
-returns-in-Err c = fault_bytes c.args.bytes.now c.in-Err.ensures.cases.0
+returns-in-Err c = rw c.not_text.ensures (fault_bytes c.args.bytes.now c.in-Err.ensures.cases.0)

@@ -13,5 +13,8 @@ loop-start-preserved c =
     let P : List ℕ → Type 0 = λ bytes. is_blank (get_or bytes c.loop-start.start 0) ≡ true in
     let blank = subst P c.as_bytes-bytes.ensures.value (sym c.if-is_blank.ensures) in
     let lt : c.loop-start.start < length c.args.text.now = omega arith in
-    let step = prefix_len-drop_yes is_blank c.args.text.now c.loop-start.start 0 lt blank in
-    (IsCharBoundary-after_ascii c.args.text.now c.loop-start.start c.utf8.text lt (blank_ascii _ blank), omega arith)
+    let step = prefix_len-drop_yes is_blank c.args.text.now c.loop-start.start 0 lt blank in (
+      IsCharBoundary-after_ascii c.args.text.now c.loop-start.start c.utf8.text lt
+          (blank_ascii _ blank),
+      omega arith,
+    )

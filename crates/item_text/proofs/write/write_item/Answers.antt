@@ -6,7 +6,9 @@ use Rattle.item_text.proofs.write.write_item.Goals as goal
 
 pub returns-clause-again : goal.returns-clause-again
 returns-clause-again c =
-    let same : c.into_bytes.result ≡ written c.args.item.now = c.into_bytes.ensures.bytes ∙ c.in_ok-text.ensures in
+    let same : c.into_bytes.result ≡ written c.args.item.now = c.into_bytes.ensures.bytes
+    ∙ c.in_ok-text.ensures in
     let P : List ℕ → Type 0 = λ bytes. Reads bytes c.args.item.now × (first_fault bytes ≡ None) in
     let Q : List ℕ → Type 0 = λ bytes. IsUtf8 bytes in
-    subst P (sym same) (reads_again c.args.item.now c.requires (subst Q same c.into_bytes.ensures.utf8))
+    subst P (sym same)
+    (reads_again c.args.item.now c.requires (subst Q same c.into_bytes.ensures.utf8))

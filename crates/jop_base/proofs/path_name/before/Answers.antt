@@ -1,13 +1,16 @@
-use Rattle.std.proofs.Common.{◌≡◌, ◌++◌, ◌-◌, ◌∙◌, sym, ap, arith, List, ℕ, length, drop, length-append}
+use Rattle.std.proofs.Common.{◌≡◌, ◌++◌, ◌-◌, ◌∙◌, ap, arith, List, ℕ, length, drop, length-append}
 use Rattle.std.proofs.Math.Seq.{drop-append_seam}
 use Rattle.std.proofs.lemmas.Slice.Eq.{bytes_eq-Decides}
 use Rattle.jop_base.proofs.path_name.before.Goals as goal
 
 -- the ending is what stands at the place of its length from the end
-drop-append : (start ending name : List ℕ) → start ++ ending ≡ name → drop (length name - length ending) name ≡ ending
+drop-append : (start ending name : List ℕ)
+    → start ++ ending ≡ name → drop (length name - length ending) name ≡ ending
 drop-append start ending name is =
-    let place : length name - length ending ≡ length start = omega (arith, ap length is, length-append start ending) in
-    ap (λ (k : ℕ). drop k name) place ∙ (ap (λ (l : List ℕ). drop (length start) l) (sym is) ∙ drop-append_seam start ending)
+    let place : length name - length ending ≡ length start =
+    omega (arith, ap length is, length-append start ending) in
+    let seam = drop-append_seam start ending in
+    cc
 
 pub returns-else-eq-clause-none : goal.returns-else-eq-clause-none
 returns-else-eq-clause-none c = λ start is.

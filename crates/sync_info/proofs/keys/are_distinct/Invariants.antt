@@ -10,5 +10,6 @@ use Rattle.sync_info.proofs.keys.are_distinct.Given as goal
 abbrev pub invariant-loop-i : goal.invariant-loop-i
 invariant-loop-i l = record {
   distinct : are_distinct (drop l.i l.keys) ≡ true;
-  seen : (id : List ℕ) → contains (slice_cmp nat_cmp) l.seen id ≡ list_any (has_id id) (drop l.i l.keys);
+  seen : (id : List ℕ)
+      → contains (slice_cmp nat_cmp) l.seen id ≡ list_any (has_id id) (drop l.i l.keys);
 }

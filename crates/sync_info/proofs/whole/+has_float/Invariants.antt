@@ -5,7 +5,11 @@ use Rattle.sync_info.proofs.whole.+has_float.Given as goal
 
 -- a float is among the items that are left, if one is there
 abbrev pub invariant-items_have_float-loop-item : goal.invariant-items_have_float-loop-item
-invariant-items_have_float-loop-item l = items_have_float (items_view (drop l.item-index l.item-items)) ≡ items_have_float (items_view l.item-items)
+invariant-items_have_float-loop-item l =
+    items_have_float (items_view (drop l.item-index l.item-items))
+    ≡ items_have_float (items_view l.item-items)
 
 abbrev pub invariant-members_have_float-loop-name : goal.invariant-members_have_float-loop-name
-invariant-members_have_float-loop-name l = members_have_float (members_view l._name-iterator) ≡ members_have_float (members_view l.initial._name-iterator)
+invariant-members_have_float-loop-name l =
+    members_have_float (members_view l._name-iterator)
+    ≡ members_have_float (members_view l.initial._name-iterator)

@@ -9,5 +9,8 @@ pub loop-member-preserved : goal.loop-member-preserved
 loop-member-preserved c =
     let l = c.loop-member in
     let m = c.member-item.result in
-    let stored : members_view c.put.new.map.entries ≡ put m.name (value_in m.json) (members_view l.members.entries) = search rules in
-    stored ∙ ap (put m.name (value_in m.json)) l.invariant ∙ members_of-more c.args.kept.now l.member-index m (omega arith) c.member-item.is c.requires.sorted
+    let stored : members_view c.put.new.map.entries
+    ≡ put m.name (value_in m.json) (members_view l.members.entries) = search rules in
+    stored ∙ ap (put m.name (value_in m.json)) l.invariant
+    ∙ members_of-more c.args.kept.now l.member-index m
+    (omega arith) c.member-item.is c.requires.sorted

@@ -20,10 +20,15 @@ returns-clause-reads_back c =
     let info = c.args.info.now in
     let json = c.in_ok-value.ensures in
     let whole = ap has_float json ∙ whole-info_json info c.requires in
-    let shallow = subst (λ (d : Data). depth d ≤ max_depth) (sym json) (depth-info_json info c.requires) in
+    let shallow =
+    subst (λ (d : Data). depth d ≤ max_depth) (sym json) (depth-info_json info c.requires) in
     let written = c.in_ok-to_vec.ensures in
-    ap info_in c.from_vec.ensures ∙ ap (option_and_then info_of) (whole_value-read _ (view c.in_ok-value.value) written.utf8 (written.reads_back shallow) whole) ∙ ap info_of json
+    ap info_in c.from_vec.ensures
+    ∙ ap (option_and_then info_of)
+    (whole_value-read _ (view c.in_ok-value.value) written.utf8
+    (written.reads_back shallow) whole) ∙ ap info_of json
     ∙ info_of-info_json info c.requires
 
 pub returns-clause-version : goal.returns-clause-version
-returns-clause-version c = λ has_old. ap (option_map (λ (info : Info). info.version)) (returns-clause-reads_back c)
+returns-clause-version c =
+    λ has_old. ap (option_map (λ (info : Info). info.version)) (returns-clause-reads_back c)

@@ -1,4 +1,4 @@
-use Rattle.jop_cli.proofs.Sessions.{begun_stands}
+use Rattle.lease.proofs.WholeSessions.{begun_stands}
 use Rattle.worked_rows.proofs.exclusive.go_for_an_upgrade.Goals as goal
 
 pub acquire-requires : goal.acquire-requires

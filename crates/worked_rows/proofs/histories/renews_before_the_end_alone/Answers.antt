@@ -1,6 +1,6 @@
 use Rattle.std.proofs.Common.{refl}
 use Rattle.lease.specs.Discipline.{session_from}
-use Rattle.worked_rows.proofs.Stories.{honest_in_time, honest_too_late, obey_in_time, obey_too_late}
+use Rattle.worked_rows.proofs.Stories.{honest_in_time, honest_too_late, keep_in_time, keep_too_late}
 use Rattle.worked_rows.proofs.histories.renews_before_the_end_alone.Goals as goal
 
 pub returns-clause-kept : goal.returns-clause-kept
@@ -12,5 +12,5 @@ returns-clause-lost c = unfold session_from in refl
 pub returns-clause-honest : goal.returns-clause-honest
 returns-clause-honest c = (honest_in_time, honest_too_late)
 
-pub returns-clause-obey : goal.returns-clause-obey
-returns-clause-obey c = (obey_in_time, obey_too_late)
+pub returns-clause-keep : goal.returns-clause-keep
+returns-clause-keep c = (keep_in_time, keep_too_late)

@@ -1,11 +1,11 @@
-use Rattle.worked_rows.proofs.Stories.{honest_two, obey_two, first_blocked, second_blocked}
+use Rattle.worked_rows.proofs.Stories.{honest_two, keep_two, first_blocked, second_blocked}
 use Rattle.worked_rows.proofs.histories.two_upgraders_block_each_other.Goals as goal
 
 pub returns-clause-honest : goal.returns-clause-honest
 returns-clause-honest c = honest_two
 
-pub returns-clause-obey : goal.returns-clause-obey
-returns-clause-obey c = obey_two
+pub returns-clause-keep : goal.returns-clause-keep
+returns-clause-keep c = keep_two
 
 pub returns-clause-first : goal.returns-clause-first
 returns-clause-first c = first_blocked

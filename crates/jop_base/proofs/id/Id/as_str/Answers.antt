@@ -14,4 +14,6 @@ ascii (d ∷ ds) h zero = hex_ascii d (h 0 0 (omega arith))
 ascii (d ∷ ds) h (suc i) = ascii ds (λ k e lt. h (suc k) e (omega arith)) i
 
 pub unreachable-requires : goal.unreachable-requires
-unreachable-requires c = c.in-Err.ensures.cases.0 (IsUtf8-from_ascii _ (ascii c.self.inside.digits c.self.invariant.digits))
+unreachable-requires c =
+    let low = ascii c.self.inside.digits c.self.invariant.digits in
+    c.in-Err.ensures.cases.0 (IsUtf8-from_ascii _ low)

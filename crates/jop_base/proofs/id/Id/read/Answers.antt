@@ -6,4 +6,8 @@ use Rattle.jop_base.proofs.id.Id.read.Goals as goal
 pub invariant_of-result : goal.invariant_of-result
 invariant_of-result c =
     let whole = c.in-Ok.ensures.1 in
-    record { long = ap length whole.same ∙ whole.long; digits = subst (λ (ds : List ℕ). All (λ d. is_digit d ≡ true) ds) (sym whole.same) (c.are_digits.ensures.0 c.if-are_digits.true) }
+    let are = c.are_digits.ensures.0 c.if-are_digits.true in
+    record {
+      long = ap length whole.same ∙ whole.long;
+      digits = subst (λ (ds : List ℕ). All (λ d. is_digit d ≡ true) ds) (sym whole.same) are;
+    }

@@ -23,13 +23,18 @@ pub returns-in-Equal : goal.returns-in-Equal
 returns-in-Equal c =
     let p = c.args.self.now in
     let q = c.args.other.now in
-    let ranks : nat_cmp (rank_of p) (rank_of q) ≡ Equal = cc (c.rank.ensures, c.rank-2.ensures, c.in-Equal.ensures) in
-    let ids : c.cmp-in-Equal.result ≡ option_cmp (slice_cmp nat_cmp) (id_of p) (id_of q) = cc (c.cmp-in-Equal.ensures, c.id-own.ensures.id, c.id-others.ensures.id) in
-    ids ∙ (sym (equal _ _ ranks) ∙ path_cmp-by_rank p q c.id-own.ensures.path c.id-others.ensures.path)
+    let ranks : nat_cmp (rank_of p) (rank_of q) ≡ Equal =
+    cc (c.rank.ensures, c.rank-2.ensures, c.in-Equal.ensures) in
+    let ids : c.cmp-in-Equal.result ≡ option_cmp (slice_cmp nat_cmp) (id_of p) (id_of q) =
+    cc (c.cmp-in-Equal.ensures, c.id-own.ensures.id, c.id-others.ensures.id) in
+    let texts = path_cmp-by_rank p q c.id-own.ensures.path c.id-others.ensures.path in
+    ids ∙ (sym (equal _ _ ranks) ∙ texts)
 
 pub returns-in_default : goal.returns-in_default
 returns-in_default c =
     let p = c.args.self.now in
     let q = c.args.other.now in
-    let ranks : c.cmp.result ≡ nat_cmp (rank_of p) (rank_of q) = cc (c.rank.ensures, c.rank-2.ensures, c.cmp.ensures) in
-    ranks ∙ (sym (unequal _ _ (λ same. c.in_default.not-Equal (ranks ∙ same))) ∙ path_cmp-by_rank p q c.id-own.ensures.path c.id-others.ensures.path)
+    let ranks : c.cmp.result ≡ nat_cmp (rank_of p) (rank_of q) =
+    cc (c.rank.ensures, c.rank-2.ensures, c.cmp.ensures) in
+    let texts = path_cmp-by_rank p q c.id-own.ensures.path c.id-others.ensures.path in
+    ranks ∙ (sym (unequal _ _ (λ same. c.in_default.not-Equal (ranks ∙ same))) ∙ texts)

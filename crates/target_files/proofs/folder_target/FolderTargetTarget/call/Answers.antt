@@ -17,8 +17,15 @@ failed call before after (Ok reply) result fits counts is =
 failed call before after (Err Fault) result fits counts is = le_of_eq (sym counts.1)
 failed call before after (Err NoMemory) result fits counts is = cc (counts.0, is)
 
+stays : (before after : ℕ) (answer : Result Reply Trouble) (result : Result Reply AllocError)
+    → Counts before answer result after → ¬ (result ≡ Ok Failed) → after ≡ before
+stays before after (Ok reply) result counts other = counts.1
+stays before after (Err Fault) result counts other = absurd (other counts.0)
+stays before after (Err NoMemory) result counts other = counts.1
+
 pub returns-clause-cause : goal.returns-clause-cause
 returns-clause-cause g c = record {
   later = c.counted.ensures.later;
   failed = failed c.args.call.now _ _ c.answer-answer.result _ c.answer-answer.ensures.fits c.counted.ensures.counts;
+  stays = stays _ _ c.answer-answer.result _ c.counted.ensures.counts;
 }

@@ -1,0 +1,9 @@
+pub mod Bytes
+pub mod Mapped
+pub mod Xored
+pub mod Words
+pub mod Enciphered
+pub mod Chained
+pub mod Params
+pub mod Tag
+pub mod Turns

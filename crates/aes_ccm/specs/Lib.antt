@@ -1,0 +1,6 @@
+pub mod Lists
+pub mod Field
+pub mod Aes
+pub mod Schedule
+pub mod Ccm
+pub mod Hmac

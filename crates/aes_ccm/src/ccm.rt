@@ -1,0 +1,100 @@
+ghost use Rattle.std.specs.Prelude.{◌≡◌, ◌≢◌, ◌≤◌, ◌<◌, ◌-◌, ◌*◌, ◌^◌, ◌++◌, ◌↔◌, true, false, Err, OnOk, OnErr, IfOk, IfErr, length, replicate, nat_lt};
+ghost use Rattle.aes_ccm.specs.Ccm.{are_good, ciphered, tag_of};
+
+use crate::aes::Aes;
+use crate::block::counter;
+use crate::ccm_err::CcmErr;
+use crate::chain::chain_all;
+use crate::cipher::cipher;
+use crate::xor::{filled, xor_from};
+
+/// Whether a length can be written in so many bytes.
+fn fits(len: usize, bytes: usize) -> bool
+    requires { bytes ≤ 8 }
+    ensures { result ≡ nat_lt len (2 ^ (8 * bytes)) }
+{
+    bytes == 8 || len >> (8 * bytes) == 0
+}
+
+fn are_good(nonce: &[u8], tag_len: usize, adata: &[u8], text: &[u8]) -> bool
+    ensures { result ≡ are_good (length nonce.now) tag_len (length adata.now) (length text.now) }
+{
+    matches!(nonce.len(), 7..=13)
+        && matches!(tag_len, 4..=16)
+        && tag_len % 2 == 0
+        && adata.len() < 65_280
+        && fits(text.len(), 15 - nonce.len())
+}
+
+/// The tag of a plain text, and zeros behind it.
+fn tag_of(key: &Aes, nonce: &[u8], adata: &[u8], text: &[u8], tag_len: usize) -> [u8; 16]
+    requires nonce { length nonce.now ≤ 14 }
+    requires tag { tag_len ≤ 16 }
+    requires adata { length adata.now < 65280 }
+    ensures { result
+        ≡ tag_of key.now nonce.now adata.now text.now tag_len ++ replicate (16 - tag_len) 0 }
+{
+    let mut whole = chain_all(key, nonce, adata, text, tag_len);
+    xor_from(&mut whole, 0, &key.encrypt_block(counter(nonce, 0)));
+    filled(&whole[..tag_len])
+}
+
+/// Seals a text in place by CCM (SP 800-38C), and gives its tag of `tag_len` bytes, with zeros behind
+/// it. The nonce is never to be used again under the same key.
+pub fn ccm_seal(
+    key: &Aes,
+    nonce: &[u8],
+    adata: &[u8],
+    text: &mut [u8],
+    tag_len: usize,
+) -> Result<[u8; 16], CcmErr>
+    ensures text { OnOk result (text.new ≡ ciphered key.now nonce.now text.old) }
+    ensures tag { IfOk result (λ tag. tag
+        ≡ tag_of key.now nonce.now adata.now text.old tag_len ++ replicate (16 - tag_len) 0) }
+
+    ensures params { result ≡ Err CcmErr.BadParams
+        ↔ (are_good (length nonce.now) tag_len (length adata.now) (length text.old) ≡ false) }
+    ensures only { IfErr result (λ e. e ≡ CcmErr.BadParams) }
+    ensures err { OnErr result (text.new ≡ text.old) }
+{
+    if !are_good(nonce, tag_len, adata, text) {
+        return Err(CcmErr::BadParams);
+    }
+    let tag = tag_of(key, nonce, adata, text, tag_len);
+    cipher(key, nonce, text);
+    Ok(tag)
+}
+
+/// Opens a sealed text in place by CCM (SP 800-38C). A tag that differs is found when the text is
+/// open; the text is then sealed again, which costs a second pass over the text.
+pub fn ccm_open(
+    key: &Aes,
+    nonce: &[u8],
+    adata: &[u8],
+    text: &mut [u8],
+    tag: &[u8],
+) -> Result<(), CcmErr>
+    ensures text { OnOk result (text.new ≡ ciphered key.now nonce.now text.old) }
+    ensures tag { OnOk result (tag.now ≡ tag_of key.now nonce.now adata.now text.new (length tag.now)) }
+
+    ensures params { result ≡ Err CcmErr.BadParams
+        ↔ (are_good (length nonce.now) (length tag.now) (length adata.now) (length text.old) ≡ false) }
+    // Besides, the parameters are good.
+    ensures differs { result ≡ Err CcmErr.BadTag
+        → tag.now ≢ tag_of key.now nonce.now adata.now
+        (ciphered key.now nonce.now text.old) (length tag.now) }
+    ensures good { result ≡ Err CcmErr.BadTag
+        → are_good (length nonce.now) (length tag.now) (length adata.now) (length text.old) ≡ true }
+    ensures err { OnErr result (text.new ≡ text.old) }
+{
+    if !are_good(nonce, tag.len(), adata, text) {
+        return Err(CcmErr::BadParams);
+    }
+    cipher(key, nonce, text);
+    let own = tag_of(key, nonce, adata, text, tag.len());
+    if &own[..tag.len()] == tag {
+        return Ok(());
+    }
+    cipher(key, nonce, text);
+    Err(CcmErr::BadTag)
+}

@@ -1,0 +1,6 @@
+pub mod FieldLemmas
+pub mod DecimalLemmas
+pub mod DateLemmas
+pub mod PathLemmas
+pub mod BytesLemmas
+pub mod LineLemmas

@@ -1,0 +1,37 @@
+-- What the fields of a head say, as a list of names and values. Names have no case (RFC 9110, 5.1).
+use Rattle.std.specs.Prelude.{◌≡◌, ℕ, ◌^◌, ◌≤◌, Bool, ◌&&◌, List, [], ◌∷◌, map, length, Option, Some, None, nat_lt, if◌then◌else◌, bytes_eq}
+use Rattle.std.specs.Char.{is_ascii_digit, to_ascii_lowercase}
+use Rattle.std.specs.List.{list_all}
+use Rattle.std.specs.Str.Parse.{digits_value}
+use Rattle.dav_parts.specs.declared.field.FieldValue.{FieldValue}
+use Rattle.dav_parts.specs.declared.field.FieldValue.TheVariants.{Absent, Single, Repeated}
+
+-- the names and values of a head's fields, in order
+abbrev pub Fields : Type 0
+Fields = List (List ℕ × List ℕ)
+
+-- whether both are one name
+abbrev pub is_same_name : List ℕ → List ℕ → Bool
+is_same_name one other = bytes_eq (map to_ascii_lowercase one) (map to_ascii_lowercase other)
+
+-- the values of the fields that have the name, in order
+unfoldable pub values_of : List ℕ → List (List ℕ × List ℕ) → List (List ℕ)
+values_of name [] = []
+values_of name (field ∷ fields) =
+    if is_same_name field.0 name then field.1 ∷ values_of name fields else values_of name fields
+
+-- no value, this one alone, or more than one
+abbrev pub AreValues : FieldValue → List (List ℕ) → Type 0
+AreValues Absent values = values ≡ []
+AreValues (Single value) values = values ≡ value.now ∷ []
+AreValues Repeated values = 2 ≤ length values
+
+-- decimal digits, of a number below 2^64
+abbrev pub is_number : List ℕ → Bool
+is_number text =
+    nat_lt 0 (length text)
+    && (list_all is_ascii_digit text && nat_lt (digits_value 10 text) (2 ^ 64))
+
+-- the number that a text writes, if it is readable
+abbrev pub number_in : List ℕ → Option ℕ
+number_in text = if is_number text then Some (digits_value 10 text) else None

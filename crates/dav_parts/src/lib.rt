@@ -1,0 +1,28 @@
+//! The parts of which WebDAV messages are made: methods, targets, fields, decimal numbers, dates,
+//! and the body that lists a folder. Each is written and read exactly.
+//!
+//! Begin with [`write_multistatus`] and [`read_multistatus`], and with `specs/Multistatus.antt`,
+//! the layout of that body. Dates are those of `httpdate`, and a head's fields those that
+//! `httparse` finds.
+#![tactic(auto)]
+
+mod date;
+mod decimal;
+mod field;
+mod laws;
+mod layout;
+mod method;
+mod multistatus_reader;
+mod multistatus_writer;
+mod target;
+#[cfg(test)]
+mod tests;
+
+pub use date::{date_of, read_moment};
+pub use decimal::{append_decimal, read_decimal};
+pub use field::{FieldValue, field_value, has_value};
+pub use laws::{a_target_names_one_thing, a_written_listing_is_read};
+pub use method::Method;
+pub use multistatus_reader::read_multistatus;
+pub use multistatus_writer::write_multistatus;
+pub use target::{dir_target, path_target, put_limit, read_dir, read_path};

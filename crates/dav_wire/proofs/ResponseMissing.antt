@@ -1,0 +1,82 @@
+-- How many bytes of a response are missing.
+use Rattle.std.proofs.Common.{◌≡◌, ℕ, ◌+◌, ◌-◌, ◌<◌, ◌≤◌, List, [], ◌∷◌, ◌++◌, length, take, drop, sym, ap, subst, ◌∙◌, arith, inl, inr}
+use Rattle.std.proofs.lemmas.List.{take-append-drop, length-append, length-map}
+use Rattle.httparse.specs.Grammar.{ResponseHead, print_response, HasNoResponse, status_code}
+use Rattle.httparse.specs.Spans.{ResponseOverflows, name_and_value}
+use Rattle.httparse.proofs.GrammarLemmas.{response_unique}
+use Rattle.jop_target.specs.declared.call.Call.{Call}
+use Rattle.dav_wire.specs.ResponseFrames.{frame_of}
+use Rattle.dav_wire.specs.ResponseReading.{BeginsWith, IsMissing, ResponseBodyReadsAs, ResponseReadsAs, fields_of}
+use Rattle.dav_wire.proofs.FrameLemmas.{frame_crowded}
+use Rattle.dav_wire.specs.declared.frame.Frame.{Frame}
+use Rattle.dav_wire.specs.declared.response_reader.ReadResponse.TheVariants.{More}
+use Rattle.dav_wire.proofs.RequestStream.{take_both}
+use Rattle.dav_wire.proofs.ResponseStream.{begins_append}
+use Rattle.dav_wire.specs.declared.frame.Frame.TheVariants.{Body}
+use Rattle.dav_wire.specs.declared.outcome.Outcome.{Outcome}
+
+pub framed_alike : (call : Call) (bytes : List ℕ) (a b : ResponseHead) (r q : List ℕ)
+    → BeginsWith bytes a r → BeginsWith bytes b q
+    → frame_of call (status_code a) (fields_of a) ≡ frame_of call (status_code b) (fields_of b)
+framed_alike call bytes a b r q x y =
+    ap (λ (h : ResponseHead). frame_of call (status_code h) (fields_of h))
+    (response_unique bytes a b r q x.reads y.reads).0
+
+pub other_misses_nothing : (call : Call) (bytes : List ℕ) (h : ResponseHead) (rest : List ℕ)
+    → BeginsWith bytes h rest
+    → ((now : ℕ) (outcome : Outcome) (n : ℕ)
+    → frame_of call (status_code h) (fields_of h) ≡ Body now outcome n → ⊥)
+    → (missing : ℕ) → IsMissing call bytes missing → ⊥
+other_misses_nothing call bytes h rest begun other missing m =
+    other m.3 m.4 m.5 (framed_alike call bytes h m.0 rest m.1 begun m.2 ∙ m.6)
+
+pub none_misses_nothing : (call : Call) (bytes : List ℕ) → HasNoResponse (take 16384 bytes)
+    → (missing : ℕ) → IsMissing call bytes missing → ⊥
+none_misses_nothing call bytes none missing m =
+    none m.0 (take (16384 - length (print_response m.0)) m.1)
+    (m.2.reads.0, ap (take 16384) m.2.reads.1 ∙ take_both 16384 (print_response m.0) m.1 m.2.short)
+
+pub crowded_misses_nothing : (call : Call) (bytes : List ℕ)
+    → ResponseOverflows 128 (take 16384 bytes)
+    → (missing : ℕ) → IsMissing call bytes missing → ⊥
+crowded_misses_nothing call bytes over missing m =
+    let whole : take 16384 bytes ++ drop 16384 bytes ≡ bytes = take-append-drop 16384 bytes in
+    let many : 128 < length m.0.fields =
+    over (drop 16384 bytes) m.0 m.1 (m.2.reads.0, whole ∙ m.2.reads.1) in
+    let refused = frame_crowded call (status_code m.0) (fields_of m.0)
+    (omega (arith, many, length-map m.0.fields name_and_value)) in
+    let body = m.6 in
+    cc
+
+-- ---- what is missing and what is read
+
+pub more_while_missing : (call : Call) (bytes : List ℕ) (missing : ℕ)
+    → IsMissing call bytes missing → 0 < missing → ResponseReadsAs call bytes More
+more_while_missing call bytes missing m some =
+    let len = length (print_response m.0) in
+    let short : length m.1 < m.5 = omega (arith, m.7, some) in
+    inl (m.0, m.1, m.2, subst (λ (x : Frame). ResponseBodyReadsAs x m.1 len More) (sym m.6) short)
+
+pub missing_falls : (call : Call) (bytes more : List ℕ) (missing : ℕ)
+    → IsMissing call bytes missing → IsMissing call (bytes ++ more) (missing - length more)
+missing_falls call bytes more missing m = (
+  m.0,
+  m.1 ++ more,
+  begins_append bytes more m.0 m.1 m.2,
+  m.3,
+  m.4,
+  m.5,
+  m.6,
+  omega (arith, m.7, length-append m.1 more),
+)
+
+pub none_missing : (call : Call) (bytes : List ℕ) → IsMissing call bytes 0
+    → ResponseReadsAs call bytes More → ⊥
+none_missing call bytes m (inl h) =
+    let same = response_unique bytes m.0 h.0 m.1 h.1 m.2.reads h.2.reads in
+    let len = length (print_response h.0) in
+    let framed = sym (framed_alike call bytes m.0 h.0 m.1 h.1 m.2 h.2) ∙ m.6 in
+    let short : length h.1 < m.5 =
+    subst (λ (x : Frame). ResponseBodyReadsAs x h.1 len More) framed h.3 in
+    omega (arith, m.7, short, ap (λ (t : List ℕ). length t) same.1)
+none_missing call bytes m (inr o) = o.none m.0 m.1 m.2.reads

@@ -1,0 +1,40 @@
+-- A source that is read to its end, up to a limit.
+use Rattle.std.specs.Prelude.{ℕ, ◌+◌, ◌≤◌, ◌<◌, ◌≡◌, List, [], length, drop, Option, Some, None, Result, Ok, Err}
+use Rattle.jop_base.specs.Outside.{SourceNow, HasRisen}
+use Rattle.jop_base.specs.declared.reading.ReadErr.{ReadErr}
+use Rattle.jop_base.specs.declared.reading.ReadErr.TheVariants.{Fault, TooLarge, NoMemory}
+
+-- all that was left is these bytes, and nothing is left now
+abbrev pub IsAllOf : Option (List ℕ) → List ℕ → Option (List ℕ) → Type 0
+IsAllOf None bytes after = after ≡ None
+IsAllOf (Some before) bytes after = (bytes ≡ before) × (after ≡ Some [])
+
+-- more was left than the limit, and a byte more than the limit was read
+abbrev pub IsPastLimit : ℕ → Option (List ℕ) → Option (List ℕ) → Type 0
+IsPastLimit limit None after = after ≡ None
+IsPastLimit limit (Some before) after =
+    (limit < length before) × (after ≡ Some (drop (limit + 1) before))
+
+-- what is left now was left before too, behind at most the limit and a byte
+abbrev pub IsRestOf : ℕ → Option (List ℕ) → Option (List ℕ) → Type 0
+IsRestOf limit None after = after ≡ None
+IsRestOf limit (Some before) after =
+    (count : ℕ) × (count ≤ limit + 1) × (after ≡ Some (drop count before))
+
+-- these bytes were all of the source, which is within its limit, and it didn't fail
+pub record WasRead (limit : ℕ) (old : SourceNow) (bytes : List ℕ) (new : SourceNow) : Type 0 where
+  pub all : IsAllOf old.left bytes new.left
+  pub within : length bytes ≤ limit
+  pub stays : new.faults ≡ old.faults
+
+-- the source is past its limit, and it didn't fail
+pub record WasTooLarge (limit : ℕ) (old new : SourceNow) : Type 0 where
+  pub past : IsPastLimit limit old.left new.left
+  pub stays : new.faults ≡ old.faults
+
+-- what reading a source to its end comes to
+abbrev pub ReadsAll : ℕ → SourceNow → Result (List ℕ) ReadErr → SourceNow → Type 0
+ReadsAll limit old (Ok bytes) new = WasRead limit old bytes new
+ReadsAll limit old (Err TooLarge) new = WasTooLarge limit old new
+ReadsAll limit old (Err Fault) new = HasRisen old.faults new.faults
+ReadsAll limit old (Err NoMemory) new = new.faults ≡ old.faults

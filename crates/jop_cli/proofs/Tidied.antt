@@ -1,0 +1,150 @@
+-- What tidying an input comes to.
+use Rattle.std.proofs.Common.{◌≡◌, ◌≤◌, refl, sym, subst, inl, inr, ℕ, List, length}
+use Rattle.std.proofs.Common.{Option, Some, Result, Ok, Err, true}
+use Rattle.item_text.specs.Canonical.{IsCanonical, Tidies as ItemTidies}
+use Rattle.item_text.specs.Grammar.{first_fault}
+use Rattle.item_text.specs.declared.bad_item.ItemErr.{ItemErr}
+use Rattle.item_text.specs.declared.bad_item.ItemErr.TheVariants as item_errors
+use Rattle.jop_base.specs.Outside.{SourceNow}
+use Rattle.jop_base.specs.Reading.{IsAllOf, IsPastLimit, ReadsAll, WasRead}
+use Rattle.jop_base.specs.declared.reading.ReadErr.{ReadErr}
+use Rattle.jop_base.specs.declared.reading.ReadErr.TheVariants as read_errors
+use Rattle.jop_target.specs.declared.event.Event.{Event}
+use Rattle.jop_cli.proofs.Runs.{explained_emit}
+use Rattle.jop_cli.specs.Commands.Tidy.{IsAnswerTo, StandsFor, TIDY_LIMIT, Tidies, TidiesBytes, TidiesInput, bytes_outcome, item_err, outcome_of, read_err, status_of}
+use Rattle.jop_cli.specs.Outside.{Outside}
+use Rattle.jop_cli.specs.Run.{Answers, Emits, IsExplained, IsTidy, Obeys, TidiesTold}
+use Rattle.jop_cli.specs.Statuses.{is_early}
+use Rattle.jop_cli.specs.declared.command.Command.{Command}
+use Rattle.jop_cli.specs.declared.command.Verb.TheVariants.{Tidy}
+use Rattle.jop_cli.specs.declared.command.tidy.TidyErr.{TidyErr}
+use Rattle.jop_cli.specs.declared.command.tidy.TidyErr.TheVariants.{Fault, TooLarge, Bad, NoMemory}
+use Rattle.jop_cli.specs.declared.status.Status.{Status}
+
+-- ---- why the command ends so
+
+pub explained_tidy : (before after : Outside) (trail : List Event) (error : TidyErr) →
+    TidiesInput before.input (Err error) after.input →
+    IsExplained (Some (record { verb = Tidy })) before trail (status_of error) after
+explained_tidy before after trail Fault tidies = tidies
+explained_tidy before after trail TooLarge tidies =
+    record { limit = TIDY_LIMIT; uses = refl; past = tidies; is = refl }
+explained_tidy before after trail (Bad bad) tidies = (refl, tidies)
+explained_tidy before after trail NoMemory tidies = tt
+
+pub early_tidy : (error : TidyErr) → is_early (status_of error) ≡ true
+early_tidy Fault = refl
+early_tidy TooLarge = refl
+early_tidy (Bad bad) = refl
+early_tidy NoMemory = refl
+
+-- ---- an input that tells its bytes
+
+-- what was read of an input are the bytes that it told
+was_told : (old new : SourceNow) (told bytes : List ℕ) → old.left ≡ Some told →
+    WasRead TIDY_LIMIT old bytes new → bytes ≡ told
+was_told old new told bytes tells read =
+    let all : IsAllOf (Some told) bytes new.left =
+    subst (λ (o : Option (List ℕ)). IsAllOf o bytes new.left) tells read.all in
+    all.0
+
+told_answer : (old new : SourceNow) (told : List ℕ) (result : Result (List ℕ) TidyErr) →
+    old.left ≡ Some told → TidiesInput old result new → IsAnswerTo told result
+told_answer old new told (Ok text) tells tidied =
+    subst (λ (b : List ℕ). (length b ≤ TIDY_LIMIT) × IsCanonical b text)
+    (was_told old new told tidied.bytes tells tidied.read) (tidied.read.within, tidied.canonical)
+told_answer old new told (Err (Bad bad)) tells faulty =
+    subst (λ (b : List ℕ). (length b ≤ TIDY_LIMIT) × (first_fault b ≡ Some bad))
+    (was_told old new told faulty.bytes tells faulty.read) (faulty.read.within, faulty.first)
+told_answer old new told (Err TooLarge) tells long =
+    let past : IsPastLimit TIDY_LIMIT (Some told) new.left =
+    subst (λ (o : Option (List ℕ)). IsPastLimit TIDY_LIMIT o new.left) tells long.past in
+    past.0
+told_answer old new told (Err Fault) tells rose = tt
+told_answer old new told (Err NoMemory) tells free = tt
+
+stands_for : (before after : Outside) (status : Status) (result : Result (List ℕ) TidyErr) →
+    Emits (outcome_of result) before.out status after.out → StandsFor result status
+stands_for before after status (Ok text) (inl went) = inl went.0
+stands_for before after status (Ok text) (inr cut) = inr cut.0
+stands_for before after status (Err error) emits = emits.0
+
+told_obeyed : (before after : Outside) (trail : List Event) (told : List ℕ) (status : Status) →
+    before.input.left ≡ Some told → Obeys Tidy before trail status after → TidiesTold told status
+told_obeyed before after trail told status tells obeys =
+    let t : Tidies before.input obeys.outcome after.input = obeys.comes in (
+      t.result,
+      stands_for before after status t.result
+          (subst (λ (o : Result (List ℕ) Status). Emits o before.out status after.out) t.is obeys.emits),
+      told_answer before.input after.input told t.result tells t.tidies,
+    )
+
+pub exact_of : (command : Option Command) (before after : Outside) (trail : List Event) (told : List ℕ)
+    (status : Status) → IsTidy command → before.input.left ≡ Some told →
+    Answers command before trail status after → TidiesTold told status
+exact_of command before after trail told status tidy tells answers =
+    by_cases (subst (λ (c : Option Command). Answers c before trail status after) tidy answers) where
+      by_cases : Answers (Some (record { verb = Tidy })) before trail status after → TidiesTold told status
+      by_cases (inl memory) = (Err NoMemory, memory.0, tt)
+      by_cases (inr obeys) = told_obeyed before after trail told status tells obeys
+
+-- ---- what was read is tidied
+
+-- what the bytes of the whole input come to
+abbrev as_tidied : Result (List ℕ) ItemErr → Result (List ℕ) TidyErr
+as_tidied (Ok text) = Ok text
+as_tidied (Err error) = Err (item_err error)
+
+tidies_read : (old new : SourceNow) (bytes : List ℕ) (text : Result (List ℕ) ItemErr) →
+    WasRead TIDY_LIMIT old bytes new → TidiesBytes bytes text → TidiesInput old (as_tidied text) new
+tidies_read old new bytes (Ok text) read tidies =
+    record { bytes = bytes; read = read; canonical = tidies }
+tidies_read old new bytes (Err (item_errors.Bad bad)) read tidies =
+    record { bytes = bytes; read = read; first = tidies }
+tidies_read old new bytes (Err item_errors.NoMemory) read tidies = tt
+
+same_outcome : (text : Result (List ℕ) ItemErr) → bytes_outcome text ≡ outcome_of (as_tidied text)
+same_outcome (Ok text) = refl
+same_outcome (Err error) = refl
+
+pub tidies_of : (old new : SourceNow) (bytes : List ℕ) (text : Result (List ℕ) ItemErr) →
+    WasRead TIDY_LIMIT old bytes new → TidiesBytes bytes text → Tidies old (bytes_outcome text) new
+tidies_of old new bytes text read tidies = record {
+  result = as_tidied text;
+  tidies = tidies_read old new bytes text read tidies;
+  is = same_outcome text;
+}
+
+-- an input that wasn't read to its end
+pub tidies_unread : (old new : SourceNow) (e : ReadErr) → ReadsAll TIDY_LIMIT old (Err e) new →
+    Tidies old (Err (status_of (read_err e))) new
+tidies_unread old new read_errors.Fault reads =
+    record { result = Err Fault; tidies = reads; is = refl }
+tidies_unread old new read_errors.TooLarge reads =
+    record { result = Err TooLarge; tidies = reads; is = refl }
+tidies_unread old new read_errors.NoMemory reads =
+    record { result = Err NoMemory; tidies = tt; is = refl }
+
+explained_result : (before after : Outside) (trail : List Event) (status : Status)
+    (result : Result (List ℕ) TidyErr) → TidiesInput before.input result after.input →
+    Emits (outcome_of result) before.out status after.out →
+    IsExplained (Some (record { verb = Tidy })) before trail status after
+explained_result before after trail status (Ok text) tidies emits =
+    explained_emit (Some (record { verb = Tidy })) before after trail status text emits
+explained_result before after trail status (Err error) tidies emits =
+    subst (λ (s : Status). IsExplained (Some (record { verb = Tidy })) before trail s after)
+    (sym emits.0) (explained_tidy before after trail error tidies)
+
+pub explained_tidied : (before after : Outside) (trail : List Event) (status : Status)
+    (outcome : Result (List ℕ) Status) → Tidies before.input outcome after.input →
+    Emits outcome before.out status after.out →
+    IsExplained (Some (record { verb = Tidy })) before trail status after
+explained_tidied before after trail status outcome tidies emits =
+    explained_result before after trail status tidies.result tidies.tidies
+    (subst (λ (o : Result (List ℕ) Status). Emits o before.out status after.out) tidies.is emits)
+
+-- ---- bytes
+
+pub refused : (bytes : List ℕ) (e : ItemErr) → ItemTidies bytes (Err e) → TidiesBytes bytes (Err e)
+refused bytes (item_errors.Bad bad) tidies = tidies
+refused bytes item_errors.NoMemory tidies = tt

@@ -1,0 +1,44 @@
+ghost use Rattle.std.specs.Prelude.{◌++◌, Ok};
+ghost use Rattle.jop_base.specs.Writing.{WritesAll};
+ghost use Rattle.jop_cli.specs.Pieces.{pieces_text};
+ghost use Rattle.jop_cli.specs.Run.{Emits};
+
+use crate::piece::{Piece, write_pieces};
+use crate::status::Status;
+use jop_base::{Failed, Sink, write_whole};
+
+/// Prints the text that a command came to.
+pub(crate) fn emit<O: Sink>(out: &mut O, pieces: &[Piece]) -> Status
+    ensures { Emits (Ok (pieces_text pieces.now)) (O.state out.old) result (O.state out.new) }
+{
+    match write_pieces(out, pieces) {
+        Ok(()) => Status::Ok,
+        Err(_) => Status::SinkFault,
+    }
+}
+
+/// Prints the text that a command came to, given as three parts in a row.
+pub(crate) fn emit_three<O: Sink>(out: &mut O, first: &[u8], second: &[u8], third: &[u8]) -> Status
+    ensures { Emits (Ok (first.now ++ (second.now ++ third.now)))
+        (O.state out.old) result (O.state out.new) }
+{
+    match write_three(out, first, second, third) {
+        Ok(()) => Status::Ok,
+        Err(_) => Status::SinkFault,
+    }
+}
+
+/// Writes three parts in a row. After `Failed` a prefix of them was written.
+fn write_three<O: Sink>(
+    out: &mut O,
+    first: &[u8],
+    second: &[u8],
+    third: &[u8],
+) -> Result<(), Failed>
+    ensures { WritesAll (O.state out.old) (first.now ++ (second.now ++ third.now))
+        result (O.state out.new) }
+{
+    write_whole(out, first)?;
+    write_whole(out, second)?;
+    write_whole(out, third)
+}

@@ -1,0 +1,147 @@
+# For the scripts beside it, which source it. It runs a script's cases, each in a shell and an empty folder of its own, and says
+# what each came to. A case is a function named case_..; a script that makes such functions lists their names in `cases`. Its
+# function `prepare`, if it has one, runs before the first case. `root` is a folder that is empty at first, for a target.
+#
+#     tests/SCRIPT              all cases
+#     tests/SCRIPT WORD..       the cases whose names hold one of the words; a word that no name holds is an error
+#     tests/SCRIPT --list       the names of the cases
+#
+# The last line is `N passed, N failed`; the status is 1 where one failed, and 2 where a word names none. JOP names another
+# program to try than the one that is built here.
+# shellcheck shell=bash
+# shellcheck disable=SC2034 # what the scripts use
+
+top=$(cd "$(dirname "${BASH_SOURCE[0]}")/.." && pwd) || exit 1
+script=$top/tests/$(basename "$0")
+program=${JOP:-$top/crates/jop/out/jop}
+
+own=11111111111111111111111111111111
+other=22222222222222222222222222222222
+third=33333333333333333333333333333333
+usage='usage: jop [--profile PATH] COMMAND'
+
+export LC_ALL=C
+umask 022
+unset CDPATH
+
+SKIPPED=77
+
+# ---------------------------------------------------------------------------------------------------------- the runner
+
+# run_cases WORD..: the last line of a script.
+run_cases() {
+  [ -n "${cases+set}" ] || mapfile -t cases < <(sed -n 's/^case_\([a-z0-9_]*\)() {.*$/\1/p' "$script")
+  if [ "${1-}" = --list ]; then
+    printf '%s\n' "${cases[@]}"
+    exit 0
+  fi
+  names_cases "$@" || exit 2
+  work=$(mktemp -d) || exit 1
+  trap 'chmod -R u+rwX "$work" 2>/dev/null; rm -rf "$work"' EXIT
+  # A program that never ends is stopped.
+  limit=()
+  has timeout && limit=(timeout -k 1 60)
+  if declare -F prepare >/dev/null; then
+    prepare
+  fi
+
+  local passed=0 failed=0 name
+  for name in "${cases[@]}"; do
+    is_wanted "$name" "$@" || continue
+    run_case "$name"
+    case $? in
+      0) passed=$((passed + 1)) ;;
+      "$SKIPPED") ;;
+      *) failed=$((failed + 1)) ;;
+    esac
+  done
+  echo "$passed passed, $failed failed"
+  [ "$failed" -eq 0 ]
+}
+
+# Whether each word is in the name of a case.
+names_cases() {
+  local word name
+  for word in "$@"; do
+    for name in "${cases[@]}"; do
+      is_wanted "$name" "$word" && continue 2
+    done
+    printf 'no case has a name with: %s\n' "$word" >&2
+    return 1
+  done
+}
+
+# is_wanted CASE WORD..: whether its name holds one of the words, or there are none.
+is_wanted() {
+  local name=$1 word
+  shift
+  [ $# -eq 0 ] && return 0
+  for word in "$@"; do
+    [[ $name == *"$word"* ]] && return 0
+  done
+  return 1
+}
+
+# Runs one case, and says what it came to.
+run_case() {
+  local name=$1 status
+  root=$work/$name/target
+  mkdir -p "$root" || return 1
+  (cd "$work/$name" && "case_$name") >"$work/said" 2>&1 </dev/null
+  status=$?
+  case $status in
+    0) echo "passed: $name$(note)" ;;
+    "$SKIPPED") echo "skipped: $name ($(tail -n 1 "$work/said"))" ;;
+    *) echo "FAILED: $name" && sed 's/^/    /' "$work/said" ;;
+  esac
+  chmod -R u+rwX "$work/$name" 2>/dev/null
+  rm -rf "${work:?}/$name"
+  return "$status"
+}
+
+# What a case that passed has to say: its last line that begins with `note: `.
+note() { sed -n 's/^note: \(.*\)$/ (\1)/p' "$work/said" | tail -n 1; }
+
+# find_program: builds the program that is tried, where it isn't built from these sources.
+find_program() {
+  [ -n "${JOP-}" ] || "$top/scripts/build" || exit 1
+  [ -x "$program" ] || { echo "no program to try: $program" && exit 1; }
+  program=$(cd "$(dirname "$program")" && pwd)/$(basename "$program")
+}
+
+# ---------------------------------------------------------------------------------------- what a case may do and expect
+
+# has COMMAND: whether this machine has it.
+has() { command -v "$1" >/dev/null 2>&1; }
+
+fail() { echo "$*" && exit 1; }
+
+needs() { has "$1" || skip "no $1"; }
+
+skip() { echo "$*" && exit "$SKIPPED"; }
+
+# is WHAT WANTED GOT
+is() { [ "$2" = "$3" ] || fail "$1: wanted '$2', got '$3'"; }
+
+# same_file WHAT WANTED GOT: both files have the same bytes.
+same_file() { cmp -s "$2" "$3" || fail "$1: $(diff "$2" "$3" 2>&1 | head -n 40)"; }
+
+# Runs the program with these words. What it printed stands in the files `out` and `err`.
+jop() { "${limit[@]}" "$program" "$@" >out 2>err; }
+
+# expect STATUS OUT ERR WORDS..: the program with these words ends so, having printed exactly these lines, or nothing. An OUT
+# of `@FILE` is what that file has.
+expect() {
+  local status=$1 out=$2 err=$3 got
+  shift 3
+  jop "$@"
+  got=$?
+  [ "$got" -eq "$status" ] || fail "jop $*: status $got, not $status; it printed: $(head -c 2000 out err)"
+  case $out in
+    @*) same_file "jop $*: printed" "${out#@}" out ;;
+    *) cmp -s out <(line "$out") || fail "jop $*: printed '$(head -c 2000 out)', not '$out'" ;;
+  esac
+  cmp -s err <(line "$err") || fail "jop $*: printed '$(cat err)' on standard error, not '$err'"
+}
+
+line() { [ -z "$1" ] || printf '%s\n' "$1"; }
