@@ -17,3 +17,4 @@ pub mod FitLemmas
 pub mod RequestUnique
 pub mod RequestMissing
 pub mod ResponseMissing
+pub mod ToldLemmas

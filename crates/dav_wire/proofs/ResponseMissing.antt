@@ -1,18 +1,19 @@
 -- How many bytes of a response are missing.
-use Rattle.std.proofs.Common.{◌≡◌, ℕ, ◌+◌, ◌-◌, ◌<◌, ◌≤◌, List, [], ◌∷◌, ◌++◌, length, take, drop, sym, ap, subst, ◌∙◌, arith, inl, inr}
+use Rattle.std.proofs.Common.{◌≡◌, ℕ, ◌+◌, ◌-◌, ◌<◌, ◌≤◌, List, [], ◌∷◌, ◌++◌, length, take, drop, refl, sym, ap, subst, ◌∙◌, arith, inl, inr}
 use Rattle.std.proofs.lemmas.List.{take-append-drop, length-append, length-map}
 use Rattle.httparse.specs.Grammar.{ResponseHead, print_response, HasNoResponse, status_code}
 use Rattle.httparse.specs.Spans.{ResponseOverflows, name_and_value}
 use Rattle.httparse.proofs.GrammarLemmas.{response_unique}
 use Rattle.jop_target.specs.declared.call.Call.{Call}
 use Rattle.dav_wire.specs.ResponseFrames.{frame_of}
-use Rattle.dav_wire.specs.ResponseReading.{BeginsWith, IsMissing, ResponseBodyReadsAs, ResponseReadsAs, fields_of}
+use Rattle.dav_wire.specs.ResponseReading.{BeginsWith, IsMissing, ResponseBodyReadsAs, ResponseHeadReadsAs, ResponseReadsAs, fields_of}
 use Rattle.dav_wire.proofs.FrameLemmas.{frame_crowded}
 use Rattle.dav_wire.specs.declared.frame.Frame.{Frame}
-use Rattle.dav_wire.specs.declared.response_reader.ReadResponse.TheVariants.{More}
+use Rattle.dav_wire.specs.declared.response_reader.ReadResponse.TheVariants.{Whole, More, Bad}
 use Rattle.dav_wire.proofs.RequestStream.{take_both}
 use Rattle.dav_wire.proofs.ResponseStream.{begins_append}
-use Rattle.dav_wire.specs.declared.frame.Frame.TheVariants.{Body}
+use Rattle.dav_wire.specs.declared.frame.Frame.TheVariants.{Unreadable, TooLong, Body}
+use Rattle.jop_target.specs.declared.reply.Reply.TheVariants.{TooLarge}
 use Rattle.dav_wire.specs.declared.outcome.Outcome.{Outcome}
 
 pub framed_alike : (call : Call) (bytes : List ℕ) (a b : ResponseHead) (r q : List ℕ)
@@ -80,3 +81,36 @@ none_missing call bytes m (inl h) =
     subst (λ (x : Frame). ResponseBodyReadsAs x h.1 len More) framed h.3 in
     omega (arith, m.7, short, ap (λ (t : List ℕ). length t) same.1)
 none_missing call bytes m (inr o) = o.none m.0 m.1 m.2.reads
+
+-- ---- a head that isn't whole
+
+no_more_bad : More ≡ Bad → ⊥
+no_more_bad h = cc
+
+no_more_whole : (count len : ℕ) → More ≡ Whole (TooLarge count) [] len → ⊥
+no_more_whole count len h = cc
+
+headed : (call : Call) (bytes : List ℕ) (h : ResponseHead) (rest : List ℕ) (frame : Frame) (len : ℕ)
+    → BeginsWith bytes h rest → frame_of call (status_code h) (fields_of h) ≡ frame
+    → ResponseBodyReadsAs frame rest len More → (missing : ℕ) × IsMissing call bytes missing
+headed call bytes h rest Unreadable len begun is read = absurd (no_more_bad read)
+headed call bytes h rest (TooLong count) len begun is read = absurd (no_more_whole count len read)
+headed call bytes h rest (Body now outcome n) len begun is read =
+    (n - length rest, (h, rest, begun, now, outcome, n, is, refl))
+
+headed_misses : (call : Call) (bytes : List ℕ)
+    → ((missing : ℕ) → ¬ (IsMissing call bytes missing))
+    → ResponseHeadReadsAs call bytes More → ⊥
+headed_misses call bytes none h =
+    let found = headed call bytes h.0 h.1 (frame_of call (status_code h.0) (fields_of h.0))
+    (length (print_response h.0)) h.2 refl h.3 in
+    none found.0 found.1
+
+-- without a head that tells what is missing, too little is less than a head
+pub open_is_short : (call : Call) (bytes : List ℕ)
+    → ((missing : ℕ) → ¬ (IsMissing call bytes missing))
+    → ResponseReadsAs call bytes More → length bytes < 16_384
+open_is_short call bytes none more = elim more [
+  | inl head ↦ absurd (headed_misses call bytes none head)
+  | inr early ↦ early.short
+]

@@ -5,6 +5,7 @@ ghost use Rattle.std.specs.Prelude.{◌≡◌, ◌++◌, ◌-◌, ◌<◌, ◌^�
 ghost use Rattle.jop_target.specs.Replies.{IsReplyTo};
 ghost use Rattle.jop_target.specs.declared.call.Call.{Call};
 ghost use Rattle.jop_target.specs.declared.reply.Reply.{Reply};
+ghost use Rattle.jop_target.specs.declared.reply.Reply.TheVariants.{Failed, GotBlob};
 ghost use Rattle.dav_wire.specs.RequestBack.{IsHost, IsSendable, request_for};
 ghost use Rattle.dav_wire.specs.RequestReading.{RequestReadsAs, IsMissing as IsRequestMissing};
 ghost use Rattle.dav_wire.specs.Requests.{request_text};
@@ -112,6 +113,14 @@ pub fn a_written_request_is_read()
 pub fn a_read_reply_fits_its_call()
     ensures { (call : Call) (bytes : List ℕ) (reply : Reply) (blob : List ℕ) (used : ℕ)
         → ResponseReadsAs call bytes (Replied reply blob used) → IsReplyTo call reply }
+{}
+
+/// No response tells a failure, and a blob that one tells has the length that it tells.
+pub fn a_read_reply_is_told_whole()
+    ensures failed { (call : Call) (bytes blob : List ℕ) (used : ℕ)
+        → ¬ (ResponseReadsAs call bytes (Replied Failed blob used)) }
+    ensures blob { (call : Call) (bytes : List ℕ) (now len : ℕ) (blob : List ℕ) (used : ℕ)
+        → ResponseReadsAs call bytes (Replied (GotBlob now len) blob used) → len ≡ length blob }
 {}
 
 /// A written response is read back, whatever follows it, if it tells a reply of whole seconds that

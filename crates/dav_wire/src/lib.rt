@@ -24,10 +24,10 @@ mod tests;
 
 pub use laws::{
     a_cut_changes_no_request, a_cut_changes_no_response, a_cut_request_is_more,
-    a_cut_response_is_more, a_read_reply_fits_its_call, a_written_request_is_read,
-    a_written_response_is_read, later_bytes_change_no_request, later_bytes_change_no_response,
-    missing_bytes_make_a_request, missing_bytes_make_a_response, one_request_is_read,
-    one_response_is_read,
+    a_cut_response_is_more, a_read_reply_fits_its_call, a_read_reply_is_told_whole,
+    a_written_request_is_read, a_written_response_is_read, later_bytes_change_no_request,
+    later_bytes_change_no_response, missing_bytes_make_a_request, missing_bytes_make_a_response,
+    one_request_is_read, one_response_is_read,
 };
 pub use limits::{FIELD_LIMIT, HEAD_LIMIT};
 pub use missing::{request_missing, response_missing};

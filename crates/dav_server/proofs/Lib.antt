@@ -1,0 +1,4 @@
+pub mod Waiting
+pub mod Served
+pub mod Turns
+pub mod Told

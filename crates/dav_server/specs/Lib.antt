@@ -1,0 +1,3 @@
+pub mod Awaiting
+pub mod Errors
+pub mod Serving

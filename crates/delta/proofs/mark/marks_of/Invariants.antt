@@ -1,0 +1,8 @@
+use Rattle.std.proofs.Common.{◌≡◌, drop, ◌++◌}
+use Rattle.delta.specs.Marks.{marks_of}
+use Rattle.delta.proofs.mark.marks_of.Given as goal
+
+abbrev pub invariant-loop-entry : goal.invariant-loop-entry
+invariant-loop-entry l =
+    l.marks.items ++ marks_of (drop l.entry-index l.listing.entries)
+    ≡ marks_of l.listing.entries

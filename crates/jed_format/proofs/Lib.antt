@@ -1,0 +1,12 @@
+pub mod Lists
+pub mod Ids
+pub mod Chunks
+pub mod Valid
+pub mod Encoded
+pub mod Texts
+pub mod Lengths
+pub mod JedBack
+pub mod Joined
+pub mod Sealing
+pub mod SealedTexts
+pub mod Grammar

@@ -1,0 +1,4 @@
+pub mod EscapeSteps
+pub mod UnescapeSteps
+pub mod Spelled
+pub mod Ascii

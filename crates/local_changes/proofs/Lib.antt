@@ -1,0 +1,5 @@
+pub mod EditedNotes
+pub mod Links
+pub mod Steps
+pub mod Unsealed
+pub mod Visits

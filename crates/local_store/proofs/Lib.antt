@@ -1,0 +1,3 @@
+pub mod Keeping
+pub mod KeptBlobs
+pub mod Telling

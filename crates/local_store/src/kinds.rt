@@ -1,0 +1,15 @@
+ghost use Rattle.std.specs.Prelude.{◌≡◌};
+ghost use Rattle.local_store.specs.Rows.{has_kind};
+
+use item_kinds::{Kind, kind_of};
+use item_text::Item;
+
+/// Whether the item is of this kind.
+pub fn has_kind(item: &Item, kind: Kind) -> bool
+    ensures { result ≡ has_kind kind item.now }
+{
+    match kind_of(item) {
+        Some(own) => own.0 == kind.0,
+        None => false,
+    }
+}

@@ -1,0 +1,46 @@
+use lease::{LeaseErr, Lock, Seen};
+use std::alloc::AllocError;
+
+/// Why a session ended before its work was done.
+#[derive(Clone, Copy, Debug, PartialEq, Eq)]
+pub enum SessionErr {
+    /// A listing of that moment, in milliseconds since 1970, shows this live lock of another, which
+    /// is in the way.
+    Busy { lock: Lock, now: u64 },
+    /// Its own lock wasn't shown in time, or was renewed too late.
+    LeaseLost(Seen),
+    /// The target has this version, which is newer than the supported one.
+    TargetNewer(u64),
+    /// `info.json` is too large, or is no info.
+    BadInfo,
+    /// A call failed.
+    TargetFault,
+    NoMemory,
+}
+
+impl From<AllocError> for SessionErr {
+    ghost use Rattle.std.specs.Prelude.{◌≡◌};
+    ghost use Rattle.sync_run.specs.declared.session_err.SessionErr.TheVariants.{NoMemory};
+
+    ghost from_gives = { λ _ e. e ≡ NoMemory };
+
+    fn from(_error: AllocError) -> SessionErr {
+        SessionErr::NoMemory
+    }
+}
+
+impl From<LeaseErr> for SessionErr {
+    ghost use Rattle.std.specs.Prelude.{◌≡◌};
+    ghost use Rattle.sync_run.specs.Sessions.{session_err_of};
+
+    ghost from_gives = { λ l e. e ≡ session_err_of l };
+
+    fn from(error: LeaseErr) -> SessionErr {
+        match error {
+            LeaseErr::Busy { lock, now } => SessionErr::Busy { lock, now },
+            LeaseErr::Lost(seen) => SessionErr::LeaseLost(seen),
+            LeaseErr::TargetFault => SessionErr::TargetFault,
+            LeaseErr::NoMemory => SessionErr::NoMemory,
+        }
+    }
+}

@@ -1,0 +1,149 @@
+ghost use Rattle.std.specs.Prelude.{◌≡◌, IfOk, None, false};
+ghost use Rattle.jop_target.specs.Replies.{IsReplyTo, HasCause, Answers, KeepsBlob};
+ghost use Rattle.target_dav.specs.Exchanges.{Asks, Begins, Exchanges, Sends, blob_after, client_at, is_ready};
+
+use crate::receiving::{Received, receive};
+use dav_link::{Link, LinkErr, write_message};
+use dav_wire::write_request;
+use jop_base::{Bytes, Failed, Faults, Text};
+use jop_target::{Call, Reply, Target};
+use std::alloc::{AllocError, Global};
+
+/// A target over a link to a server of WebDAV, which keeps the link for all its calls. It tells no store, since no
+/// clause can say what a server holds.
+///
+/// **A call** is one request, written whole before anything is read, and the response to it. Its moment is the
+/// `Date` of the response, in milliseconds since 1970.
+///
+/// **Faults.** The count rises, and the answer is `Failed`, exactly if the link failed, if it ended before a whole
+/// response, or if what came is no response to this call. The call may have landed all the same.
+///
+/// **The link** is opened before the first call, and anew before a call that comes after `Failed`, after `TooLarge`
+/// (which is told by the head alone), after want of memory, and after a response behind which more bytes came than
+/// were asked for. No request is sent twice.
+///
+/// **Memory.** A response is kept until it is whole. One that announces more than 256 MiB for a listing of the root,
+/// 64 MiB for a blob or 16 MiB for any other call is answered as want of memory, before any of it is kept.
+#[derive(Drop)]
+pub struct DavTarget<L> {
+    pub link: L,
+    /// The host and port that each request names.
+    pub host: Text,
+    /// Whether the next call goes on with the link as it is.
+    pub ready: bool,
+    pub faults: Faults,
+}
+
+impl<L: Link> DavTarget<L> {
+    /// A target over a link that isn't open yet, to a server at `host:port`.
+    pub fn new(link: L, host: Text) -> DavTarget<L>
+        ensures { result ≡ record { link = link; host = host; ready = false; faults = 0 } }
+    {
+        DavTarget {
+            link,
+            host,
+            ready: false,
+            faults: Faults::new(),
+        }
+    }
+
+    /// Opens the link, unless the last call left it ready.
+    fn begin(&mut self) -> Result<(), Failed>
+        ensures begins { let before = client_at (L.state self.old.link) self.old.ready in
+            Begins before result (client_at (L.state self.new.link) self.new.ready) }
+        ensures others { (self.new.host ≡ self.old.host) × (self.new.faults ≡ self.old.faults) }
+    {
+        if self.ready {
+            self.ready = false;
+            return Ok(());
+        }
+        self.link.open()
+    }
+
+    /// Writes a request over the link.
+    fn send(&mut self, text: &[u8]) -> Result<(), Failed>
+        ensures sends { let before = client_at (L.state self.old.link) self.old.ready in
+            Sends text.now before result (client_at (L.state self.new.link) self.new.ready) }
+        ensures others { (self.new.host ≡ self.old.host) × (self.new.faults ≡ self.old.faults) }
+    {
+        self.begin()?;
+        write_message(&mut self.link, text)?;
+        Ok(())
+    }
+
+    /// The reply of a response. The bytes of a blob that was got are left in `blob`.
+    fn accept(&mut self, received: Received, blob: &mut Bytes) -> Reply
+        ensures reply { result ≡ received.reply }
+        ensures blob { blob.new ≡ blob_after received.reply blob.old received.blob }
+        ensures ready { self.new.ready ≡ is_ready received.reply received.alone }
+        ensures others { (self.new.link ≡ self.old.link) × (self.new.host ≡ self.old.host)
+            × (self.new.faults ≡ self.old.faults) }
+    {
+        let Received {
+            reply,
+            blob: got,
+            alone,
+        } = received;
+        self.ready = is_ready(&reply, alone);
+        leave(&reply, got, blob);
+        reply
+    }
+
+    /// Makes a call over the link.
+    fn ask(&mut self, alloc: Global, call: &Call, blob: &mut Bytes) -> Result<Reply, LinkErr>
+        ensures asks { let before = client_at (L.state self.old.link) self.old.ready in
+            Asks self.old.host call.now blob.old before result
+            (client_at (L.state self.new.link) self.new.ready) blob.new }
+        ensures others { (self.new.host ≡ self.old.host) × (self.new.faults ≡ self.old.faults) }
+    {
+        let request = write_request(alloc, &self.host, call, blob)?;
+        self.send(request.as_slice())?;
+        let received = receive(alloc, &mut self.link, call)?;
+        Ok(self.accept(received, blob))
+    }
+}
+
+/// Whether a call may follow over the same link, by what was read of a response and whether it came alone.
+fn is_ready(reply: &Reply, alone: bool) -> bool
+    ensures { result ≡ is_ready reply.now alone }
+{
+    match reply {
+        Reply::TooLarge { .. } => false,
+        _ => alone,
+    }
+}
+
+/// Leaves the bytes of a blob that was got, and else none.
+fn leave(reply: &Reply, got: Bytes, blob: &mut Bytes)
+    ensures { blob.new ≡ blob_after reply.now blob.old got }
+{
+    match reply {
+        Reply::GotBlob { .. } => *blob = got,
+        _ => {}
+    }
+}
+
+impl<L: Link> Target for DavTarget<L> {
+    ghost state = { λ t. record { store = None; faults = t.faults } };
+
+    fn call(&mut self, alloc: Global, call: &Call, blob: &mut Bytes) -> Result<Reply, AllocError>
+        ensures shape { IfOk result (λ reply. IsReplyTo call.now reply) }
+        ensures cause { HasCause self.old.faults result self.new.faults }
+        ensures answers { Answers None call.now blob.old result None }
+        ensures blob { KeepsBlob None call.now blob.old result blob.new }
+
+        ensures exchange { let before = client_at (L.state self.old.link) self.old.ready in
+            Exchanges self.old.host call.now blob.old before result
+            (client_at (L.state self.new.link) self.new.ready) blob.new }
+        ensures host { self.new.host ≡ self.old.host }
+    {
+        match self.ask(alloc, call, blob) {
+            Ok(reply) => Ok(reply),
+            Err(LinkErr::NoMemory) => Err(AllocError),
+            Err(LinkErr::Fault) => {
+                self.faults.rise();
+                Ok(Reply::Failed)
+            }
+        }
+    }
+}

@@ -1,0 +1,49 @@
+ghost use Rattle.std.specs.Prelude.{◌≡◌, true, IfOk};
+ghost use Rattle.std.specs.List.{list_all};
+ghost use Rattle.scripted_target.specs.Script.{is_scriptable};
+
+use crate::upgraded::{ONE, TWO, id};
+use jop_base::{Bytes, Dir, LockKind, LockName, Path};
+use jop_target::{Call, Diary, MemTarget};
+use lease::Lock;
+use scripted_target::ScriptedTarget;
+use std::alloc::Global;
+use std::test::Fail;
+use sync_run::{SessionErr, upgrade_on};
+
+fn own_lock(digits: &[u8]) -> Result<LockName, Fail> {
+    Ok(LockName {
+        kind: LockKind::Exclusive,
+        client_type: 3,
+        client: id(digits)?,
+    })
+}
+
+/// A second upgrader's calls up to its second listing, each right before the first one's call of
+/// that number.
+fn script(alloc: Global) -> Result<Vec<(u64, Call)>, Fail>
+    ensures { IfOk result (λ script. list_all is_scriptable script.items ≡ true) }
+{
+    let mut script = Vec::new(alloc);
+    script.push((2, Call::MakeDir(Dir::Locks)))?;
+    script.push((3, Call::List(Dir::Locks)))?;
+    let lock = Path::Lock(own_lock(TWO)?);
+    script.push((4, Call::Put(lock, Bytes::new(alloc))))?;
+    Ok(script)
+}
+
+/// Of two upgraders that go for a lock in turns, the first finds the second's.
+#[test]
+fn two_upgraders_find_each_other(rt: HostRuntime) -> Result<(), Fail> {
+    let alloc = rt.alloc();
+    let mut target = ScriptedTarget::new(MemTarget::new(alloc, 0, 1), script(alloc)?);
+    let mut diary = Diary::new(alloc);
+    let outcome = upgrade_on(alloc, &mut target, &id(ONE)?, &mut diary);
+    let lock = Lock {
+        name: own_lock(TWO)?,
+        stamp: 5,
+    };
+    assert_eq!(rt; outcome, Err(SessionErr::Busy { lock, now: 6 }));
+    assert_eq!(rt; target.tree().files.len(), 1);
+    Ok(())
+}
