@@ -16,8 +16,6 @@ mod password_key;
 mod rounds;
 mod schedule;
 mod substitution;
-#[cfg(test)]
-mod tests;
 mod xor;
 
 pub use aes::Aes;

@@ -1,14 +1,13 @@
 -- What is read is what the grammar says.
-use Rattle.std.proofs.Common.{◌≡◌, ℕ, zero, suc, ◌+◌, ◌≤◌, true, false, ◌==◌, nat_le, nat_lt, nat_eq, List, [], ◌∷◌, ◌++◌, length, take, drop, Option, Some, None, Result, Ok, Err, option_and_then, codes, refl, sym, ap, ◌∙◌, arith, inl, inr, append_assoc, length-append, length-drop, take-append-drop, if◌then◌else◌}
+use Rattle.std.proofs.Common.{◌≡◌, ℕ, zero, suc, ◌+◌, ◌≤◌, true, false, ◌==◌, nat_le, nat_lt, nat_eq, List, [], ◌∷◌, ◌++◌, length, drop, Some, None, Ok, Err, option_and_then, codes, refl, sym, ap, ◌∙◌, arith, inl, inr, append_assoc, length-append, if◌then◌else◌}
 use Rattle.std.specs.Option.{option_map_or}
-use Rattle.std.proofs.lemmas.Bool.{cases_lt, cases_Bool, and_parts, eqb-true, le-leb, leb-true}
+use Rattle.std.proofs.lemmas.Bool.{cases_lt, and_parts, eqb-true, le-leb}
 use Rattle.std.proofs.lemmas.Bool.Decides.{nat_tests}
-use Rattle.std.proofs.lemmas.List.{take_at, drop_at, length-take-le, drop-drop}
+use Rattle.std.proofs.lemmas.List.{take_at, drop_at, drop-drop}
 use Rattle.jed_format.specs.Chunk.{passing}
 use Rattle.jed_format.specs.Grammar.{IsPiece, AreChunks, IsJedText}
 use Rattle.jed_format.specs.Jed.{length_in, method_in, key_in, has_size, header, header_in, is_id, piece_in, behind, then_more, chunks_from, chunks_in, jed, under_header, jed_in}
 use Rattle.jed_format.specs.declared.jed.Jed.{Jed}
-use Rattle.jed_format.specs.declared.jed_err.JedErr.{JedErr}
 use Rattle.jed_format.specs.declared.jed_err.JedErr.TheVariants.{BadChunk, UnsupportedMethod}
 use Rattle.jed_format.specs.declared.sjcl_chunk.SjclChunk.{SjclChunk}
 use Rattle.jed_format.proofs.Chunks.{after_piece, piece_at, chunks_at, no_chunks}
@@ -16,7 +15,7 @@ use Rattle.jed_format.proofs.Chunks.{after_piece, piece_at, chunks_at, no_chunks
 -- ---- numbers of the first digits
 
 -- six digits are all that matters
-length_in-append : (digits rest : List ℕ) → length digits ≡ 6 → length_in (digits ++ rest) ≡ length_in digits
+pub length_in-append : (digits rest : List ℕ) → length digits ≡ 6 → length_in (digits ++ rest) ≡ length_in digits
 length_in-append [] rest six = absurd (omega arith)
 length_in-append (a ∷ []) rest six = absurd (omega arith)
 length_in-append (a ∷ b ∷ []) rest six = absurd (omega arith)
@@ -28,7 +27,7 @@ length_in-append (a ∷ b ∷ d ∷ e ∷ f ∷ g ∷ []) rest six =
     rw long refl
 length_in-append (a ∷ b ∷ d ∷ e ∷ f ∷ g ∷ h ∷ more) rest six = absurd (omega arith)
 
-method_in-append : (digits rest : List ℕ) → length digits ≡ 2 → method_in (digits ++ rest) ≡ method_in digits
+pub method_in-append : (digits rest : List ℕ) → length digits ≡ 2 → method_in (digits ++ rest) ≡ method_in digits
 method_in-append [] rest two = absurd (omega arith)
 method_in-append (a ∷ []) rest two = absurd (omega arith)
 method_in-append (a ∷ b ∷ []) rest two =
@@ -36,7 +35,7 @@ method_in-append (a ∷ b ∷ []) rest two =
     rw long refl
 method_in-append (a ∷ b ∷ d ∷ more) rest two = absurd (omega arith)
 
-length_in-some : (text : List ℕ) (n : ℕ) → length_in text ≡ Some n → 6 ≤ length text
+pub length_in-some : (text : List ℕ) (n : ℕ) → length_in text ≡ Some n → 6 ≤ length text
 length_in-some text n is = elim (cases_lt (length text) 6) [
   | inl short ↦
       let test : nat_lt (length text) 6 ≡ true = grind (arith, nat_tests) in
@@ -45,7 +44,7 @@ length_in-some text n is = elim (cases_lt (length text) 6) [
   | inr long ↦ long
 ]
 
-method_in-some : (text : List ℕ) (n : ℕ) → method_in text ≡ Some n → 2 ≤ length text
+pub method_in-some : (text : List ℕ) (n : ℕ) → method_in text ≡ Some n → 2 ≤ length text
 method_in-some text n is = elim (cases_lt (length text) 2) [
   | inl short ↦
       let test : nat_lt (length text) 2 ≡ true = grind (arith, nat_tests) in
@@ -93,7 +92,7 @@ chunks_from-AreChunks (c ∷ chunks) body (suc turns) n is enough =
     ∙ ap (λ (more : List ℕ). behind (c ∷ []) (chunks_from turns (n + 1) more)) (after_digits digits piece rest is.4.six)
     ∙ ap (behind (c ∷ [])) (chunks_from-AreChunks chunks rest turns (n + 1) is.6 (omega (arith, ap length is.3)))
 
-id_len : (key : List ℕ) → is_id key ≡ true → length key ≡ 32
+pub id_len : (key : List ℕ) → is_id key ≡ true → length key ≡ 32
 id_len key is = eqb-true (length key) 32 (and_parts (nat_eq (length key) 32) _ is).0
 
 key_in-append : (key body : List ℕ) → is_id key ≡ true → key_in (key ++ body) ≡ Some key
@@ -128,58 +127,3 @@ jed_in-IsJedText text j is =
     ∙ ap (λ b. if b then jed (j.method, j.key) (chunks_in (drop 45 whole)) else Err (UnsupportedMethod j.method)) is.known
     ∙ ap (λ (b : List ℕ). jed (j.method, j.key) (chunks_in b)) at_body
     ∙ ap (jed (j.method, j.key)) chunks
-
--- ---- what is read is what the grammar says
-
-record Piece (body piece : List ℕ) : Type 0 where
-  fits : 6 + length piece ≤ length body
-  says : length_in body ≡ Some (length piece)
-  is : piece ≡ take (length piece) (drop 6 body)
-
-piece_of : (body piece : List ℕ) → piece_in body ≡ Some piece → Piece body piece
-piece_of body piece found = by_length (length_in body) refl where
-  by_length : (o : Option ℕ) → length_in body ≡ o → Piece body piece
-  by_length None none = absurd (let e = sym (ap (option_and_then (piece_at body)) none) ∙ found in cc e)
-  by_length (Some len) some =
-      let here : piece_at body len ≡ Some piece = sym (ap (option_and_then (piece_at body)) some) ∙ found in
-      elim (cases_Bool (nat_le (6 + len) (length body))) [
-        | inl yes_fits ↦
-            let fits : 6 + len ≤ length body = leb-true (6 + len) (length body) yes_fits in
-            let same : Some (take len (drop 6 body)) ≡ Some piece = rw yes_fits at here in
-            let cut : take len (drop 6 body) ≡ piece = cc same in
-            let size : length piece ≡ len =
-            sym (ap length cut) ∙ length-take-le len (drop 6 body) (omega (arith, length-drop 6 body)) in
-            record {
-              fits = omega arith;
-              says = some ∙ ap Some (sym size);
-              is = sym cut ∙ ap (λ k. take k (drop 6 body)) (sym size);
-            }
-        | inr too_long ↦ absurd (let none : None ≡ Some piece = rw too_long at here in cc none)
-      ]
-
-digits_are : (body piece : List ℕ) → Piece body piece → IsPiece (take 6 body) piece
-digits_are body piece is =
-    let six : length (take 6 body) ≡ 6 = length-take-le 6 body (omega (arith, is.fits)) in
-    record {
-      six = six;
-      says = sym (length_in-append (take 6 body) (drop 6 body) six) ∙ ap length_in (take-append-drop 6 body) ∙ is.says;
-    }
-
-body_is : (body piece : List ℕ) → Piece body piece
-    → body ≡ take 6 body ++ (piece ++ drop (6 + length piece) body)
-body_is body piece is =
-    let rest : drop (6 + length piece) body ≡ drop (length piece) (drop 6 body) =
-    sym (drop-drop (length piece) 6 body) in
-    sym (take-append-drop 6 body)
-    ∙ ap (λ (xs : List ℕ). take 6 body ++ xs)
-    (sym (take-append-drop (length piece) (drop 6 body))
-    ∙ ap (λ (xs : List ℕ). xs ++ drop (length piece) (drop 6 body)) (sym is.is)
-    ∙ ap (λ (xs : List ℕ). piece ++ xs) (sym rest))
-
--- the first of several that were read, and the others
-first_of : {T : Type 0} (first : Result T JedErr) (more : Result (List T) JedErr) (xs : List T)
-    → then_more first more ≡ Ok xs
-    → (x : T) × (rest : List T) × (xs ≡ x ∷ rest) × (first ≡ Ok x) × (more ≡ Ok rest)
-first_of (Err e) more xs is = absurd (cc is)
-first_of (Ok x) (Err e) xs is = absurd (cc is)
-first_of (Ok x) (Ok rest) xs is = (x, rest, cc is, refl, refl)

@@ -10,3 +10,4 @@ pub mod Joined
 pub mod Sealing
 pub mod SealedTexts
 pub mod Grammar
+pub mod Read

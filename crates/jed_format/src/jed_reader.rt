@@ -1,6 +1,7 @@
 ghost use Rattle.std.specs.Prelude.{◌≡◌, ◌≤◌, ◌+◌, length, option_map, Ok, Err, IfOk, IfErr, IfSome};
 ghost use Rattle.std.specs.List.{AllPass};
 ghost use Rattle.jed_format.specs.Chunk.{is_chunk};
+ghost use Rattle.jed_format.specs.Grammar.{IsJedText};
 ghost use Rattle.jed_format.specs.Jed.{is_method, piece_in, chunks_in, jed_in};
 ghost use Rattle.jed_format.specs.Refusals.{Refuses};
 
@@ -49,9 +50,10 @@ fn chunks_in(alloc: Global, body: &[u8]) -> Result<Seq<SjclChunk>, JedErr>
 /// of the first field of the header that is missing or wrong; `UnsupportedMethod`; for each chunk,
 /// `BadChunk` where its length or its object is wrong, and `UnsupportedMode`. It takes time linear
 /// in the bytes.
-#[tactic(auto, unfolding(crate::specs::Jed::jed_in))]
+#[tactic(auto, using(crate::proofs::Read::text_of_jed_in), unfolding(crate::specs::Jed::jed_in))]
 pub fn read_jed(alloc: Global, text: &[u8]) -> Result<Jed, JedErr>
     ensures ok { IfOk result (λ jed. jed_in text.now ≡ Ok jed) }
+    ensures grammar { IfOk result (IsJedText text.now) }
     ensures err { IfErr result (Refuses (jed_in text.now)) }
     ensures valid { IfOk result (λ jed. AllPass is_chunk jed.chunks) }
 {

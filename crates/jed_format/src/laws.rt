@@ -1,6 +1,8 @@
 //! What sealing and opening are to each other. Each law is a function with nothing to do, whose contract says it.
 
-ghost use Rattle.std.specs.Prelude.{◌≡◌, ℕ, List, Ok, flat_map};
+ghost use Rattle.std.specs.Prelude.{◌≡◌, ◌↔◌, ℕ, List, Ok, flat_map};
+ghost use Rattle.jed_format.specs.Grammar.{IsJedText};
+ghost use Rattle.jed_format.specs.Jed.{jed_in};
 ghost use Rattle.jed_format.specs.Opening.{text_in, blob_in};
 ghost use Rattle.jed_format.specs.Sealed.{IsSealedText, IsSealedBlob};
 ghost use Rattle.jed_format.specs.declared.jed.Jed.{Jed};
@@ -15,4 +17,9 @@ pub fn opens_a_sealed_text()
 pub fn opens_a_sealed_blob()
     ensures { (password : List ℕ) (parts : List (List ℕ)) (jed : Jed) → IsSealedBlob password parts jed
         → blob_in password jed ≡ Ok (flat_map (λ part. part) parts) }
+{}
+
+/// What is read of a text is what the grammar says of it, and no other text is read.
+pub fn reads_the_grammar()
+    ensures { (text : List ℕ) (jed : Jed) → (jed_in text ≡ Ok jed) ↔ IsJedText text jed }
 {}

@@ -22,7 +22,7 @@ pub use jed::Jed;
 pub use jed_err::JedErr;
 pub use jed_reader::read_jed;
 pub use jed_text::{escape, unescape, units_text};
-pub use laws::{opens_a_sealed_blob, opens_a_sealed_text};
+pub use laws::{opens_a_sealed_blob, opens_a_sealed_text, reads_the_grammar};
 pub use opening::{open_blob, open_text};
 pub use sjcl_chunk::SjclChunk;
 pub use writer::{write_chunk, write_jed};

@@ -1,4 +1,5 @@
-//! Tests of sealed texts: outside examples, each public call with ample memory, and hostile texts.
+//! Tests of sealed texts and their ciphers: the vectors of the standards, outside examples, each public call with ample
+//! memory, and hostile texts.
 #![tactic(auto)]
 
 #[cfg(test)]
@@ -11,3 +12,5 @@ mod hostile;
 mod sealed;
 #[cfg(test)]
 mod sealing;
+#[cfg(test)]
+mod standards;

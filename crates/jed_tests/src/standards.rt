@@ -1,8 +1,4 @@
-use crate::aes::Aes;
-use crate::ccm::{ccm_open, ccm_seal};
-use crate::ccm_err::CcmErr;
-use crate::keyed_hash::hmac;
-use crate::password_key::pbkdf2;
+use aes_ccm::{Aes, CcmErr, ccm_open, ccm_seal, hmac, pbkdf2};
 use std::alloc::{AllocError, Global};
 use std::test::Fail;
 

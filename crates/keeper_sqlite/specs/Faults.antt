@@ -1,0 +1,21 @@
+-- What becomes of an answer of the database.
+use Rattle.std.specs.Prelude.{ℕ, ◌≡◌, Result, Ok, Err}
+use Rattle.jop_base.specs.Outside.{risen}
+use Rattle.sqlite.specs.declared.error.Error.{Error}
+use Rattle.sqlite.specs.declared.error.Error.TheVariants.{SqliteFailure}
+use Rattle.sqlite.specs.declared.error.ErrorCode.TheVariants.{OutOfMemory}
+use Rattle.local_store.specs.declared.keeper_err.KeeperErr.{KeeperErr}
+use Rattle.local_store.specs.declared.keeper_err.KeeperErr.TheVariants.{Fault, NoMemory}
+use Rattle.keeper_sqlite.specs.declared.trouble.Trouble.{Trouble}
+use Rattle.keeper_sqlite.specs.declared.trouble.Trouble.TheVariants as trouble
+
+-- want of memory is no fault; every other refusal of the database is one
+abbrev pub trouble_of : Error → Trouble
+trouble_of (SqliteFailure OutOfMemory) = trouble.NoMemory
+trouble_of error = trouble.Fault
+
+-- An answer stays as it is. A fault raises the count, and nothing else does.
+abbrev pub Counts : {T : Type 0} → ℕ → Result T Trouble → Result T KeeperErr → ℕ → Type 0
+Counts before (Ok value) result after = (result ≡ Ok value) × (after ≡ before)
+Counts before (Err trouble.Fault) result after = (result ≡ Err Fault) × (after ≡ risen before)
+Counts before (Err trouble.NoMemory) result after = (result ≡ Err NoMemory) × (after ≡ before)

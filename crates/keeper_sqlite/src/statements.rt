@@ -1,0 +1,58 @@
+//! All that is asked of the database: its tables, and one statement for each kind of read and of write. A backslash at
+//! the end of a line joins it to the next, so that the database keeps the text of a table on one line.
+
+/// The tables.
+pub(crate) const TABLES: &str = "\
+CREATE TABLE IF NOT EXISTS meta (key TEXT PRIMARY KEY, value BLOB NOT NULL) STRICT;
+CREATE TABLE IF NOT EXISTS rows (id TEXT PRIMARY KEY, sealed INTEGER NOT NULL, content BLOB NOT NULL, \
+base BLOB, pending INTEGER NOT NULL) STRICT;
+CREATE TABLE IF NOT EXISTS deletions (id TEXT PRIMARY KEY, resource INTEGER NOT NULL) STRICT;
+CREATE TABLE IF NOT EXISTS conflicts (number INTEGER PRIMARY KEY, note TEXT NOT NULL, \
+content BLOB NOT NULL) STRICT;
+CREATE TABLE IF NOT EXISTS blobs (id TEXT PRIMARY KEY, bytes BLOB NOT NULL) STRICT";
+
+/// How many of the tables are there, and whether `meta` is.
+pub(crate) const COUNT_TABLES: &str = "\
+SELECT count(*), coalesce(sum(name = 'meta'), 0) FROM sqlite_schema \
+WHERE type = 'table' AND name IN ('meta', 'rows', 'deletions', 'conflicts', 'blobs')";
+
+pub(crate) const META: &str = "SELECT value FROM meta WHERE key = ?1";
+
+pub(crate) const ALL_ROWS: &str = "SELECT id, sealed, content, base, pending FROM rows ORDER BY id";
+
+pub(crate) const ROW: &str = "SELECT id, sealed, content, base, pending FROM rows WHERE id = ?1";
+
+pub(crate) const ALL_DELETIONS: &str = "SELECT id, resource FROM deletions ORDER BY id";
+
+pub(crate) const ALL_CONFLICTS: &str =
+    "SELECT number, note, content FROM conflicts ORDER BY number";
+
+pub(crate) const BLOB: &str = "SELECT bytes FROM blobs WHERE id = ?1";
+
+pub(crate) const SET_ROW: &str = "\
+INSERT OR REPLACE INTO rows (id, sealed, content, base, pending) VALUES (?1, ?2, ?3, ?4, ?5)";
+
+pub(crate) const DROP_ROW: &str = "DELETE FROM rows WHERE id = ?1";
+
+pub(crate) const SET_DELETION: &str =
+    "INSERT OR REPLACE INTO deletions (id, resource) VALUES (?1, ?2)";
+
+pub(crate) const DROP_DELETION: &str = "DELETE FROM deletions WHERE id = ?1";
+
+pub(crate) const ADD_CONFLICT: &str =
+    "INSERT INTO conflicts (number, note, content) VALUES (?1, ?2, ?3)";
+
+pub(crate) const DROP_CONFLICT: &str = "DELETE FROM conflicts WHERE number = ?1";
+
+pub(crate) const SET_NEXT: &str =
+    "INSERT OR REPLACE INTO meta (key, value) VALUES ('next_conflict', ?1)";
+
+pub(crate) const SET_CLIENT: &str =
+    "INSERT OR REPLACE INTO meta (key, value) VALUES ('client', ?1)";
+
+pub(crate) const SET_CONTEXT: &str =
+    "INSERT OR REPLACE INTO meta (key, value) VALUES ('moment', ?1), ('seen', ?2)";
+
+pub(crate) const SET_INFO: &str = "INSERT OR REPLACE INTO meta (key, value) VALUES ('info', ?1)";
+
+pub(crate) const SET_BLOB: &str = "INSERT OR REPLACE INTO blobs (id, bytes) VALUES (?1, ?2)";

@@ -1,0 +1,51 @@
+ghost use Rattle.std.specs.Prelude.{◌≡◌};
+ghost use Rattle.keeper_sqlite.specs.Faults.{trouble_of};
+ghost use Rattle.keeper_sqlite.specs.declared.trouble.Trouble.TheVariants.{NoMemory};
+
+use sqlite::{Error, ErrorCode};
+use std::alloc::{AllocError, AllocFailed};
+use stored_records::RecordErr;
+
+/// Why the database gave no answer.
+#[derive(Clone, Copy, Debug, PartialEq, Eq)]
+pub(crate) enum Trouble {
+    /// It refused, or holds a record that can't be read back.
+    Fault,
+    NoMemory,
+}
+
+impl From<Error> for Trouble {
+    ghost from_gives = { λ error trouble. trouble ≡ trouble_of error };
+
+    fn from(error: Error) -> Trouble {
+        match error {
+            Error::SqliteFailure(ErrorCode::OutOfMemory) => Trouble::NoMemory,
+            _ => Trouble::Fault,
+        }
+    }
+}
+
+impl From<RecordErr> for Trouble {
+    fn from(error: RecordErr) -> Trouble {
+        match error {
+            RecordErr::Bad => Trouble::Fault,
+            RecordErr::NoMemory => Trouble::NoMemory,
+        }
+    }
+}
+
+impl From<AllocError> for Trouble {
+    ghost from_gives = { λ _ trouble. trouble ≡ NoMemory };
+
+    fn from(_: AllocError) -> Trouble {
+        Trouble::NoMemory
+    }
+}
+
+impl<T: Drop> From<AllocFailed<T>> for Trouble {
+    ghost from_gives = { λ _ trouble. trouble ≡ NoMemory };
+
+    fn from(_: AllocFailed<T>) -> Trouble {
+        Trouble::NoMemory
+    }
+}

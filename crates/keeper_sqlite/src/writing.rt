@@ -1,0 +1,167 @@
+//! What is written to the database.
+
+ghost use Rattle.std.specs.Prelude.{All};
+ghost use Rattle.local_store.specs.Sound.{IsSoundRow, IsSoundNote};
+ghost use Rattle.record_keeper.specs.Writes.{IsSoundWrite};
+ghost use Rattle.sync_info.specs.Info.{IsInfo};
+
+use crate::database::{Database, Together};
+use crate::statements::{
+    ADD_CONFLICT, DROP_CONFLICT, DROP_DELETION, DROP_ROW, SET_BLOB, SET_CLIENT, SET_CONTEXT,
+    SET_DELETION, SET_INFO, SET_NEXT, SET_ROW,
+};
+use crate::trouble::Trouble;
+use jop_base::{Bytes, Context, Id};
+use local_store::{ConflictNote, Deletion, Row};
+use record_keeper::Write;
+use sqlite::params;
+use std::alloc::Global;
+use stored_records::{DeletionRecord, NoteRecord, RowRecord, ids_text, number_text};
+use sync_info::{Info, write_info};
+
+/// Runs a statement on a key.
+fn run(together: &mut Together<'_>, statement: &str, key: &str) -> Result<(), Trouble> {
+    together.execute(statement, params![key])?;
+    Ok(())
+}
+
+/// Runs a statement on bytes.
+fn run_on(together: &mut Together<'_>, statement: &str, bytes: &Bytes) -> Result<(), Trouble> {
+    together.execute(statement, params![bytes.as_slice()])?;
+    Ok(())
+}
+
+fn set_row(alloc: Global, together: &mut Together<'_>, row: &Row) -> Result<(), Trouble>
+    requires { IsSoundRow row.now }
+{
+    let record = RowRecord::of(alloc, row)?;
+    let base = match &record.base {
+        Some(base) => Some(base.as_slice()),
+        None => None,
+    };
+    together.execute(
+        SET_ROW,
+        params![
+            record.id.as_str(),
+            record.sealed,
+            record.content.as_slice(),
+            base,
+            record.pending
+        ],
+    )?;
+    Ok(())
+}
+
+fn set_deletion(
+    alloc: Global,
+    together: &mut Together<'_>,
+    deletion: &Deletion,
+) -> Result<(), Trouble> {
+    let record = DeletionRecord::of(alloc, deletion)?;
+    together.execute(SET_DELETION, params![record.id.as_str(), record.resource])?;
+    Ok(())
+}
+
+fn add_conflict(
+    alloc: Global,
+    together: &mut Together<'_>,
+    note: &ConflictNote,
+) -> Result<(), Trouble>
+    requires { IsSoundNote note.now }
+{
+    let record = NoteRecord::of(alloc, note)?;
+    together.execute(
+        ADD_CONFLICT,
+        params![
+            record.number,
+            record.note.as_str(),
+            record.content.as_slice()
+        ],
+    )?;
+    Ok(())
+}
+
+/// Drops the conflict notes of a number. Of a number past 2^63 - 1 there is none.
+fn drop_conflict(together: &mut Together<'_>, number: u64) -> Result<(), Trouble> {
+    if let Ok(number) = i64::try_from(number) {
+        together.execute(DROP_CONFLICT, params![number])?;
+    }
+    Ok(())
+}
+
+fn set_next(alloc: Global, together: &mut Together<'_>, number: u64) -> Result<(), Trouble> {
+    run_on(together, SET_NEXT, &number_text(alloc, number)?)
+}
+
+fn set_client(together: &mut Together<'_>, client: &Id) -> Result<(), Trouble> {
+    let digits = client.digits();
+    together.execute(SET_CLIENT, params![digits.as_slice()])?;
+    Ok(())
+}
+
+fn set_context(
+    alloc: Global,
+    together: &mut Together<'_>,
+    context: &Context,
+) -> Result<(), Trouble> {
+    let moment = number_text(alloc, context.moment)?;
+    let seen = ids_text(alloc, context.seen.as_slice())?;
+    together.execute(SET_CONTEXT, params![moment.as_slice(), seen.as_slice()])?;
+    Ok(())
+}
+
+fn set_info(alloc: Global, together: &mut Together<'_>, info: &Info) -> Result<(), Trouble>
+    requires { IsInfo info.now }
+{
+    run_on(together, SET_INFO, &write_info(alloc, info)?)
+}
+
+/// Makes a write.
+fn make(alloc: Global, together: &mut Together<'_>, write: &Write) -> Result<(), Trouble>
+    requires { IsSoundWrite write.now }
+{
+    match write {
+        Write::SetRow(row) => set_row(alloc, together, row),
+        Write::DropRow(id) => run(together, DROP_ROW, id.as_str()),
+        Write::SetDeletion(deletion) => set_deletion(alloc, together, deletion),
+        Write::DropDeletion(id) => run(together, DROP_DELETION, id.as_str()),
+        Write::AddConflict(note) => add_conflict(alloc, together, note),
+        Write::DropConflict(number) => drop_conflict(together, *number),
+        Write::SetNext(number) => set_next(alloc, together, *number),
+        Write::SetClient(client) => set_client(together, client),
+        Write::SetContext(context) => set_context(alloc, together, context),
+        Write::SetInfo(info) => set_info(alloc, together, info),
+    }
+}
+
+/// Makes the writes, in order.
+pub(crate) fn make_all(
+    alloc: Global,
+    together: &mut Together<'_>,
+    writes: &[Write],
+) -> Result<(), Trouble>
+    requires { All IsSoundWrite writes.now }
+{
+    for write in writes {
+        make(alloc, together, write)?;
+    }
+    Ok(())
+}
+
+/// Makes all the writes, or none.
+pub(crate) fn write(alloc: Global, database: &mut Database, writes: &[Write]) -> Result<(), Trouble>
+    requires { All IsSoundWrite writes.now }
+{
+    if !database.is_autocommit() {
+        return Err(Trouble::Fault);
+    }
+    let mut together = database.transaction();
+    make_all(alloc, &mut together, writes)?;
+    together.commit()?;
+    Ok(())
+}
+
+pub(crate) fn save_blob(database: &mut Database, id: &Id, bytes: &Bytes) -> Result<(), Trouble> {
+    database.execute(SET_BLOB, params![id.as_str(), bytes.as_slice()])?;
+    Ok(())
+}

@@ -1,0 +1,29 @@
+//! What writes do to sound tables, and that those of a change make it. Each law is a function with nothing to do, whose
+//! contract says it.
+
+ghost use Rattle.std.specs.Prelude.{◌≡◌, ℕ, List, All, true, option_and_then};
+ghost use Rattle.local_store.specs.declared.change.Change.{Change};
+ghost use Rattle.local_store.specs.declared.tables.Tables.{Tables};
+ghost use Rattle.local_store.specs.Changing.{after};
+ghost use Rattle.local_store.specs.Sound.{IsSound};
+ghost use Rattle.local_store.specs.Tables.{row_at};
+ghost use Rattle.record_keeper.specs.declared.write.Write.{Write};
+ghost use Rattle.record_keeper.specs.Making.{row_needed, needs_number, writes_of};
+ghost use Rattle.record_keeper.specs.Writes.{IsSoundWrite, written_all};
+
+/// Sound tables stay sound when sound writes are made.
+#[tactic(auto, using(crate::proofs::Sound::written_all_sound))]
+pub fn sound_writes_keep_sound()
+    ensures { (t : Tables) (ws : List Write) → IsSound t → All IsSoundWrite ws
+        → IsSound (written_all t ws) }
+{}
+
+/// The writes of a change make it, if the row and the number are those that it needs.
+#[tactic(auto, using(crate::proofs::Made::writes_make))]
+pub fn writes_make_their_change()
+    ensures { (t : Tables) (change : Change) (number : ℕ)
+        → (needs_number change ≡ true → number ≡ t.next_conflict)
+        → written_all t
+        (writes_of change (option_and_then (row_at t) (row_needed change)) number)
+        ≡ after t change }
+{}

@@ -1,0 +1,5 @@
+pub mod Columns
+pub mod Holding
+pub mod Meta
+pub mod Whole
+pub mod Ordered

@@ -1,0 +1,16 @@
+-- What a client knows of itself and its target, as the values of a table of keys.
+use Rattle.std.specs.Prelude.{ℕ, ◌≡◌, List, Some, decimal}
+use Rattle.jop_base.specs.declared.context.Context.{Context}
+use Rattle.sync_info.specs.Read.{info_in}
+use Rattle.local_store.specs.declared.tables.Tables.{Tables}
+use Rattle.stored_records.specs.declared.meta_record.MetaRecord.{MetaRecord}
+use Rattle.stored_records.specs.Columns.{id_digits}
+
+-- the digits of the client's id, numbers in decimal, the ids that were seen one after the other, and a text that reads
+-- as the info
+pub record HoldsMeta (s : MetaRecord) (t : Tables) : Type 0 where
+  pub client : s.client ≡ t.client
+  pub next_conflict : s.next_conflict ≡ decimal t.next_conflict
+  pub moment : s.moment ≡ decimal t.context.moment
+  pub seen : s.seen ≡ id_digits t.context.seen
+  pub info : info_in s.info ≡ Some t.info
