@@ -1,5 +1,5 @@
-# Completes the words of jop in bash: its commands, behind check the targets, `mem:` and `dir:` with a folder, and behind a
-# redirection files.
+# Completes the words of jop in bash: its commands and their options, behind check and upgrade the targets, `mem:`, `dir:` with a
+# folder and `dav:`, and files behind attach, --profile and a redirection.
 # shellcheck shell=bash
 
 # Offers those of the words that begin with $1.
@@ -31,8 +31,26 @@ _jop_files() {
     compopt -o filenames 2>/dev/null
 }
 
+# Offers the targets that begin as the word $1, of which what stands from word $2 on is the beginning. Bash cuts words at colons,
+# unless COMP_WORDBREAKS has none or the word is quoted. So the target may be several, of which the last is completed.
+_jop_targets() {
+    local word=$1 target=$1
+    if [ "$COMP_CWORD" -gt "$2" ]; then
+        printf -v target %s "${COMP_WORDS[@]:$2:COMP_CWORD-$2+1}"
+        [[ ${COMP_LINE:0:COMP_POINT} == *[[:blank:]]"$target" ]] || return 0
+    fi
+    case $target in
+        dir:*) _jop_folders "$target" "${target%"$word"}" ;;
+        dav:*) ;;
+        *)
+            _jop_words "$word" mem: dir: dav:
+            [ "${COMPREPLY[*]}" = mem: ] || compopt -o nospace 2>/dev/null
+            ;;
+    esac
+}
+
 _jop() {
-    local word=$2 target
+    local word=$2 first=1
     COMPREPLY=()
     case ${COMP_WORDS[COMP_CWORD - 1]} in
         *'<' | *'>' | *'>|')
@@ -40,27 +58,29 @@ _jop() {
             return 0
             ;;
     esac
-    if [ "$COMP_CWORD" -eq 1 ]; then
-        _jop_words "$word" check help tidy
-        return 0
+    if [ "$COMP_CWORD" -gt 1 ] && [ "${COMP_WORDS[1]}" = --profile ]; then
+        first=3
     fi
-    [ "${COMP_WORDS[1]}" = check ] || return 0
-
-    # Bash cuts words at colons, unless COMP_WORDBREAKS has none or the word is quoted. So the target may be several, of which
-    # the last is completed.
-    target=$word
-    if [ "$COMP_CWORD" -gt 2 ]; then
-        printf -v target %s "${COMP_WORDS[@]:2:COMP_CWORD-1}"
-        [[ ${COMP_LINE:0:COMP_POINT} == *[[:blank:]]"$target" ]] || return 0
-    fi
-    case $target in
-        dir:*) _jop_folders "$target" "${target%"$word"}" ;;
-        *)
-            _jop_words "$word" mem: dir:
-            [ "${COMPREPLY[*]}" != dir: ] || compopt -o nospace 2>/dev/null
+    case $((COMP_CWORD - first)) in
+        -1) _jop_files "$word" ;;
+        0)
+            _jop_words "$word" add attach cat check conflicts edit help ls mkbook rm tag tidy upgrade
+            [[ $first -ne 1 || $word != -* ]] || _jop_words "$word" --profile
             ;;
+        *) _jop_behind "$first" "$word" ;;
     esac
     return 0
+}
+
+# Offers what stands behind the command, which is word $1.
+_jop_behind() {
+    case ${COMP_WORDS[$1]}$((COMP_CWORD - $1)) in
+        attach1) _jop_files "$2" ;;
+        conflicts1) _jop_words "$2" --clear ;;
+        edit2) _jop_words "$2" --title ;;
+        mkbook2) _jop_words "$2" --in ;;
+        check* | upgrade*) _jop_targets "$2" $(($1 + 1)) ;;
+    esac
 }
 
 complete -F _jop jop

@@ -1,5 +1,17 @@
-# Completes the words of jop in fish: its commands, and behind check the targets, `mem:` and `dir:` with a folder. Behind a
-# redirection fish offers files by itself.
+# Completes the words of jop in fish: its commands and their options, behind check and upgrade the targets, `mem:`, `dir:` with a folder
+# and `dav:`, and files behind attach and --profile. Behind a redirection fish offers files by itself.
+
+# Whether so many words stand before the one at the cursor, from the command on, and the command is one of these.
+function __jop_at
+    set -l words (commandline -opc)
+    set -e words[1]
+    if test "$words[1]" = --profile
+        test (count $words) -gt 1; or return 1
+        set -e words[1..2]
+    end
+    test (count $words) -eq $argv[1]; or return 1
+    test (count $argv) -eq 1; or contains -- "$words[1]" $argv[2..-1]
+end
 
 # The targets that begin as the word at the cursor.
 function __jop_targets
@@ -8,13 +20,28 @@ function __jop_targets
         for folder in (__fish_complete_directories (string sub -s 5 -- $word) folder)
             echo dir:$folder
         end
-    else
-        printf '%s\n' mem: dir:
+    else if not string match -q 'dav:*' -- $word
+        printf '%s\n' mem: dir: dav:
     end
 end
 
 complete -c jop -f
-complete -c jop -n '__fish_is_nth_token 1' -a check -d 'take a sync lock on a target, and release it'
-complete -c jop -n '__fish_is_nth_token 1' -a help -d 'print the usage line'
-complete -c jop -n '__fish_is_nth_token 1' -a tidy -d 'read an item text, and print its canonical text'
-complete -c jop -n '__fish_is_nth_token 2; and __fish_seen_subcommand_from check' -a '(__jop_targets)'
+complete -c jop -n 'test (count (commandline -opc)) -eq 1' -l profile -r -F -d 'the file of the tables'
+complete -c jop -n '__jop_at 0' -a add -d 'make a note in a notebook, of standard input'
+complete -c jop -n '__jop_at 0' -a attach -d 'make a resource of standard input'
+complete -c jop -n '__jop_at 0' -a cat -d 'print the text of an item'
+complete -c jop -n '__jop_at 0' -a check -d 'take a sync lock on a target, and release it'
+complete -c jop -n '__jop_at 0' -a conflicts -d 'list the texts that a sync has put aside'
+complete -c jop -n '__jop_at 0' -a edit -d 'give a note standard input as its text'
+complete -c jop -n '__jop_at 0' -a help -d 'print the usage line'
+complete -c jop -n '__jop_at 0' -a ls -d 'list the notebooks, or the notes of one'
+complete -c jop -n '__jop_at 0' -a mkbook -d 'make a notebook'
+complete -c jop -n '__jop_at 0' -a rm -d 'remove an item'
+complete -c jop -n '__jop_at 0' -a tag -d 'give a note a tag'
+complete -c jop -n '__jop_at 0' -a tidy -d 'read an item text, and print its canonical text'
+complete -c jop -n '__jop_at 0' -a upgrade -d 'bring a target to version 3'
+complete -c jop -n '__jop_at 1 attach' -F
+complete -c jop -n '__jop_at 1 conflicts' -l clear -d 'take out one of them'
+complete -c jop -n '__jop_at 2 edit' -l title -d 'another title'
+complete -c jop -n '__jop_at 2 mkbook' -l in -d 'in this notebook'
+complete -c jop -n '__jop_at 1 check upgrade' -a '(__jop_targets)'

@@ -102,6 +102,16 @@ run_case() {
 # What a case that passed has to say: its last line that begins with `note: `.
 note() { sed -n 's/^note: \(.*\)$/ (\1)/p' "$work/said" | tail -n 1; }
 
+# in_memory KIB: the folders of the cases are in memory, where that has so much room and nothing else is asked for. For runs that flush
+# what they have written, which takes a disk longer than the run.
+in_memory() {
+  local room
+  room=$(df --output=avail -k /dev/shm 2>/dev/null | tail -n 1)
+  if [ -z "${TMPDIR-}" ] && [ -w /dev/shm ] && [ "${room:-0}" -ge "$1" ]; then
+    export TMPDIR=/dev/shm
+  fi
+}
+
 # find_program: builds the program that is tried, where it isn't built from these sources.
 find_program() {
   [ -n "${JOP-}" ] || "$top/scripts/build" || exit 1
@@ -145,3 +155,65 @@ expect() {
 }
 
 line() { [ -z "$1" ] || printf '%s\n' "$1"; }
+
+# ------------------------------------------------------------------------------------------------ a target that is a folder
+
+# The names of what stands in the target or below, folders aside.
+files() { find "$root" -mindepth 1 ! -type d -printf '%P\n' | sort; }
+
+# moment AGE: the moment so many seconds ago, as a time for `touch`. Its nanoseconds end in no whole millisecond.
+moment() { echo "@$(($(date +%s) - $1)).123999999"; }
+
+# millis MOMENT: its whole milliseconds since 1970.
+millis() { local whole=${1#@} && echo "${whole/./}" | cut -c 1-13; }
+
+# lock NAME MOMENT: a file of the folder `locks`.
+lock() { mkdir -p "$root/locks" && touch -d "$2" "$root/locks/$1"; }
+
+# ------------------------------------------------------------------------------------------------- a program that is traced
+
+can_trace() { strace -o /dev/null true 2>/dev/null; }
+
+# calls_of_the_system WORDS..: the calls of the system that the program makes with these words, from the first one on the target
+# on, each with its number among those of its name.
+calls_of_the_system() {
+  strace -o trace "$program" "$@" >out 2>err
+  awk -F '(' -v root="$root/" '
+    /^[a-z]/ { count[$1]++; if (index($0, root) && $1 != "execve") begun = 1; if (begun) print $1, count[$1] }' trace
+}
+
+# ------------------------------------------------------------------------------------ a program that is killed, or has few rights
+
+# killed_after MICROSECONDS WORD..: whether the program with these words, killed so long after its start, was still running. What it
+# printed stands in the files `out` and `err`.
+killed_after() {
+  local pid seconds
+  printf -v seconds '0.%06d' "$1"
+  shift
+  # Behind an ampersand a shell gives nothing to read, unless it is told.
+  "$program" "$@" >out 2>err <&0 &
+  pid=$!
+  pause "$seconds"
+  kill -KILL "$pid" 2>/dev/null
+  wait "$pid" 2>/dev/null
+  [ $? -eq 137 ]
+}
+
+# Sets `nobody` to the words that run a program without root's rights, and makes a copy of ours that anyone may run.
+finds_nobody() {
+  if [ "$(id -u)" -ne 0 ]; then
+    nobody=(env)
+  elif has setpriv; then
+    nobody=(setpriv --reuid=nobody "--regid=$(id -g nobody)" --clear-groups)
+  elif has runuser; then
+    nobody=(runuser -u nobody --)
+  else
+    skip 'no setpriv, no runuser'
+  fi
+  chmod 711 "$work" && cp "$program" jop && chmod 755 jop
+  program=$PWD/jop
+  "${nobody[@]}" "$program" check mem: "$own" >/dev/null 2>&1 || skip 'nobody can run the program here'
+}
+
+# A sleep of a part of a second. It reads what nobody writes, since starting `sleep` would take longer than a check.
+pause() { read -rt "$1" <> <(:); }

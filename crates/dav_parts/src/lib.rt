@@ -15,8 +15,6 @@ mod method;
 mod multistatus_reader;
 mod multistatus_writer;
 mod target;
-#[cfg(test)]
-mod tests;
 
 pub use date::{date_of, read_moment};
 pub use decimal::{append_decimal, read_decimal};

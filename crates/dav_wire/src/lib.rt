@@ -19,8 +19,6 @@ mod request_writer;
 mod response_reader;
 mod response_writer;
 mod target_stage;
-#[cfg(test)]
-mod tests;
 
 pub use laws::{
     a_cut_changes_no_request, a_cut_changes_no_response, a_cut_request_is_more,

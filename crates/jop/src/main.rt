@@ -2,86 +2,98 @@
 //! [`jop_cli::run`] is handed.
 #![tactic(auto)]
 
-mod random_id;
 mod reader_source;
+mod server;
+mod start_err;
+mod system_clock;
+mod system_entropy;
 mod words;
 mod writer_sink;
 
-use crate::random_id::random_id;
 use crate::reader_source::ReaderSource;
+use crate::server::server_target;
+use crate::start_err::StartErr;
+use crate::system_clock::SystemClock;
+use crate::system_entropy::SystemEntropy;
 use crate::words::read_args;
 use crate::writer_sink::WriterSink;
-use jop_base::Text;
-use jop_cli::{TargetKind, TargetName, Words, run, target_words};
+use jop_cli::{Profile, TargetKind, TargetName, Words, profile_words, run, target_words};
 use jop_target::{Diary, MemTarget, Target};
+use keeper_sqlite::keeper_at;
+use local_store::{Changes, Keeper, MemKeeper};
+use site::draw_id;
+use std::alloc::AllocError;
 use std::process::ExitCode;
 use target_files::FolderTarget;
 
-/// The exit status where the random source failed.
-const RANDOM_FAULT: u8 = 14;
-
-/// The exit status where there was no memory.
-const NO_MEMORY: u8 = 22;
-
 fn main(rt: HostRuntime) -> ExitCode {
-    ExitCode::from(match read_args(&rt) {
-        Ok(words) => with_words(&rt, &words),
-        Err(_) => no_memory(&rt),
+    ExitCode::from(match start(&rt) {
+        Ok(exit) => exit,
+        Err(error) => tell(&rt, error),
     })
 }
 
-/// Makes the target that the words name, and runs on it.
-fn with_words(rt: &HostRuntime, words: &Words) -> u8 {
-    match target_words(rt.alloc(), words) {
-        Ok(Some(target)) => on_target(rt, words, target),
-        Ok(None) => on_memory(rt, words),
-        Err(_) => no_memory(rt),
-    }
-}
-
-fn on_target(rt: &HostRuntime, words: &Words, target: TargetName) -> u8 {
-    let TargetName { text: _, kind } = target;
-    match kind {
-        TargetKind::Mem => on_memory(rt, words),
-        TargetKind::Dir(root) => on_folder(rt, words, root),
-    }
-}
-
-fn on_memory(rt: &HostRuntime, words: &Words) -> u8 {
-    run_on(rt, words, MemTarget::new(rt.alloc(), 0, 1))
-}
-
-fn on_folder(rt: &HostRuntime, words: &Words, root: Text) -> u8 {
-    let Some(temp) = random_id(rt) else {
-        let _ = eprintln!(rt; "random source fault");
-        return RANDOM_FAULT;
+/// Makes the keeper that the words name, and runs on it.
+fn start(rt: &HostRuntime) -> Result<u8, StartErr> {
+    let alloc = rt.alloc();
+    let words = read_args(rt)?;
+    let mut keeper: Box<dyn Keeper> = match profile_words(alloc, &words)? {
+        Profile::Memory => Box::new(alloc, MemKeeper::new(alloc))?,
+        Profile::File(path) => Box::new(alloc, keeper_at(*rt, path))?,
     };
-    match rt.clone() {
-        Ok(own) => run_on(rt, words, FolderTarget::new(own, root, temp)),
-        Err(_) => no_memory(rt),
+    with_target(rt, &words, &mut keeper)
+}
+
+/// Makes the target that the words name, and runs on it. Words that name none have one in memory.
+fn with_target<K: Keeper>(rt: &HostRuntime, words: &Words, keeper: &mut K) -> Result<u8, StartErr> {
+    let alloc = rt.alloc();
+    let mut entropy = SystemEntropy::new(*rt);
+    let mut target: Box<dyn Target> = match kind_of(rt, words)? {
+        TargetKind::Mem => Box::new(alloc, MemTarget::new(alloc, 0, 1))?,
+        TargetKind::Dir(root) => {
+            let temp = draw_id(&mut entropy)?;
+            Box::new(alloc, FolderTarget::new(*rt, root, temp))?
+        }
+        TargetKind::Dav(address) => Box::new(alloc, server_target(rt, address)?)?,
+    };
+    Ok(run_on(rt, words, keeper, &mut target, &mut entropy))
+}
+
+/// The kind of the target that the words name.
+fn kind_of(rt: &HostRuntime, words: &Words) -> Result<TargetKind, AllocError> {
+    match target_words(rt.alloc(), words)? {
+        Some(TargetName { text: _, kind }) => Ok(kind),
+        None => Ok(TargetKind::Mem),
     }
 }
 
-fn run_on<T: Target>(rt: &HostRuntime, words: &Words, mut target: T) -> u8 {
+fn run_on<K: Keeper, T: Target>(
+    rt: &HostRuntime,
+    words: &Words,
+    keeper: &mut K,
+    target: &mut T,
+    entropy: &mut SystemEntropy,
+) -> u8 {
     let alloc = rt.alloc();
     // A locked standard input would read a pipe byte by byte.
     let mut input = ReaderSource::new(rt.stdin());
     let mut out = WriterSink::new(rt.stdout());
     let mut err = WriterSink::new(rt.stderr());
+    let mut clock = SystemClock::new(*rt);
     let mut diary = Diary::new(alloc);
+    let mut made = Changes::new(alloc);
     run(
-        alloc,
-        words,
-        &mut target,
-        &mut input,
-        &mut out,
-        &mut err,
-        &mut diary,
+        alloc, words, keeper, target, &mut input, &mut out, &mut err, &mut clock, entropy,
+        &mut diary, &mut made,
     )
     .exit()
 }
 
-fn no_memory(rt: &HostRuntime) -> u8 {
-    let _ = eprintln!(rt; "no memory");
-    NO_MEMORY
+/// Says why nothing was run, and gives the exit status for it.
+fn tell(rt: &HostRuntime, error: StartErr) -> u8 {
+    let _ = match error {
+        StartErr::EntropyFault => eprintln!(rt; "random source fault"),
+        StartErr::NoMemory => eprintln!(rt; "no memory"),
+    };
+    error.exit()
 }

@@ -1,5 +1,9 @@
-mod Checks
+mod Checked
+mod Fit
 mod Ids
+mod Local
 mod Runs
+mod Sessions
 mod Three
 mod Tidied
+mod Upgraded

@@ -1,5 +1,7 @@
 -- What tidying an input comes to.
-use Rattle.std.proofs.Common.{◌≡◌, ◌≤◌, refl, sym, subst, inl, inr, ℕ, List, length}
+use Rattle.std.proofs.Common.{◌≡◌, ◌≤◌, refl, sym, subst, ap, inl, inr, ℕ, List, [], length}
+use Rattle.jop_target.specs.declared.event.Event.{Event}
+use Rattle.local_store.specs.declared.change.Change.{Change}
 use Rattle.std.proofs.Common.{Option, Some, Result, Ok, Err, true}
 use Rattle.item_text.specs.Canonical.{IsCanonical, Tidies as ItemTidies}
 use Rattle.item_text.specs.Grammar.{first_fault}
@@ -9,13 +11,14 @@ use Rattle.jop_base.specs.Outside.{SourceNow}
 use Rattle.jop_base.specs.Reading.{IsAllOf, IsPastLimit, ReadsAll, WasRead}
 use Rattle.jop_base.specs.declared.reading.ReadErr.{ReadErr}
 use Rattle.jop_base.specs.declared.reading.ReadErr.TheVariants as read_errors
-use Rattle.jop_target.specs.declared.event.Event.{Event}
-use Rattle.jop_cli.proofs.Runs.{explained_emit}
+use Rattle.local_commands.specs.Sparing.{IsReadOf}
+use Rattle.jop_cli.proofs.Runs.{acts_quiet, explained_emit}
 use Rattle.jop_cli.specs.Commands.Tidy.{IsAnswerTo, StandsFor, TIDY_LIMIT, Tidies, TidiesBytes, TidiesInput, bytes_outcome, item_err, outcome_of, read_err, status_of}
-use Rattle.jop_cli.specs.Outside.{Outside}
-use Rattle.jop_cli.specs.Run.{Answers, Emits, IsExplained, IsTidy, Obeys, TidiesTold}
+use Rattle.jop_cli.specs.Commands.Sessions.{Outcome}
+use Rattle.jop_cli.specs.Outside.{Outside, Ran, did}
+use Rattle.jop_cli.specs.Run.{Acts, Answers, Emits, IsExplained, Obeys, TidiesTold}
 use Rattle.jop_cli.specs.Statuses.{is_early}
-use Rattle.jop_cli.specs.declared.command.Command.{Command}
+use Rattle.jop_cli.specs.declared.command.Verb.{Verb}
 use Rattle.jop_cli.specs.declared.command.Verb.TheVariants.{Tidy}
 use Rattle.jop_cli.specs.declared.command.tidy.TidyErr.{TidyErr}
 use Rattle.jop_cli.specs.declared.command.tidy.TidyErr.TheVariants.{Fault, TooLarge, Bad, NoMemory}
@@ -23,14 +26,14 @@ use Rattle.jop_cli.specs.declared.status.Status.{Status}
 
 -- ---- why the command ends so
 
-pub explained_tidy : (before after : Outside) (trail : List Event) (error : TidyErr) →
+pub explained_tidy : (before after : Outside) (ran : Ran) (error : TidyErr) →
     TidiesInput before.input (Err error) after.input →
-    IsExplained (Some (record { verb = Tidy })) before trail (status_of error) after
-explained_tidy before after trail Fault tidies = tidies
-explained_tidy before after trail TooLarge tidies =
-    record { limit = TIDY_LIMIT; uses = refl; past = tidies; is = refl }
-explained_tidy before after trail (Bad bad) tidies = (refl, tidies)
-explained_tidy before after trail NoMemory tidies = tt
+    IsExplained (Some Tidy) before ran (status_of error) after
+explained_tidy before after ran Fault tidies = tidies
+explained_tidy before after ran TooLarge tidies =
+    inl (record { limit = TIDY_LIMIT; uses = refl; past = tidies; is = refl })
+explained_tidy before after ran (Bad bad) tidies = (refl, tidies)
+explained_tidy before after ran NoMemory tidies = tt
 
 pub early_tidy : (error : TidyErr) → is_early (status_of error) ≡ true
 early_tidy Fault = refl
@@ -69,24 +72,24 @@ stands_for before after status (Ok text) (inl went) = inl went.0
 stands_for before after status (Ok text) (inr cut) = inr cut.0
 stands_for before after status (Err error) emits = emits.0
 
-told_obeyed : (before after : Outside) (trail : List Event) (told : List ℕ) (status : Status) →
-    before.input.left ≡ Some told → Obeys Tidy before trail status after → TidiesTold told status
-told_obeyed before after trail told status tells obeys =
+told_obeyed : (before after : Outside) (ran : Ran) (told : List ℕ) (status : Status) →
+    before.input.left ≡ Some told → Obeys Tidy before ran status after → TidiesTold told status
+told_obeyed before after ran told status tells obeys =
     let t : Tidies before.input obeys.outcome after.input = obeys.comes in (
       t.result,
       stands_for before after status t.result
-          (subst (λ (o : Result (List ℕ) Status). Emits o before.out status after.out) t.is obeys.emits),
+          (subst (λ (o : Outcome). Emits o before.out status after.out) t.is obeys.emits),
       told_answer before.input after.input told t.result tells t.tidies,
     )
 
-pub exact_of : (command : Option Command) (before after : Outside) (trail : List Event) (told : List ℕ)
-    (status : Status) → IsTidy command → before.input.left ≡ Some told →
-    Answers command before trail status after → TidiesTold told status
-exact_of command before after trail told status tidy tells answers =
-    by_cases (subst (λ (c : Option Command). Answers c before trail status after) tidy answers) where
-      by_cases : Answers (Some (record { verb = Tidy })) before trail status after → TidiesTold told status
+pub exact_of : (verb : Option Verb) (before after : Outside) (ran : Ran) (status : Status) →
+    Answers verb before ran status after → (told : List ℕ) → verb ≡ Some Tidy →
+    before.input.left ≡ Some told → TidiesTold told status
+exact_of verb before after ran status answers told tidy tells =
+    by_cases (subst (λ (v : Option Verb). Answers v before ran status after) tidy answers) where
+      by_cases : Answers (Some Tidy) before ran status after → TidiesTold told status
       by_cases (inl memory) = (Err NoMemory, memory.0, tt)
-      by_cases (inr obeys) = told_obeyed before after trail told status tells obeys
+      by_cases (inr obeys) = told_obeyed before after ran told status tells obeys
 
 -- ---- what was read is tidied
 
@@ -125,23 +128,42 @@ tidies_unread old new read_errors.TooLarge reads =
 tidies_unread old new read_errors.NoMemory reads =
     record { result = Err NoMemory; tidies = tt; is = refl }
 
-explained_result : (before after : Outside) (trail : List Event) (status : Status)
+explained_result : (before after : Outside) (ran : Ran) (status : Status)
     (result : Result (List ℕ) TidyErr) → TidiesInput before.input result after.input →
     Emits (outcome_of result) before.out status after.out →
-    IsExplained (Some (record { verb = Tidy })) before trail status after
-explained_result before after trail status (Ok text) tidies emits =
-    explained_emit (Some (record { verb = Tidy })) before after trail status text emits
-explained_result before after trail status (Err error) tidies emits =
-    subst (λ (s : Status). IsExplained (Some (record { verb = Tidy })) before trail s after)
-    (sym emits.0) (explained_tidy before after trail error tidies)
+    IsExplained (Some Tidy) before ran status after
+explained_result before after ran status (Ok text) tidies emits =
+    explained_emit (Some Tidy) before after ran status text emits
+explained_result before after ran status (Err error) tidies emits =
+    subst (λ (s : Status). IsExplained (Some Tidy) before ran s after)
+    (sym emits.0) (explained_tidy before after ran error tidies)
 
-pub explained_tidied : (before after : Outside) (trail : List Event) (status : Status)
-    (outcome : Result (List ℕ) Status) → Tidies before.input outcome after.input →
+pub explained_tidied : (before after : Outside) (ran : Ran) (status : Status)
+    (outcome : Outcome) → Tidies before.input outcome after.input →
     Emits outcome before.out status after.out →
-    IsExplained (Some (record { verb = Tidy })) before trail status after
-explained_tidied before after trail status outcome tidies emits =
-    explained_result before after trail status tidies.result tidies.tidies
-    (subst (λ (o : Result (List ℕ) Status). Emits o before.out status after.out) tidies.is emits)
+    IsExplained (Some Tidy) before ran status after
+explained_tidied before after ran status outcome tidies emits =
+    explained_result before after ran status tidies.result tidies.tidies
+    (subst (λ (o : Outcome). Emits o before.out status after.out) tidies.is emits)
+
+pub acts_tidied : (before after : Outside) (trail : List Event) (made : List Change)
+    (status : Status) (outcome : Outcome) → trail ≡ [] → made ≡ [] →
+    after ≡ record before { input = after.input; out = after.out } →
+    Tidies before.input outcome after.input → Emits outcome before.out status after.out →
+    IsReadOf TIDY_LIMIT before.input after.input →
+    Acts (Some Tidy) before (did trail made) status after
+acts_tidied before after trail made status outcome uncalled unchanged same tidies emits read =
+    acts_quiet Tidy before after trail made status uncalled unchanged refl refl
+    (ap (λ (o : Outside). o.target) same) (ap (λ (o : Outside). o.keeper) same)
+    (record { outcome = outcome; comes = tidies; emits = emits })
+    (explained_tidied before after (did [] []) status outcome tidies emits)
+    (record {
+      input = read;
+      target = (refl, ap (λ (o : Outside). o.target) same);
+      tables = (refl, ap (λ (o : Outside). o.keeper) same);
+      clock = ap (λ (o : Outside). o.clock) same;
+      random = ap (λ (o : Outside). o.entropy) same;
+    })
 
 -- ---- bytes
 

@@ -1,6 +1,6 @@
-pub mod Commands
 pub mod Outside
 pub mod Pieces
-pub mod Run
-pub mod Statuses
 pub mod Words
+pub mod Statuses
+pub mod Commands
+pub mod Run

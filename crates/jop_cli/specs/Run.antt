@@ -1,27 +1,39 @@
 -- What a run of the program comes to.
-use Rattle.std.specs.Prelude.{ℕ, ◌+◌, ◌≤◌, ◌≡◌, ◌⊎◌, List, [], ◌∷◌, ◌++◌, true, false}
-use Rattle.std.specs.Prelude.{Option, Some, None, Ok, Err}
+use Rattle.std.specs.Prelude.{ℕ, ◌+◌, ◌≤◌, ◌≡◌, ◌⊎◌, List, [], ◌∷◌, ◌++◌, All, Bool, true, false}
+use Rattle.std.specs.Prelude.{Option, Some, None, Ok, Err, option_map}
 use Rattle.jop_base.specs.Outside.{HasRisen, SinkNow, SourceNow}
-use Rattle.jop_base.specs.Reading.{IsRestOf, WasTooLarge}
+use Rattle.jop_base.specs.Reading.{WasTooLarge}
 use Rattle.jop_base.specs.Writing.{WasCut, WasWritten}
 use Rattle.jop_base.specs.declared.lock_name.LockKind.{LockKind}
 use Rattle.jop_target.specs.declared.event.Event.{Event}
-use Rattle.jop_target.specs.declared.event.Event.TheVariants.{Began, Ended}
+use Rattle.jop_target.specs.declared.event.Event.TheVariants.{Began, Ended, Made}
 use Rattle.jop_target.specs.Runs.{TellsRun, has_failed}
 use Rattle.jop_target.specs.Replies.{TargetNow}
-use Rattle.jop_cli.specs.Commands.{ComesTo, Outcome, Session, Uses, used}
-use Rattle.jop_cli.specs.Commands.Tidy.{IsFaulty, StandsFor, IsAnswerTo}
-use Rattle.jop_cli.specs.Outside.{Outside}
-use Rattle.jop_cli.specs.Statuses.{is_early, is_refusal, row_of}
-use Rattle.jop_cli.specs.declared.command.Command.{Command}
-use Rattle.jop_cli.specs.declared.command.Verb.{Verb}
-use Rattle.jop_cli.specs.declared.command.Verb.TheVariants as verbs
-use Rattle.jop_cli.specs.declared.status.Status.{Status}
-use Rattle.jop_cli.specs.declared.status.Status.TheVariants as statuses
 use Rattle.lease.specs.Outcomes.{HasMissed, IsBlocked}
 use Rattle.lease.specs.Phase.{Phase}
 use Rattle.lease.specs.declared.error.Seen.{Seen}
 use Rattle.lease.specs.declared.lock.Lock.{Lock}
+use Rattle.local_commands.specs.Following.{numbered}
+use Rattle.local_commands.specs.Keeping.{Act, changes_in, kept_after_all}
+use Rattle.local_commands.specs.Sparing.{SparesClock, SparesInput, SparesRandom}
+use Rattle.local_commands.specs.declared.local_command.LocalCommand.{LocalCommand}
+use Rattle.local_commands.specs.declared.local_err.LocalErr.{LocalErr}
+use Rattle.local_commands.specs.declared.local_err.LocalErr.TheVariants.{NotFound, Sealed, TimeEnd, TooLarge, NoConflict, NotEmpty, NotText}
+use Rattle.local_store.specs.Changing.{after_all}
+use Rattle.local_store.specs.Keepers.{KeeperNow, Kept}
+use Rattle.local_store.specs.declared.change.Change.{Change}
+use Rattle.sync_run.specs.Outcomes.{ReadsBadInfo, ReadsNewer}
+use Rattle.sync_run.specs.Upgrades.{HasLeft}
+use Rattle.jop_cli.specs.Commands.{ComesTo, Uses, used}
+use Rattle.jop_cli.specs.Commands.Local.{RunsLocally}
+use Rattle.jop_cli.specs.Commands.Sessions.{IsClientOf, KeepsLease, Outcome, Session}
+use Rattle.jop_cli.specs.Commands.Tidy.{IsFaulty, StandsFor, IsAnswerTo}
+use Rattle.jop_cli.specs.Outside.{Outside, Ran}
+use Rattle.jop_cli.specs.Statuses.{is_early, is_refusal, row_of}
+use Rattle.jop_cli.specs.declared.command.Verb.{Verb}
+use Rattle.jop_cli.specs.declared.command.Verb.TheVariants as verbs
+use Rattle.jop_cli.specs.declared.status.Status.{Status}
+use Rattle.jop_cli.specs.declared.status.Status.TheVariants as statuses
 
 -- ---- what is done
 
@@ -35,47 +47,46 @@ Emits (Err error) before status after =
     (status ≡ error) × (is_early error ≡ true) × (after ≡ before)
 
 -- a command came to something, and that was printed
-pub record Obeys (verb : Verb) (before : Outside) (trail : List Event) (status : Status)
-    (after : Outside) : Type 0 where
+pub record Obeys (verb : Verb) (before : Outside) (ran : Ran) (status : Status) (after : Outside)
+    : Type 0 where
   pub outcome : Outcome
-  pub comes : ComesTo verb before trail outcome after
+  pub comes : ComesTo verb before ran outcome after
   pub emits : Emits outcome before.out status after.out
 
--- no call was made, and all is as it was
-pub record IsIdle (before : Outside) (trail : List Event) (after : Outside) : Type 0 where
-  pub uncalled : trail ≡ []
+-- nothing was called or changed, and all is as it was
+pub record IsIdle (before : Outside) (ran : Ran) (after : Outside) : Type 0 where
+  pub uncalled : ran.trail ≡ []
+  pub unchanged : ran.made ≡ []
   pub same : after ≡ before
 
 -- Words that mean nothing do nothing; those of a command are obeyed, unless there is no memory to
 -- read them.
-abbrev pub Answers : Option Command → Outside → List Event → Status → Outside → Type 0
-Answers None before trail status after =
-    ((status ≡ statuses.Usage) ⊎ (status ≡ statuses.NoMemory)) × IsIdle before trail after
-Answers (Some command) before trail status after =
-    ((status ≡ statuses.NoMemory) × IsIdle before trail after)
-    ⊎ Obeys command.verb before trail status after
+abbrev pub Answers : Option Verb → Outside → Ran → Status → Outside → Type 0
+Answers None before ran status after =
+    ((status ≡ statuses.Usage) ⊎ (status ≡ statuses.NoMemory)) × IsIdle before ran after
+Answers (Some verb) before ran status after =
+    ((status ≡ statuses.NoMemory) × IsIdle before ran after) ⊎ Obeys verb before ran status after
 
 -- ---- what is left alone
 
--- no more than the limit and a byte was read, and the count of faults didn't fall
-pub record IsReadOf (limit : ℕ) (before after : SourceNow) : Type 0 where
-  pub later : before.faults ≤ after.faults
-  pub rest : IsRestOf limit before.left after.left
+-- Without a session no call is made: the trail has the numbers of the changes and nothing else, and
+-- the target is as it was.
+abbrev pub LeavesTarget : Option Session → TargetNow → Ran → TargetNow → Type 0
+LeavesTarget None before ran after = (ran.trail ≡ numbered 0 ran.made) × (after ≡ before)
+LeavesTarget (Some session) before ran after = Unit {0}
 
--- an input that isn't used is as it was; of any other no more than its limit and a byte was read
-abbrev pub LeavesInput : Option ℕ → SourceNow → SourceNow → Type 0
-LeavesInput None before after = after ≡ before
-LeavesInput (Some limit) before after = IsReadOf limit before after
+-- tables that aren't used are as they were, and nothing is asked of their keeper
+abbrev pub LeavesTables : Bool → KeeperNow → List Change → KeeperNow → Type 0
+LeavesTables false before made after = (made ≡ []) × (after ≡ before)
+LeavesTables true before made after = Unit {0}
 
--- without a session no call is made, and the target is as it was
-abbrev pub LeavesTarget : Option Session → TargetNow → List Event → TargetNow → Type 0
-LeavesTarget None before trail after = (trail ≡ []) × (after ≡ before)
-LeavesTarget (Some session) before trail after = Unit {0}
-
-pub record LeavesAlone (uses : Uses) (before : Outside) (trail : List Event) (after : Outside)
+pub record LeavesAlone (uses : Uses) (before : Outside) (ran : Ran) (after : Outside)
     : Type 0 where
-  pub input : LeavesInput uses.input before.input after.input
-  pub target : LeavesTarget uses.session before.target trail after.target
+  pub input : SparesInput uses.input before.input after.input
+  pub target : LeavesTarget uses.session before.target ran after.target
+  pub tables : LeavesTables uses.tables before.keeper ran.made after.keeper
+  pub clock : SparesClock uses.clock before.clock after.clock
+  pub random : SparesRandom uses.random before.entropy after.entropy
 
 -- The calls of the trail, and no others, were made on this target; its count has risen if one failed,
 -- and stays if none did.
@@ -85,32 +96,50 @@ pub record UsesTarget (before : TargetNow) (trail : List Event) (after : TargetN
   pub stays : has_failed trail ≡ false → after.faults ≡ before.faults
   pub told : TellsRun before.store trail after.store
 
+-- ---- tables
+
+-- what is kept after a list of changes, the first one first; the bytes of resources stay
+abbrev pub with_changes : List Change → Kept → Kept
+with_changes made kept = record kept { tables = after_all kept.tables made }
+
+-- the same acts, but the bytes of resources that are saved among them, are the changes that were made
+pub record KeepsActs (before : KeeperNow) (made : List Change) (after : KeeperNow) : Type 0 where
+  pub acts : List Act
+  pub changes : made ≡ changes_in acts
+  pub kept : after.kept ≡ option_map (kept_after_all acts) before.kept
+
+-- The tables, if they are told, are those before with the changes that were made, in their order; the
+-- bytes of resources are as they were, but of a command that saves some.
+abbrev pub KeepsChanges : Bool → KeeperNow → List Change → KeeperNow → Type 0
+KeepsChanges false before made after = after.kept ≡ option_map (with_changes made) before.kept
+KeepsChanges true before made after = KeepsActs before made after
+
 -- ---- sessions
 
--- the command begins a session of this kind, for this client
-abbrev pub SessionFor : Option Command → LockKind → List ℕ → Type 0
-SessionFor command kind client =
-    (used command).session ≡ Some (record { kind = kind; client = client })
+abbrev pub IsChange : Event → Type 0
+IsChange (Made number) = Unit {0}
+IsChange event = ⊥
 
--- the trail is one session, whose last answer told of a lock in its way
-pub record WasBlocked (command : Option Command) (trail : List Event) (lock : Lock) (now : ℕ)
-    : Type 0 where
-  pub kind : LockKind
-  pub client : List ℕ
-  pub for : SessionFor command kind client
-  pub calls : List Event
-  pub whole : trail ≡ Began ∷ (calls ++ Ended ∷ [])
-  pub blocked : IsBlocked kind client (Began ∷ calls) lock now
+-- a trail in which nothing is called: only changes are made
+abbrev pub IsUncalled : List Event → Type 0
+IsUncalled trail = All IsChange trail
 
--- the trail is one session, whose lock wasn't shown in time
-pub record HasLost (command : Option Command) (trail : List Event) (seen : Seen) : Type 0 where
-  pub kind : LockKind
+-- the trail is changes, and then one session of the client, which keeps what a lease promises
+pub record RunsSession (session : Session) (keeper : KeeperNow) (trail : List Event)
+    (status : Status) : Type 0 where
   pub client : List ℕ
-  pub for : SessionFor command kind client
-  pub calls : List Event
-  pub whole : trail ≡ Began ∷ (calls ++ Ended ∷ [])
-  pub at : Phase
-  pub missed : HasMissed kind client at (Began ∷ calls) seen
+  pub of : IsClientOf session.client keeper client
+  pub before : List Event
+  pub changes : IsUncalled before
+  pub events : List Event
+  pub trail_is : trail ≡ before ++ events
+  pub keeps : KeepsLease session.kind client events status
+
+-- nothing is called, but in the one session of a command that has one
+abbrev pub Sessions : Option Session → KeeperNow → List Event → Status → Type 0
+Sessions None keeper trail status = IsUncalled trail
+Sessions (Some session) keeper trail status =
+    IsUncalled trail ⊎ RunsSession session keeper trail status
 
 -- ---- why it ends so
 
@@ -119,38 +148,101 @@ abbrev pub HasFailed : TargetNow → List Event → TargetNow → Type 0
 HasFailed before trail after = (has_failed trail ≡ true) × HasRisen before.faults after.faults
 
 -- the command reads the input, which is past its limit; the number is the limit and one
-pub record IsTooLong (command : Option Command) (before : SourceNow) (number : ℕ) (after : SourceNow)
+pub record IsTooLong (verb : Option Verb) (before : SourceNow) (number : ℕ) (after : SourceNow)
     : Type 0 where
   pub limit : ℕ
-  pub uses : (used command).input ≡ Some limit
+  pub uses : (used verb).input ≡ Some limit
   pub past : WasTooLarge limit before after
   pub is : number ≡ limit + 1
 
-abbrev pub IsTidy : Option Command → Type 0
-IsTidy command = command ≡ Some (record { verb = verbs.Tidy })
+-- the command is one on the tables, and is refused so
+pub record IsRefusedLocally (verb : Option Verb) (before : Outside) (ran : Ran) (refusal : LocalErr)
+    (after : Outside) : Type 0 where
+  pub command : LocalCommand
+  pub is : verb ≡ Some (verbs.Local command)
+  pub runs : RunsLocally command before ran (Err refusal) after
+
+-- The trail ends with one session, whole, of the client that the command has; its calls came to this
+-- before it ended.
+pub record HasEnded (verb : Option Verb) (keeper : KeeperNow) (trail : List Event)
+    (Came : LockKind → List ℕ → List Event → Type 0) : Type 0 where
+  pub session : Session
+  pub uses : (used verb).session ≡ Some session
+  pub client : List ℕ
+  pub of : IsClientOf session.client keeper client
+  pub before : List Event
+  pub changes : IsUncalled before
+  pub calls : List Event
+  pub whole : trail ≡ before ++ Began ∷ (calls ++ Ended ∷ [])
+  pub came : Came session.kind client (before ++ Began ∷ calls)
+
+-- the last answer told of a lock in its way
+abbrev pub WasBlocked : Option Verb → KeeperNow → List Event → Lock → ℕ → Type 0
+WasBlocked verb keeper trail lock now =
+    HasEnded verb keeper trail (λ kind client events. IsBlocked kind client events lock now)
+
+-- its lock wasn't shown in time, or was renewed too late
+abbrev pub HasLost : Option Verb → KeeperNow → List Event → Seen → Type 0
+HasLost verb keeper trail seen =
+    HasEnded verb keeper trail
+    (λ kind client events. (at : Phase) × HasMissed kind client at events seen)
+
+-- it left the lease under which it last got an info of this version, which is newer than 3
+abbrev pub HasReadNewer : Option Verb → KeeperNow → List Event → ℕ → Type 0
+HasReadNewer verb keeper trail version =
+    HasEnded verb keeper trail
+    (λ kind client events. HasLeft client events (λ held. ReadsNewer held version))
+
+-- it left the lease under which it last got an `info.json` that is too large or holds no info
+abbrev pub HasReadBadInfo : Option Verb → KeeperNow → List Event → Type 0
+HasReadBadInfo verb keeper trail =
+    HasEnded verb keeper trail (λ kind client events. HasLeft client events ReadsBadInfo)
 
 -- a row for each status: its cause
-abbrev pub IsExplained : Option Command → Outside → List Event → Status → Outside → Type 0
-IsExplained command before trail statuses.Ok after = Unit {0}
-IsExplained command before trail statuses.Usage after = command ≡ None
-IsExplained command before trail (statuses.Busy lock now) after = WasBlocked command trail lock now
-IsExplained command before trail (statuses.LeaseLost seen) after = HasLost command trail seen
-IsExplained command before trail statuses.TargetFault after =
-    HasFailed before.target trail after.target
-IsExplained command before trail statuses.SourceFault after =
+abbrev pub IsExplained : Option Verb → Outside → Ran → Status → Outside → Type 0
+IsExplained verb before ran statuses.Ok after = Unit {0}
+IsExplained verb before ran statuses.Usage after = verb ≡ None
+IsExplained verb before ran (statuses.Busy lock now) after =
+    WasBlocked verb after.keeper ran.trail lock now
+IsExplained verb before ran (statuses.LeaseLost seen) after =
+    HasLost verb after.keeper ran.trail seen
+IsExplained verb before ran (statuses.TargetNewer version) after =
+    HasReadNewer verb after.keeper ran.trail version
+IsExplained verb before ran statuses.BadInfo after = HasReadBadInfo verb after.keeper ran.trail
+IsExplained verb before ran statuses.TargetFault after =
+    HasFailed before.target ran.trail after.target
+IsExplained verb before ran statuses.KeeperFault after =
+    HasRisen before.keeper.faults after.keeper.faults
+IsExplained verb before ran statuses.SourceFault after =
     HasRisen before.input.faults after.input.faults
-IsExplained command before trail statuses.SinkFault after =
-    HasRisen before.out.faults after.out.faults
-IsExplained command before trail (statuses.TooLarge number) after =
-    IsTooLong command before.input number after.input
-IsExplained command before trail (statuses.BadItem bad) after =
-    IsTidy command × IsFaulty before.input after.input bad
-IsExplained command before trail statuses.NoMemory after = Unit {0}
+IsExplained verb before ran statuses.SinkFault after = HasRisen before.out.faults after.out.faults
+IsExplained verb before ran statuses.ClockFault after =
+    HasRisen before.clock.faults after.clock.faults
+IsExplained verb before ran statuses.EntropyFault after =
+    HasRisen before.entropy.faults after.entropy.faults
+IsExplained verb before ran (statuses.NotFound id) after =
+    IsRefusedLocally verb before ran (NotFound id) after
+IsExplained verb before ran (statuses.Sealed id) after =
+    IsRefusedLocally verb before ran (Sealed id) after
+IsExplained verb before ran (statuses.TimeEnd id) after =
+    IsRefusedLocally verb before ran (TimeEnd id) after
+IsExplained verb before ran (statuses.TooLarge number) after =
+    IsTooLong verb before.input number after.input
+    ⊎ IsRefusedLocally verb before ran (TooLarge number) after
+IsExplained verb before ran (statuses.BadItem bad) after =
+    (verb ≡ Some verbs.Tidy) × IsFaulty before.input after.input bad
+IsExplained verb before ran statuses.NoMemory after = Unit {0}
+IsExplained verb before ran (statuses.NoConflict number) after =
+    IsRefusedLocally verb before ran (NoConflict number) after
+IsExplained verb before ran (statuses.NotEmpty id) after =
+    IsRefusedLocally verb before ran (NotEmpty id) after
+IsExplained verb before ran statuses.NotText after =
+    IsRefusedLocally verb before ran NotText after
 
 -- no refusal has its cause
-abbrev pub HasNoCause : Option Command → Outside → List Event → Outside → Type 0
-HasNoCause command before trail after =
-    (status : Status) → is_refusal status ≡ true → ¬ IsExplained command before trail status after
+abbrev pub HasNoCause : Option Verb → Outside → Ran → Outside → Type 0
+HasNoCause verb before ran after =
+    (status : Status) → is_refusal status ≡ true → ¬ IsExplained verb before ran status after
 
 -- ---- an input that tells its bytes
 
@@ -158,22 +250,36 @@ HasNoCause command before trail after =
 abbrev pub TidiesTold : List ℕ → Status → Type 0
 TidiesTold bytes status = (result : _) × StandsFor result status × IsAnswerTo bytes result
 
+-- ---- what is refused before anything is saved
+
+-- a refusal that may come when something has been saved: the keeper's, out of memory, and the output's
+abbrev pub may_be_late : Status → Bool
+may_be_late statuses.Ok = true
+may_be_late statuses.KeeperFault = true
+may_be_late statuses.SinkFault = true
+may_be_late statuses.NoMemory = true
+may_be_late status = false
+
+-- nothing was saved, and nothing is written down
+pub record IsUnsaved (before : Outside) (ran : Ran) (after : Outside) : Type 0 where
+  pub same : after.keeper ≡ before.keeper
+  pub unchanged : ran.made ≡ []
+  pub uncalled : ran.trail ≡ []
+
 -- ---- what is printed
 
-abbrev pub ComesToText : Option Command → Outside → List Event → List ℕ → Outside → Type 0
-ComesToText command before trail text after =
-    (c : Command) × (command ≡ Some c) × ComesTo c.verb before trail (Ok text) after
+abbrev pub ComesToText : Option Verb → Outside → Ran → List ℕ → Outside → Type 0
+ComesToText verb before ran text after =
+    (v : Verb) × (verb ≡ Some v) × ComesTo v before ran (Ok text) after
 
 -- When all went well the command's text stands on standard output, and nothing more; after a failed
 -- write a prefix of it; else nothing.
-abbrev pub Prints : Option Command → Outside → List Event → Status → Outside → Type 0
-Prints command before trail statuses.Ok after =
-    (text : List ℕ) × ComesToText command before trail text after
-    × WasWritten before.out text after.out
-Prints command before trail statuses.SinkFault after =
-    (text : List ℕ) × ComesToText command before trail text after
-    × WasCut before.out text after.out
-Prints command before trail status after = after.out ≡ before.out
+abbrev pub Prints : Option Verb → Outside → Ran → Status → Outside → Type 0
+Prints verb before ran statuses.Ok after =
+    (text : List ℕ) × ComesToText verb before ran text after × WasWritten before.out text after.out
+Prints verb before ran statuses.SinkFault after =
+    (text : List ℕ) × ComesToText verb before ran text after × WasCut before.out text after.out
+Prints verb before ran status after = after.out ≡ before.out
 
 -- this text stands in a sink, or a prefix of it if the sink has failed
 abbrev pub WritesLine : SinkNow → List ℕ → SinkNow → Type 0
@@ -182,3 +288,42 @@ WritesLine before line after = WasWritten before line after ⊎ WasCut before li
 -- the line of the status stands on standard error, or a prefix of it if that has failed
 abbrev pub Reports : SinkNow → Status → SinkNow → Type 0
 Reports before status after = WritesLine before (row_of status).line after
+
+-- ---- the whole
+
+-- what was done, and what it used
+pub record Acts (verb : Option Verb) (before : Outside) (ran : Ran) (status : Status)
+    (after : Outside) : Type 0 where
+  pub answers : Answers verb before ran status after
+  pub explained : IsExplained verb before ran status after
+  pub sessions : Sessions (used verb).session after.keeper ran.trail status
+  pub tables : KeepsChanges (used verb).bytes before.keeper ran.made after.keeper
+  pub target : UsesTarget before.target ran.trail after.target
+  pub alone : LeavesAlone (used verb) before ran after
+
+-- What a run is promised to do, whatever the outside answers.
+pub record Does (verb : Option Verb) (before : Outside) (ran : Ran) (status : Status)
+    (after : Outside) : Type 0 where
+  -- what was done
+  pub answers : Answers verb before ran status after
+  -- the cause of its end
+  pub explained : IsExplained verb before ran status after
+  -- without a cause for a refusal it went well, or memory ran out
+  pub complete : HasNoCause verb before ran after →
+      (status ≡ statuses.Ok) ⊎ (status ≡ statuses.NoMemory)
+  -- `tidy` of an input that tells its bytes
+  pub exact : (bytes : List ℕ) → verb ≡ Some verbs.Tidy → before.input.left ≡ Some bytes →
+      TidiesTold bytes status
+  -- a command on the tables that is refused before it saves anything leaves them and the bytes of
+  -- resources as they were
+  pub unsaved : (command : LocalCommand) → verb ≡ Some (verbs.Local command) →
+      may_be_late status ≡ false → IsUnsaved before ran after
+  -- its session keeps its lease, in every history of all clients
+  pub sessions : Sessions (used verb).session after.keeper ran.trail status
+  -- the tables at exit are those at entry with the changes that were made
+  pub tables : KeepsChanges (used verb).bytes before.keeper ran.made after.keeper
+  -- what is used of the outside, and what is left alone
+  pub target : UsesTarget before.target ran.trail after.target
+  pub alone : LeavesAlone (used verb) before ran after
+  -- what is printed
+  pub out : Prints verb before ran status after

@@ -32,13 +32,26 @@ row_of statuses.Usage = row 2 usage_line
 row_of (statuses.Busy lock now) =
     row 3 (line_of (codes "busy " ++ (file_name lock.name ++ (codes " " ++ decimal lock.stamp))))
 row_of (statuses.LeaseLost seen) = row 4 (line_of (codes "lease lost"))
+row_of (statuses.TargetNewer version) =
+    row 6 (line_of (codes "target version " ++ (decimal version ++ codes " is newer than 3")))
+row_of statuses.BadInfo = row 7 (line_of (codes "info.json is not readable"))
 row_of statuses.TargetFault = row 9 (line_of (codes "target fault"))
+row_of statuses.KeeperFault = row 10 (line_of (codes "keeper fault"))
 row_of statuses.SourceFault = row 11 (line_of (codes "input fault"))
 row_of statuses.SinkFault = row 12 (line_of (codes "output fault"))
+row_of statuses.ClockFault = row 13 (line_of (codes "clock fault"))
+row_of statuses.EntropyFault = row 14 (line_of (codes "random source fault"))
+row_of (statuses.NotFound id) = row 15 (line_of (codes "not found " ++ id))
+row_of (statuses.Sealed id) = row 16 (line_of (codes "sealed " ++ id))
+row_of (statuses.TimeEnd id) = row 17 (line_of (codes "time end " ++ id))
 row_of (statuses.TooLarge length) = row 18 (line_of (codes "too large " ++ decimal length))
 row_of (statuses.BadItem bad) =
     row 21 (line_of (codes "bad item line " ++ (decimal bad.line ++ (codes " " ++ why_text bad.why))))
 row_of statuses.NoMemory = row 22 (line_of (codes "no memory"))
+row_of (statuses.NoConflict number) =
+    row 23 (line_of (codes "no conflict " ++ decimal number))
+row_of (statuses.NotEmpty id) = row 24 (line_of (codes "not empty " ++ id))
+row_of statuses.NotText = row 25 (line_of (codes "input is not text"))
 
 -- whether a status says why the words were not done
 abbrev pub is_refusal : Status → Bool

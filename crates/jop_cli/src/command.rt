@@ -1,18 +1,27 @@
-ghost use Rattle.std.specs.Prelude.{◌≡◌, None, Some, IfOk};
-ghost use Rattle.jop_cli.specs.Commands.{command_of, target_in, target_words, verb_of};
+ghost use Rattle.std.specs.Prelude.{◌≡◌, None, Some, IfOk, option_map};
+ghost use Rattle.jop_cli.specs.Commands.{command_of, profile_at, profile_words};
+ghost use Rattle.jop_cli.specs.Commands.Local.{local_words};
+ghost use Rattle.jop_cli.specs.declared.command.Verb.TheVariants as verbs;
+ghost use Rattle.jop_cli.specs.Commands.{target_in, target_words, uses, verb_of, with_profile};
 
 pub(crate) mod check;
 pub(crate) mod help;
+pub(crate) mod local;
 pub(crate) mod tidy;
+pub(crate) mod upgrade;
 
+use crate::profile::Profile;
 use crate::target_name::TargetName;
 use crate::words::Words;
-use jop_base::{ClientId, Text};
+use jop_base::{ClientId, Copied, Text};
+use local_commands::LocalCommand;
 use std::alloc::{AllocError, Global};
 
 /// What the words on the command line mean.
 #[derive(Debug, Drop)]
 pub struct Command {
+    /// The file that keeps the tables, if the words name one.
+    pub profile: Option<Text>,
     pub verb: Verb,
 }
 
@@ -25,8 +34,14 @@ pub enum Verb {
     },
     /// Prints how the program is called.
     Help,
+    /// Works on this machine's own tables.
+    Local(LocalCommand),
     /// Reads the text of an item from the input and prints its canonical text.
     Tidy,
+    /// Brings the target to the supported version.
+    Upgrade {
+        target: TargetName,
+    },
 }
 
 /// Why words are no command.
@@ -47,15 +62,49 @@ impl From<AllocError> for WordsErr {
     }
 }
 
-/// What the words mean. `Usage` exactly when they mean nothing: accepted are `help` alone, `tidy` alone, and
-/// `check TARGET CLIENT`, in which TARGET is `mem:` or `dir:PATH` with a path that isn't empty, and CLIENT is an id.
+/// What the words mean. `Usage` exactly when they mean nothing. Accepted are, each word at its place:
+///
+/// - `help`; `tidy`; `check TARGET CLIENT`; `upgrade TARGET`;
+/// - `add BOOK TITLE`; `attach NAME MIME`; `cat ID`; `conflicts`; `conflicts --clear N`; `edit ID`;
+///   `edit ID --title TITLE`; `ls`; `ls BOOK`; `mkbook TITLE`; `mkbook TITLE --in BOOK`; `rm ID`;
+///   `tag ID TITLE`.
+///
+/// TARGET is `mem:`, `dir:PATH` with a path that isn't empty, or `dav:URL` with a URL that names a
+/// server. BOOK, CLIENT and ID are ids. TITLE, NAME and MIME have no line feed or carriage return, and
+/// MIME has no blanks at its ends. N is 1 to 20 decimal digits, below 2^64. `--profile PATH` may stand
+/// before each.
 pub fn read_words(alloc: Global, words: &Words) -> Result<Command, WordsErr>
     ensures ok { IfOk result (λ command. command_of words.now.list ≡ Some command) }
     ensures usage { result ≡ Err WordsErr.Usage → command_of words.now.list ≡ None }
 {
-    match read_verb(alloc, words.list.as_slice())? {
-        Some(verb) => Ok(Command { verb }),
+    match read_command(alloc, words.list.as_slice())? {
+        Some(command) => Ok(command),
         None => Err(WordsErr::Usage),
+    }
+}
+
+fn read_command(alloc: Global, words: &[Text]) -> Result<Option<Command>, AllocError>
+    ensures { IfOk result (λ command. command ≡ command_of words.now) }
+{
+    match words {
+        [option, path, words @ ..] if option.as_str() == "--profile" => {
+            read_with(alloc, Some(path.copy(alloc)?), words)
+        }
+        words => read_with(alloc, None, words),
+    }
+}
+
+/// The command of this profile that words mean.
+fn read_with(
+    alloc: Global,
+    profile: Option<Text>,
+    words: &[Text],
+) -> Result<Option<Command>, AllocError>
+    ensures { IfOk result (λ command. command ≡ with_profile profile (verb_of words.now)) }
+{
+    match read_verb(alloc, words)? {
+        Some(verb) => Ok(Some(Command { profile, verb })),
+        None => Ok(None),
     }
 }
 
@@ -70,7 +119,18 @@ fn read_verb(alloc: Global, words: &[Text]) -> Result<Option<Verb>, AllocError>
         "check" => check::read(alloc, words),
         "help" => Ok(help::read(words)),
         "tidy" => Ok(tidy::read(words)),
-        _ => Ok(None),
+        "upgrade" => upgrade::read(alloc, words),
+        _ => read_local(alloc, word, words),
+    }
+}
+
+fn read_local(alloc: Global, word: &Text, words: &[Text]) -> Result<Option<Verb>, AllocError>
+    ensures { IfOk result
+        (λ verb. verb ≡ option_map verbs.Local (local_words word.now words.now)) }
+{
+    match local::read(alloc, word, words)? {
+        Some(command) => Ok(Some(Verb::Local(command))),
+        None => Ok(None),
     }
 }
 
@@ -91,6 +151,37 @@ fn target_in(verb: Verb) -> Option<TargetName>
 {
     match verb {
         Verb::Check { target, client: _ } => Some(target),
+        Verb::Upgrade { target } => Some(target),
         _ => None,
+    }
+}
+
+/// Where the tables are kept: for words of a command that uses them, the file that they name, or
+/// `jop.sqlite`; nowhere for `:memory:` and for all other words.
+pub fn profile_words(alloc: Global, words: &Words) -> Result<Profile, AllocError>
+    ensures { IfOk result (λ profile. profile ≡ profile_words words.now.list) }
+{
+    match read_words(alloc, words) {
+        Ok(command) if uses_tables(&command.verb) => profile_at(alloc, command.profile),
+        Ok(_) => Ok(Profile::Memory),
+        Err(WordsErr::Usage) => Ok(Profile::Memory),
+        Err(WordsErr::NoMemory) => Err(AllocError),
+    }
+}
+
+fn uses_tables(verb: &Verb) -> bool
+    ensures { result ≡ (uses verb.now).tables }
+{
+    matches!(verb, Verb::Local(_) | Verb::Upgrade { target: _ })
+}
+
+/// The file of a path, or that of the default.
+fn profile_at(alloc: Global, path: Option<Text>) -> Result<Profile, AllocError>
+    ensures { IfOk result (λ profile. profile ≡ profile_at path) }
+{
+    match path {
+        Some(path) if path.as_str() == ":memory:" => Ok(Profile::Memory),
+        Some(path) => Ok(Profile::File(path)),
+        None => Ok(Profile::File(Text::of(alloc, "jop.sqlite")?)),
     }
 }

@@ -1,11 +1,14 @@
 ghost use Rattle.std.specs.Prelude.{◌++◌, Ok};
 ghost use Rattle.jop_base.specs.Writing.{WritesAll};
+ghost use Rattle.local_commands.specs.Lines.{printed_text};
+ghost use Rattle.jop_cli.specs.Commands.Upgrade.{version_line};
 ghost use Rattle.jop_cli.specs.Pieces.{pieces_text};
 ghost use Rattle.jop_cli.specs.Run.{Emits};
 
 use crate::piece::{Piece, write_pieces};
 use crate::status::Status;
 use jop_base::{Failed, Sink, write_whole};
+use local_commands::Printed;
 
 /// Prints the text that a command came to.
 pub(crate) fn emit<O: Sink>(out: &mut O, pieces: &[Piece]) -> Status
@@ -14,6 +17,31 @@ pub(crate) fn emit<O: Sink>(out: &mut O, pieces: &[Piece]) -> Status
     match write_pieces(out, pieces) {
         Ok(()) => Status::Ok,
         Err(_) => Status::SinkFault,
+    }
+}
+
+/// Prints the version that a target has now.
+pub(crate) fn emit_version<O: Sink>(out: &mut O, version: u64) -> Status
+    ensures { Emits (Ok (version_line version)) (O.state out.old) result (O.state out.new) }
+{
+    emit(
+        out,
+        &[
+            Piece::Word("version "),
+            Piece::Number(version),
+            Piece::Word("\n"),
+        ],
+    )
+}
+
+/// Prints what a command on the tables came to.
+pub(crate) fn emit_printed<O: Sink>(out: &mut O, printed: &Printed) -> Status
+    ensures { Emits (Ok (printed_text printed.now)) (O.state out.old) result (O.state out.new) }
+{
+    match printed {
+        Printed::Nothing => emit(out, &[]),
+        Printed::Id(id) => emit(out, &[Piece::Id(*id), Piece::Word("\n")]),
+        Printed::Text(text) => emit(out, &[Piece::Bytes(text.as_slice())]),
     }
 }
 

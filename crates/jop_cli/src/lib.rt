@@ -7,17 +7,16 @@
 mod command;
 mod emit;
 mod piece;
+mod profile;
 mod program;
 mod report;
-mod session_err;
 mod status;
 mod target_name;
 mod words;
 
-pub use command::check::check_on;
-pub use command::{Command, Verb, WordsErr, read_words, target_words};
+pub use command::{Command, Verb, WordsErr, profile_words, read_words, target_words};
+pub use profile::Profile;
 pub use program::run;
-pub use session_err::SessionErr;
 pub use status::Status;
 pub use target_name::{TargetKind, TargetName};
 pub use words::Words;

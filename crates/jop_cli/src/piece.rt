@@ -3,14 +3,16 @@ ghost use Rattle.jop_base.specs.Writing.{WritesAll};
 ghost use Rattle.jop_cli.specs.Pieces.{piece_text, pieces_text};
 
 use itoa::Buffer;
-use jop_base::{Failed, LockName, Sink, write_parts, write_whole};
+use jop_base::{Failed, Id, LockName, Sink, write_parts, write_whole};
 
 /// A part of a text. Texts that are written piece by piece take no memory.
 #[derive(Clone, Copy)]
 pub(crate) enum Piece<'a> {
     Word(&'a str),
+    Bytes(&'a [u8]),
     /// In decimal digits.
     Number(u64),
+    Id(Id),
     /// The name of a lock's file.
     Name(LockName),
 }
@@ -30,6 +32,8 @@ fn write_piece<S: Sink>(sink: &mut S, piece: &Piece) -> Result<(), Failed>
 {
     match piece {
         Piece::Word(text) => write_whole(sink, text.as_bytes()),
+        Piece::Bytes(bytes) => write_whole(sink, bytes),
+        Piece::Id(id) => write_whole(sink, id.as_str().as_bytes()),
         Piece::Number(number) => write_whole(sink, Buffer::new().format(*number).as_bytes()),
         Piece::Name(name) => write_name(sink, name),
     }

@@ -1,157 +1,118 @@
-ghost use Rattle.std.specs.Prelude.{◌≡◌, ◌⊎◌, [], ℕ, List, Some};
-ghost use Rattle.jop_base.specs.declared.lock_name.LockKind.{LockKind};
-ghost use Rattle.lease.specs.Blocked.{NamesALiveLock};
-ghost use Rattle.lease.specs.Discipline.{ObeysLocks};
-ghost use Rattle.lease.specs.Exclusion.{KeepsApart};
-ghost use Rattle.lease.specs.declared.lock.Lock.{Lock};
-ghost use Rattle.jop_cli.specs.Commands.{command_of, used, uses};
-ghost use Rattle.jop_cli.specs.Outside.{seen};
-ghost use Rattle.jop_cli.specs.Run.{Answers, HasNoCause, IsExplained, LeavesAlone, Obeys};
-ghost use Rattle.jop_cli.specs.Run.{IsTidy, Prints, Reports, SessionFor, TidiesTold, UsesTarget};
+ghost use Rattle.std.specs.Prelude.{◌≡◌, [], Some};
+ghost use Rattle.jop_cli.specs.Commands.{IsFit, meant};
+ghost use Rattle.jop_cli.specs.Outside.{did, seen};
+ghost use Rattle.jop_cli.specs.Run.{Acts, Does, Reports};
 
-use crate::command::check::{FREE_LINE, check_on};
+use crate::command::check::FREE_LINE;
 use crate::command::help::USAGE_LINE;
 use crate::command::tidy::tidy;
+use crate::command::upgrade::upgrade;
 use crate::command::{Verb, WordsErr, read_words};
-use crate::emit::emit;
+use crate::emit::{emit, emit_printed, emit_version};
 use crate::piece::Piece;
 use crate::report::report;
 use crate::status::Status;
 use crate::words::Words;
-use jop_base::{Sink, Source};
+use jop_base::{Clock, Entropy, Sink, Source};
 use jop_target::{Diary, Target};
-use lease::{blocked, held_apart};
+use local_commands::obey as obey_locally;
+use local_store::{Changes, Keeper};
 use std::alloc::Global;
+use sync_run::check_on;
 
 /// Does what the words say, with these things of the outside, and writes the status's line on `err`.
-pub fn run<T: Target, I: Source, O: Sink, E: Sink>(
+pub fn run<K: Keeper, T: Target, I: Source, O: Sink, E: Sink, C: Clock, N: Entropy>(
     alloc: Global,
     words: &Words,
+    keeper: &mut K,
     target: &mut T,
     input: &mut I,
     out: &mut O,
     err: &mut E,
+    clock: &mut C,
+    entropy: &mut N,
     diary: &mut Diary,
+    made: &mut Changes,
 ) -> Status
-    requires { diary.old.events ≡ [] }
-
-    // What was done, and why it ends so.
-    ensures answers { Answers (command_of words.now.list)
-        (seen (T.state target.old) (I.state input.old) (O.state out.old))
-        diary.new.events result
-        (seen (T.state target.new) (I.state input.new) (O.state out.new)) }
-    ensures explained { IsExplained (command_of words.now.list)
-        (seen (T.state target.old) (I.state input.old) (O.state out.old))
-        diary.new.events result
-        (seen (T.state target.new) (I.state input.new) (O.state out.new)) }
-
-    // Without a cause for a refusal it went well, or memory ran out.
-    ensures complete { HasNoCause (command_of words.now.list)
-        (seen (T.state target.old) (I.state input.old) (O.state out.old))
-        diary.new.events
-        (seen (T.state target.new) (I.state input.new) (O.state out.new)) →
-        (result ≡ Status.Ok) ⊎ (result ≡ Status.NoMemory) }
-
-    // `tidy` of an input that tells its bytes.
-    ensures exact { (bytes : List ℕ) → IsTidy (command_of words.now.list) →
-        (I.state input.old).left ≡ Some bytes → TidiesTold bytes result }
-
-    // Whatever the target answers, the client of a session puts and deletes its own lock alone,
-    // each in its turn.
-    ensures discipline { (kind : LockKind) (client : List ℕ) →
-        SessionFor (command_of words.now.list) kind client → ObeysLocks client diary.new.events }
-
-    // Whatever history this trail is that client's last part of, if the store is honest, each write
-    // lands before the end of its lease and all other clients keep the discipline: no other client's
-    // write falls within an upgrade, and no two upgrades overlap.
-    ensures exclusive { (kind : LockKind) (client : List ℕ) →
-        SessionFor (command_of words.now.list) kind client → KeepsApart client diary.new.events }
-
-    // In each honest history of that kind, the lock that a busy answer names stood in the way, live,
-    // with that stamp.
-    ensures busy { (kind : LockKind) (client : List ℕ) (lock : Lock) (now : ℕ) →
-        SessionFor (command_of words.now.list) kind client → result ≡ Status.Busy lock now →
-        NamesALiveLock kind client diary.new.events lock now }
-
-    // What is used of the outside, and what is left alone.
-    ensures target { UsesTarget (T.state target.old) diary.new.events (T.state target.new) }
-    ensures alone { LeavesAlone (used (command_of words.now.list))
-        (seen (T.state target.old) (I.state input.old) (O.state out.old))
-        diary.new.events
-        (seen (T.state target.new) (I.state input.new) (O.state out.new)) }
-
-    // What is printed.
-    ensures out { Prints (command_of words.now.list)
-        (seen (T.state target.old) (I.state input.old) (O.state out.old))
-        diary.new.events result
-        (seen (T.state target.new) (I.state input.new) (O.state out.new)) }
+    requires unwritten { diary.old.events ≡ [] }
+    requires unchanged { made.old.changes ≡ [] }
+    ensures does { Does (meant words.now.list)
+        (seen (K.state keeper.old) (T.state target.old) (I.state input.old)
+        (O.state out.old) (C.state clock.old) (N.state entropy.old))
+        (did diary.new.events made.new.changes) result
+        (seen (K.state keeper.new) (T.state target.new) (I.state input.new)
+        (O.state out.new) (C.state clock.new) (N.state entropy.new)) }
     ensures err { Reports (E.state err.old) result (E.state err.new) }
 {
-    held_apart();
-    blocked();
-    let status = answer(alloc, words, target, input, out, diary);
+    let status = answer(
+        alloc, words, keeper, target, input, out, clock, entropy, diary, made,
+    );
     report(err, &status);
     status
 }
 
 /// Reads the words, and obeys them if they mean a command.
-fn answer<T: Target, I: Source, O: Sink>(
+fn answer<K: Keeper, T: Target, I: Source, O: Sink, C: Clock, N: Entropy>(
     alloc: Global,
     words: &Words,
+    keeper: &mut K,
     target: &mut T,
     input: &mut I,
     out: &mut O,
+    clock: &mut C,
+    entropy: &mut N,
     diary: &mut Diary,
+    made: &mut Changes,
 ) -> Status
-    requires { diary.old.events ≡ [] }
-    ensures answers { Answers (command_of words.now.list)
-        (seen (T.state target.old) (I.state input.old) (O.state out.old))
-        diary.new.events result
-        (seen (T.state target.new) (I.state input.new) (O.state out.new)) }
-    ensures explained { IsExplained (command_of words.now.list)
-        (seen (T.state target.old) (I.state input.old) (O.state out.old))
-        diary.new.events result
-        (seen (T.state target.new) (I.state input.new) (O.state out.new)) }
-    ensures discipline { (kind : LockKind) (client : List ℕ) →
-        SessionFor (command_of words.now.list) kind client → ObeysLocks client diary.new.events }
-    ensures target { UsesTarget (T.state target.old) diary.new.events (T.state target.new) }
-    ensures alone { LeavesAlone (used (command_of words.now.list))
-        (seen (T.state target.old) (I.state input.old) (O.state out.old))
-        diary.new.events
-        (seen (T.state target.new) (I.state input.new) (O.state out.new)) }
+    requires unwritten { diary.old.events ≡ [] }
+    requires unchanged { made.old.changes ≡ [] }
+    ensures { Acts (meant words.now.list)
+        (seen (K.state keeper.old) (T.state target.old) (I.state input.old)
+        (O.state out.old) (C.state clock.old) (N.state entropy.old))
+        (did diary.new.events made.new.changes) result
+        (seen (K.state keeper.new) (T.state target.new) (I.state input.new)
+        (O.state out.new) (C.state clock.new) (N.state entropy.new)) }
 {
     match read_words(alloc, words) {
-        Ok(command) => obey(alloc, command.verb, target, input, out, diary),
+        Ok(command) => obey(
+            alloc,
+            command.verb,
+            keeper,
+            target,
+            input,
+            out,
+            clock,
+            entropy,
+            diary,
+            made,
+        ),
         Err(WordsErr::Usage) => Status::Usage,
         Err(WordsErr::NoMemory) => Status::NoMemory,
     }
 }
 
 /// Does what a command says: an arm for each.
-fn obey<T: Target, I: Source, O: Sink>(
+fn obey<K: Keeper, T: Target, I: Source, O: Sink, C: Clock, N: Entropy>(
     alloc: Global,
     verb: Verb,
+    keeper: &mut K,
     target: &mut T,
     input: &mut I,
     out: &mut O,
+    clock: &mut C,
+    entropy: &mut N,
     diary: &mut Diary,
+    made: &mut Changes,
 ) -> Status
-    requires { diary.old.events ≡ [] }
-    ensures obeys { Obeys verb
-        (seen (T.state target.old) (I.state input.old) (O.state out.old))
-        diary.new.events result
-        (seen (T.state target.new) (I.state input.new) (O.state out.new)) }
-    ensures explained { IsExplained (Some (record { verb = verb }))
-        (seen (T.state target.old) (I.state input.old) (O.state out.old))
-        diary.new.events result
-        (seen (T.state target.new) (I.state input.new) (O.state out.new)) }
-    ensures discipline { (kind : LockKind) (client : List ℕ) →
-        SessionFor (Some (record { verb = verb })) kind client → ObeysLocks client diary.new.events }
-    ensures target { UsesTarget (T.state target.old) diary.new.events (T.state target.new) }
-    ensures alone { LeavesAlone (uses verb)
-        (seen (T.state target.old) (I.state input.old) (O.state out.old))
-        diary.new.events
-        (seen (T.state target.new) (I.state input.new) (O.state out.new)) }
+    requires fit { IsFit verb }
+    requires unwritten { diary.old.events ≡ [] }
+    requires unchanged { made.old.changes ≡ [] }
+    ensures { Acts (Some verb)
+        (seen (K.state keeper.old) (T.state target.old) (I.state input.old)
+        (O.state out.old) (C.state clock.old) (N.state entropy.old))
+        (did diary.new.events made.new.changes) result
+        (seen (K.state keeper.new) (T.state target.new) (I.state input.new)
+        (O.state out.new) (C.state clock.new) (N.state entropy.new)) }
 {
     match verb {
         Verb::Check { target: _, client } => match check_on(alloc, target, &client, diary) {
@@ -159,6 +120,18 @@ fn obey<T: Target, I: Source, O: Sink>(
             Err(ended) => Status::from(ended),
         },
         Verb::Help => emit(out, &[Piece::Word(USAGE_LINE)]),
+        Verb::Local(command) => {
+            match obey_locally(alloc, command, keeper, input, clock, entropy, diary, made) {
+                Ok(printed) => emit_printed(out, &printed),
+                Err(error) => Status::from(error),
+            }
+        }
         Verb::Tidy => tidy(alloc, input, out),
+        Verb::Upgrade { target: _ } => {
+            match upgrade(alloc, keeper, target, entropy, diary, made) {
+                Ok(version) => emit_version(out, version),
+                Err(error) => Status::from(error),
+            }
+        }
     }
 }

@@ -8,7 +8,7 @@ use crate::command::help::USAGE_LINE;
 use crate::piece::{Piece, write_pieces};
 use crate::status::Status;
 use item_text::BadWhy;
-use jop_base::{Failed, Sink};
+use jop_base::{Failed, Id, Sink};
 
 /// Writes the line of the status on standard error, or as much of it as is taken.
 pub(crate) fn report<E: Sink>(err: &mut E, status: &Status)
@@ -35,20 +35,49 @@ fn write_line<E: Sink>(err: &mut E, status: &Status) -> Result<(), Failed>
             ],
         ),
         Status::LeaseLost(_) => write_pieces(err, &[Piece::Word("lease lost\n")]),
-        Status::TargetFault => write_pieces(err, &[Piece::Word("target fault\n")]),
-        Status::SourceFault => write_pieces(err, &[Piece::Word("input fault\n")]),
-        Status::SinkFault => write_pieces(err, &[Piece::Word("output fault\n")]),
-        Status::TooLarge(len) => write_pieces(
+        Status::TargetNewer(version) => write_pieces(
             err,
             &[
-                Piece::Word("too large "),
-                Piece::Number(*len),
-                Piece::Word("\n"),
+                Piece::Word("target version "),
+                Piece::Number(*version),
+                Piece::Word(" is newer than 3\n"),
             ],
         ),
+        Status::BadInfo => write_pieces(err, &[Piece::Word("info.json is not readable\n")]),
+        Status::TargetFault => write_pieces(err, &[Piece::Word("target fault\n")]),
+        Status::KeeperFault => write_pieces(err, &[Piece::Word("keeper fault\n")]),
+        Status::SourceFault => write_pieces(err, &[Piece::Word("input fault\n")]),
+        Status::SinkFault => write_pieces(err, &[Piece::Word("output fault\n")]),
+        Status::ClockFault => write_pieces(err, &[Piece::Word("clock fault\n")]),
+        Status::EntropyFault => write_pieces(err, &[Piece::Word("random source fault\n")]),
+        Status::NotFound(id) => write_id(err, "not found ", *id),
+        Status::Sealed(id) => write_id(err, "sealed ", *id),
+        Status::TimeEnd(id) => write_id(err, "time end ", *id),
+        Status::TooLarge(len) => write_number(err, "too large ", *len),
         Status::BadItem(bad) => write_bad_item(err, bad.line, why_text(bad.why)),
         Status::NoMemory => write_pieces(err, &[Piece::Word("no memory\n")]),
+        Status::NoConflict(number) => write_number(err, "no conflict ", *number),
+        Status::NotEmpty(id) => write_id(err, "not empty ", *id),
+        Status::NotText => write_pieces(err, &[Piece::Word("input is not text\n")]),
     }
+}
+
+/// Writes a word and the id that it is about.
+fn write_id<E: Sink>(err: &mut E, word: &str, id: Id) -> Result<(), Failed>
+    ensures { WritesAll (E.state err.old) (line_of (word.now ++ id)) result (E.state err.new) }
+{
+    write_pieces(err, &[Piece::Word(word), Piece::Id(id), Piece::Word("\n")])
+}
+
+/// Writes a word and the number that it is about.
+fn write_number<E: Sink>(err: &mut E, word: &str, number: u64) -> Result<(), Failed>
+    ensures { WritesAll (E.state err.old) (line_of (word.now ++ decimal number)) result
+        (E.state err.new) }
+{
+    write_pieces(
+        err,
+        &[Piece::Word(word), Piece::Number(number), Piece::Word("\n")],
+    )
 }
 
 fn write_bad_item<E: Sink>(err: &mut E, line: u64, why: &str) -> Result<(), Failed>

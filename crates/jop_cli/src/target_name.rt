@@ -13,4 +13,6 @@ pub enum TargetKind {
     Mem,
     /// `dir:PATH`, a folder.
     Dir(Text),
+    /// `dav:URL`, a WebDAV server, by its `host:port`.
+    Dav(Text),
 }

@@ -1,7 +1,8 @@
 ghost use Rattle.std.specs.Prelude.{◌≡◌, IfOk};
-ghost use Rattle.jop_cli.specs.Words.{id_of, kind_of, target_of};
+ghost use Rattle.jop_cli.specs.Words.{folder_of, id_of, kind_of, server_of, target_of};
 
 use crate::target_name::{TargetKind, TargetName};
+use dav_address::read_address;
 use jop_base::{Copied, Id, Seq, Text};
 use std::alloc::{AllocError, Global};
 
@@ -30,15 +31,38 @@ pub(crate) fn read_target(alloc: Global, word: &Text) -> Result<Option<TargetNam
     Ok(Some(TargetName { text, kind }))
 }
 
-/// `mem:`, or `dir:` and a path that isn't empty.
+/// `mem:`, `dir:` and a path that isn't empty, or `dav:` and the URL of a server.
+#[tactic(auto, unfolding(crate::specs::Words::kind_of))]
 fn read_kind(alloc: Global, word: &str) -> Result<Option<TargetKind>, AllocError>
     ensures { IfOk result (λ kind. kind ≡ kind_of word.now) }
 {
     if word == "mem:" {
         return Ok(Some(TargetKind::Mem));
     }
-    match word.strip_prefix("dir:") {
-        Some(path) if !path.is_empty() => Ok(Some(TargetKind::Dir(Text::of(alloc, path)?))),
-        _ => Ok(None),
+    if let Some(path) = word.strip_prefix("dir:") {
+        return read_folder(alloc, path);
+    }
+    match word.strip_prefix("dav:") {
+        Some(url) => read_server(alloc, url),
+        None => Ok(None),
+    }
+}
+
+fn read_folder(alloc: Global, path: &str) -> Result<Option<TargetKind>, AllocError>
+    ensures { IfOk result (λ kind. kind ≡ folder_of path.now) }
+{
+    if path.is_empty() {
+        return Ok(None);
+    }
+    let path = Text::of(alloc, path)?;
+    Ok(Some(TargetKind::Dir(path)))
+}
+
+fn read_server(alloc: Global, url: &str) -> Result<Option<TargetKind>, AllocError>
+    ensures { IfOk result (λ kind. kind ≡ server_of url.now) }
+{
+    match read_address(alloc, url)? {
+        Some(address) => Ok(Some(TargetKind::Dav(address))),
+        None => Ok(None),
     }
 }

@@ -32,7 +32,7 @@ lawful_on client s (Began ∷ es) trail h k =
     (lawful_on client begun es trail parts.1 k)
 lawful_on client s (e ∷ es) trail h k = lawful_on client (session_after client s e) es trail h k
 
-all_keep : (h : History) (client : List ℕ) (trail : List Event) → EndsIn h client trail →
+pub all_keep : (h : History) (client : List ℕ) (trail : List Event) → EndsIn h client trail →
     OthersKeepLocks h client → KeepsLocks client trail → AllKeepLocks h
 all_keep h client trail ends others keeps = record {
   each = λ other. elim (same_or_not other client) [

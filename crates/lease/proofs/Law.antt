@@ -17,7 +17,7 @@ use Rattle.lease.proofs.World.{World, opening, happens, run, Allows, AllowsAll, 
 
 -- ---- places
 
-abbrev world_at : World → List Step → ℕ → World
+abbrev pub world_at : World → List Step → ℕ → World
 world_at w ss place = run w (take place ss)
 
 -- at the opening no client has done anything
@@ -59,12 +59,12 @@ later_at client w (s ∷ ss) (suc i) (suc j) ok m =
 -- ---- who may write
 
 -- a phase in which a client has a lease
-record HasLease (phase : Phase) : Type 0 where
-  kind : LockKind
-  stamp : ℕ
-  held : phase ≡ Held kind stamp
+pub record HasLease (phase : Phase) : Type 0 where
+  pub kind : LockKind
+  pub stamp : ℕ
+  pub held : phase ≡ Held kind stamp
 
-guarded_plain : (client : List ℕ) (call : Call) → is_guarded_call call ≡ true →
+pub guarded_plain : (client : List ℕ) (call : Call) → is_guarded_call call ≡ true →
     role_of client call ≡ Plain
 guarded_plain client (Put (LockFile name) content) g = cc
 guarded_plain client (Put (TempFile id) content) g = cc
@@ -75,12 +75,12 @@ guarded_plain client (Delete path) g = refl
 guarded_plain client (PutBlob id len) g = refl
 guarded_plain client call g = cc
 
-plain_lease : (client : List ℕ) (phase : Phase) → allows client phase Plain ≡ true → HasLease phase
+pub plain_lease : (client : List ℕ) (phase : Phase) → allows client phase Plain ≡ true → HasLease phase
 plain_lease client (Held kind stamp) a = record { kind = kind; stamp = stamp; held = refl }
 plain_lease client phase a = cc
 
 -- guarded calls are made under a lease alone
-has_lease : (client : List ℕ) (phase : Phase) (call : Call) → is_guarded_call call ≡ true →
+pub has_lease : (client : List ℕ) (phase : Phase) (call : Call) → is_guarded_call call ≡ true →
     allows client phase (role_of client call) ≡ true → HasLease phase
 has_lease client phase call g a = plain_lease client phase (rw (guarded_plain client call g) at a)
 
@@ -88,33 +88,33 @@ has_lease client phase call g a = plain_lease client phase (rw (guarded_plain cl
 
 -- what the machine says of a history
 module _ (h : History) (honest : IsHonest h) (timely : IsTimely h) (keep : AllKeepLocks h) where
-  abbrev at : ℕ → World
+  abbrev pub at : ℕ → World
   at place = world_at (opening h.opening) h.steps place
 
   allowed : AllowsAll (opening h.opening) h.steps
   allowed = allows_all (opening h.opening) h.steps honest.steps keep.each
 
-  phase-at : (client : List ℕ) (place : ℕ) →
+  pub phase-at : (client : List ℕ) (place : ℕ) →
       phase_in (at place) client ≡ phase_at client (take place h.steps)
   phase-at client place =
       ap (λ (s : Session). s.phase) (at-run client (opening h.opening) (take place h.steps))
 
-  count-at : (client : List ℕ) (place : ℕ) →
+  pub count-at : (client : List ℕ) (place : ℕ) →
       (at place).count client ≡ session_at client (take place h.steps)
   count-at client place =
       let e = count-run client (opening h.opening) (take place h.steps) in omega arith
 
-  step_ok : (place : ℕ) (s : Step) → slice_get h.steps place ≡ Some s → Allows (at place) s
+  pub step_ok : (place : ℕ) (s : Step) → slice_get h.steps place ≡ Some s → Allows (at place) s
   step_ok place s e = allows_at (opening h.opening) h.steps place s allowed e
 
-  later : (client : List ℕ) (i j : ℕ) → i ≤ j → Later client (at i) (at j)
+  pub later : (client : List ℕ) (i j : ℕ) → i ≤ j → Later client (at i) (at j)
   later client i j m = later_at client (opening h.opening) h.steps i j allowed m
 
-  invariant : (place : ℕ) → Invariant (at place)
+  pub invariant : (place : ℕ) → Invariant (at place)
   invariant place = invariant_at (opening h.opening) h.steps place allowed (invariant_first h)
 
   -- who writes has a lease
-  write_lease : (place : ℕ) (client : List ℕ) → Writes h place client →
+  pub write_lease : (place : ℕ) (client : List ℕ) → Writes h place client →
       HasLease (phase_at client (take place h.steps))
   write_lease place client write =
       let s = write.step in
@@ -125,7 +125,7 @@ module _ (h : History) (honest : IsHonest h) (timely : IsTimely h) (keep : AllKe
       (λ (c : List ℕ). HasLease (phase_in (at place) c)) write.by l)
 
   -- a lease under which its client writes isn't spent
-  write_unspent : (place : ℕ) (client : List ℕ) (kind : LockKind) (stamp : ℕ) →
+  pub write_unspent : (place : ℕ) (client : List ℕ) (kind : LockKind) (stamp : ℕ) →
       Writes h place client → Holds h place client kind stamp → IsSpentAt (at place) client → ⊥
   write_unspent place client kind stamp write held spent =
       let end : stamp + LIFE ≤ (at place).now = subst
@@ -135,7 +135,7 @@ module _ (h : History) (honest : IsHonest h) (timely : IsTimely h) (keep : AllKe
       let time = timely.each place client kind stamp write held in
       omega arith
 
-  kind_at : (place : ℕ) (client : List ℕ) (kind : LockKind) (stamp : ℕ) →
+  pub kind_at : (place : ℕ) (client : List ℕ) (kind : LockKind) (stamp : ℕ) →
       Holds h place client kind stamp → kind_held (phase_in (at place) client) ≡ Some kind
   kind_at place client kind stamp held = ap kind_held (phase-at client place ∙ held)
 

@@ -29,7 +29,8 @@ use Rattle.target_upgrade.specs.declared.reading.Found.{Found}
 use Rattle.target_upgrade.proofs.Courses.{course_from-last, idle_work}
 use Rattle.target_upgrade.proofs.Made.{client_same, goes_lease, goes_on, goes_then, same_on, stops_then}
 use Rattle.sync_run.specs.Outcomes.{Comes, HasOutcome, ReadsBadInfo, ReadsNewer, StandsFor}
-use Rattle.sync_run.specs.Sessions.{HasBegun, HasLeft, IsReleased, IsUpgradedAt, answer_of, session_err_of}
+use Rattle.sync_run.specs.Sessions.{HasBegun, session_err_of}
+use Rattle.sync_run.specs.Upgrades.{HasLeft, IsUpgradeReleased, IsUpgradedAt, answer_of}
 use Rattle.sync_run.specs.declared.outcome.Outcome.{Outcome}
 use Rattle.sync_run.specs.declared.outcome.Outcome.TheVariants.{Upgraded, Newer, BadInfo}
 
@@ -82,7 +83,7 @@ blocked_released client trail lock now (inr after) = over_released client trail 
 
 pub released_none : (client : List ℕ) (old new : LineNow) (e : LeaseErr) →
     Acquires Exclusive client old new (Err e) →
-    IsReleased client new.trail (Err (session_err_of e))
+    IsUpgradeReleased client new.trail (Err (session_err_of e))
 released_none client old new (Busy lock now) h =
     (h, blocked_released client new.trail lock now h)
 released_none client old new (Lost seen) h = (inl h, over_released client new.trail h.left.over)
@@ -92,7 +93,7 @@ released_none client old new NoMemory h = tt
 
 -- or none any more
 pub released_stops : (lease : Lease) (old new : LineNow) (e : LeaseErr) → Stops lease old new e →
-    IsReleased lease.client new.trail (Err (session_err_of e))
+    IsUpgradeReleased lease.client new.trail (Err (session_err_of e))
 released_stops lease old new (Lost seen) h =
     (inr h, over_released lease.client new.trail h.1.left.over)
 released_stops lease old new TargetFault h =
@@ -163,7 +164,7 @@ has_left lease old new reply Was exclusive held was ends = record {
 
 pub released_left : (lease : Lease) (old new : LineNow) (released : Result (Unit {0}) LeaseErr)
     (outcome : Outcome) → StandsFor lease old.trail outcome → Releases lease old new released →
-    IsReleased lease.client new.trail (answer_of released outcome)
+    IsUpgradeReleased lease.client new.trail (answer_of released outcome)
 released_left lease old new (Err NoMemory) outcome s h = tt
 released_left lease old new (Err (Busy lock now)) outcome s h = absurd h
 released_left lease old new (Err (Lost seen)) outcome s h = absurd h

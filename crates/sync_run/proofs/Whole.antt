@@ -3,7 +3,6 @@ use Rattle.std.proofs.Common.{◌≡◌, ◌∙◌, refl, sym, ap, subst, arith,
 use Rattle.std.specs.Prelude.{All}
 use Rattle.std.proofs.lemmas.List.{append_cancel_left, append_cancel_right}
 use Rattle.jop_base.specs.declared.lock_name.LockKind.{LockKind}
-use Rattle.jop_base.specs.declared.lock_name.LockKind.TheVariants.{Exclusive}
 use Rattle.jop_target.specs.declared.event.Event.{Event}
 use Rattle.jop_target.specs.declared.event.Event.TheVariants.{Began, Sent, Called, Made, Ended}
 use Rattle.jop_target.specs.Runs.{Continues}
@@ -12,7 +11,8 @@ use Rattle.jop_target.proofs.Runs.{continues_weaker}
 use Rattle.lease.specs.Blocked.{NamesALiveLock}
 use Rattle.lease.specs.Discipline.{ends_released, phase_of}
 use Rattle.lease.specs.Outcomes.{IsBlocked}
-use Rattle.lease.specs.WholeSession.{IsInner}
+use Rattle.lease.specs.Calls.{GoesOn, IsLeaseEvent, LeaseGoesOn}
+use Rattle.lease.specs.WholeSession.{AddsWhole, IsInner}
 use Rattle.lease.specs.declared.lock.Lock.{Lock}
 use Rattle.lease.proofs.WholeSessions.{adds_begun, adds_none, adds_whole, at_seam}
 use Rattle.target_upgrade.specs.Answers.{IsCall, WorkGoesOn}
@@ -21,16 +21,13 @@ use Rattle.target_upgrade.specs.Runs.{LeavesUpgraded, begins_none}
 use Rattle.target_upgrade.specs.Steps.{Upgraded}
 use Rattle.target_upgrade.proofs.Courses.{course_from-last}
 use Rattle.target_upgrade.proofs.Whole.{course_of-begun, keeps_begun, keeps_none, keeps_whole, stage_left}
-use Rattle.sync_run.specs.Sessions.{AddsUpgrade, EndsBecause, IsCallOrMark, IsReleased, IsWhole, has_ended}
+use Rattle.sync_run.proofs.Held.{goes_acquired}
+use Rattle.sync_run.specs.Sessions.{AddsSession, HasBegun, IsMarkOr, IsOpen, IsReleased, IsWhole, has_ended}
+use Rattle.sync_run.specs.Upgrades.{UpgradeAnswers}
 use Rattle.sync_run.specs.declared.session_err.SessionErr.{SessionErr}
 use Rattle.sync_run.specs.declared.session_err.SessionErr.TheVariants.{Busy, LeaseLost, TargetNewer, BadInfo, TargetFault, NoMemory}
 
 -- ---- the session is made
-
-inner : (e : Event) → IsCall e → IsInner e
-inner Began h = h
-inner Ended h = h
-inner e h = tt
 
 -- what stands before the end of a session
 before_end : (old middle trail new : List Event) → new ≡ trail ++ Ended ∷ [] →
@@ -39,58 +36,93 @@ before_end old middle trail new ends whole =
     append_cancel_right trail (old ++ Began ∷ middle) (Ended ∷ [])
     (sym ends ∙ (whole ∙ sym (append_assoc old (Began ∷ middle) (Ended ∷ []))))
 
-whole : (client : List ℕ) (old new : List Event) (start mid : LineNow)
-    (result : Result ℕ SessionErr) → start.trail ≡ old ++ Began ∷ [] →
-    WorkGoesOn client start mid → EndsBecause client mid.trail result →
+-- such an event is a call
+abbrev pub Calls : (Event → Type 0) → Type 0
+Calls P = (e : Event) → P e → IsInner e
+
+-- a session went on by such events, and under its lease did what is allowed
+pub record RunsOn (P : Event → Type 0) (client : List ℕ) (old new : LineNow) : Type 0 where
+  pub goes : GoesOn P client old new
+  pub work : (course_of client new.trail).lawful ≡ true
+
+pub runs_work : (client : List ℕ) (old new : LineNow) → WorkGoesOn client old new →
+    RunsOn IsCall client old new
+runs_work client old new h = record { goes = h.goes; work = h.work }
+
+pub runs_lease : (client : List ℕ) (old new : LineNow) → HasBegun client old.trail →
+    LeaseGoesOn client old new → RunsOn (IsLeaseEvent client) client old new
+runs_lease client old new begun h = record {
+  goes = record { running = h.running; lawful = h.lawful; line = h.line };
+  work = (goes_acquired client old new begun h).work;
+}
+
+pub calls_inner : Calls IsCall
+calls_inner Began h = h
+calls_inner Ended h = h
+calls_inner e h = tt
+
+pub lease_inner : (client : List ℕ) → Calls (IsLeaseEvent client)
+lease_inner client Began h = h
+lease_inner client Ended h = h
+lease_inner client e h = tt
+
+whole : {T : Type 0} (P : Event → Type 0) (B : List Event → Result T SessionErr → Type 0)
+    (client : List ℕ) (old new : List Event) (start mid : LineNow) (result : Result T SessionErr) →
+    Calls P → start.trail ≡ old ++ Began ∷ [] → RunsOn P client start mid → B mid.trail result →
     ends_released (phase_of client mid.trail) ≡ true → new ≡ mid.trail ++ Ended ∷ [] →
-    IsWhole client old new result
-whole client old new start mid result begun goes because released ends =
-    let adds = adds_whole IsCall client old new start mid inner begun goes.goes released ends in
+    IsWhole P B client old new result
+whole P B client old new start mid result inner begun runs because released ends =
+    let adds = adds_whole P client old new start mid inner begun runs.goes released ends in
     let at = before_end old adds.middle mid.trail new ends adds.trail in
     record {
       whole = adds;
       work = keeps_whole client old adds.middle (λ i d lt. inner _ (adds.each i d lt))
-          (ap (λ (t : List Event). (course_of client t).lawful) (sym at) ∙ goes.work);
-      because = subst (λ (t : List Event). EndsBecause client t result) at because;
+          (ap (λ (t : List Event). (course_of client t).lawful) (sym at) ∙ runs.work);
+      because = subst (λ (t : List Event). B t result) at because;
     }
 
-pub adds_ended : (client : List ℕ) (old new : List Event) (start mid : LineNow)
-    (result : Result ℕ SessionErr) → start.trail ≡ old ++ Began ∷ [] →
-    WorkGoesOn client start mid → IsReleased client mid.trail result →
-    has_ended result ≡ true → new ≡ mid.trail ++ Ended ∷ [] → AddsUpgrade client old new result
-adds_ended client old new start mid (Err NoMemory) begun goes released ended ends = cc
-adds_ended client old new start mid (Ok version) begun goes released ended ends =
-    whole client old new start mid (Ok version) begun goes released.0 released.1 ends
-adds_ended client old new start mid (Err (Busy lock now)) begun goes released ended ends =
-    whole client old new start mid (Err (Busy lock now)) begun goes released.0 released.1 ends
-adds_ended client old new start mid (Err (LeaseLost seen)) begun goes released ended ends =
-    whole client old new start mid (Err (LeaseLost seen)) begun goes released.0 released.1 ends
-adds_ended client old new start mid (Err (TargetNewer v)) begun goes released ended ends =
-    whole client old new start mid (Err (TargetNewer v)) begun goes released.0 released.1 ends
-adds_ended client old new start mid (Err BadInfo) begun goes released ended ends =
-    whole client old new start mid (Err BadInfo) begun goes released.0 released.1 ends
-adds_ended client old new start mid (Err TargetFault) begun goes released ended ends =
-    whole client old new start mid (Err TargetFault) begun goes released.0 released.1 ends
+pub adds_ended : {T : Type 0} (P : Event → Type 0)
+    (B : List Event → Result T SessionErr → Type 0) (client : List ℕ) (old new : List Event)
+    (start mid : LineNow) (result : Result T SessionErr) → Calls P →
+    start.trail ≡ old ++ Began ∷ [] → RunsOn P client start mid →
+    IsReleased B client mid.trail result → has_ended result ≡ true →
+    new ≡ mid.trail ++ Ended ∷ [] → AddsSession P B client old new result
+adds_ended P B client old new start mid (Err NoMemory) inner begun runs released ended ends = cc
+adds_ended P B client old new start mid (Ok answer) inner begun runs released ended ends =
+    whole P B client old new start mid (Ok answer) inner begun runs released.0 released.1 ends
+adds_ended P B client old new start mid (Err (Busy lock now)) inner begun runs released ended ends =
+    whole P B client old new start mid (Err (Busy lock now)) inner begun runs released.0 released.1
+    ends
+adds_ended P B client old new start mid (Err (LeaseLost seen)) inner begun runs released ended ends =
+    whole P B client old new start mid (Err (LeaseLost seen)) inner begun runs released.0 released.1
+    ends
+adds_ended P B client old new start mid (Err (TargetNewer v)) inner begun runs released ended ends =
+    whole P B client old new start mid (Err (TargetNewer v)) inner begun runs released.0 released.1
+    ends
+adds_ended P B client old new start mid (Err BadInfo) inner begun runs released ended ends =
+    whole P B client old new start mid (Err BadInfo) inner begun runs released.0 released.1 ends
+adds_ended P B client old new start mid (Err TargetFault) inner begun runs released ended ends =
+    whole P B client old new start mid (Err TargetFault) inner begun runs released.0 released.1 ends
 
-pub adds_open : (client : List ℕ) (old new : List Event) (start mid : LineNow) →
-    start.trail ≡ old ++ Began ∷ [] → WorkGoesOn client start mid → new ≡ mid.trail →
-    AddsUpgrade client old new (Err NoMemory)
-adds_open client old new start mid begun goes same =
-    let more = goes.goes.line.more in
-    let at = at_seam old more start.trail mid.trail begun goes.goes.line.trail in
-    let adds = adds_begun IsCall client old new start mid inner begun goes.goes same in
-    let kept = keeps_begun client old more (λ i d lt. inner _ (goes.goes.line.each i d lt))
-    (ap (λ (t : List Event). (course_of client t).lawful) (sym at) ∙ goes.work) in
+pub adds_open : (P : Event → Type 0) (client : List ℕ) (old new : List Event)
+    (start mid : LineNow) → Calls P → start.trail ≡ old ++ Began ∷ [] →
+    RunsOn P client start mid → new ≡ mid.trail → IsOpen P client old new
+adds_open P client old new start mid inner begun runs same =
+    let more = runs.goes.line.more in
+    let at = at_seam old more start.trail mid.trail begun runs.goes.line.trail in
+    let adds = adds_begun P client old new start mid inner begun runs.goes same in
+    let kept = keeps_begun client old more (λ i d lt. inner _ (runs.goes.line.each i d lt))
+    (ap (λ (t : List Event). (course_of client t).lawful) (sym at) ∙ runs.work) in
     record {
       begun = adds;
       work = subst (KeepsVersions client)
           (append_cancel_left old (Began ∷ more) adds.more (sym (same ∙ at) ∙ adds.trail)) kept;
     }
 
-pub adds_nothing : (client : List ℕ) (old new : List Event) → new ≡ old →
-    AddsUpgrade client old new (Err NoMemory)
-adds_nothing client old new same =
-    let adds = adds_none IsCall client old new same in
+pub adds_nothing : (P : Event → Type 0) (client : List ℕ) (old new : List Event) → new ≡ old →
+    IsOpen P client old new
+adds_nothing P client old new same =
+    let adds = adds_none P client old new same in
     record {
       begun = adds;
       work = subst (KeepsVersions client)
@@ -98,8 +130,9 @@ adds_nothing client old new same =
           (keeps_none client);
     }
 
-not_ended : (result : Result ℕ SessionErr) → has_ended result ≡ false → result ≡ Err NoMemory
-not_ended (Ok version) h = cc
+not_ended : {T : Type 0} (result : Result T SessionErr) → has_ended result ≡ false →
+    result ≡ Err NoMemory
+not_ended (Ok answer) h = cc
 not_ended (Err (Busy lock now)) h = cc
 not_ended (Err (LeaseLost seen)) h = cc
 not_ended (Err (TargetNewer version)) h = cc
@@ -107,16 +140,18 @@ not_ended (Err BadInfo) h = cc
 not_ended (Err TargetFault) h = cc
 not_ended (Err NoMemory) h = refl
 
-pub adds_unended : (client : List ℕ) (old new : List Event) (start mid : LineNow)
-    (result : Result ℕ SessionErr) → start.trail ≡ old ++ Began ∷ [] →
-    WorkGoesOn client start mid → has_ended result ≡ false → new ≡ mid.trail →
-    AddsUpgrade client old new result
-adds_unended client old new start mid result begun goes ended same =
-    rw (not_ended result ended) (adds_open client old new start mid begun goes same)
+pub adds_unended : {T : Type 0} (P : Event → Type 0)
+    (B : List Event → Result T SessionErr → Type 0) (client : List ℕ) (old new : List Event)
+    (start mid : LineNow) (result : Result T SessionErr) → Calls P →
+    start.trail ≡ old ++ Began ∷ [] → RunsOn P client start mid → has_ended result ≡ false →
+    new ≡ mid.trail → AddsSession P B client old new result
+adds_unended P B client old new start mid result inner begun runs ended same =
+    rw (not_ended result ended) (adds_open P client old new start mid inner begun runs same)
 
-pub as_marked : (old new : LineNow) → Continues IsCall old new → Continues IsCallOrMark old new
-as_marked old new h = continues_weaker IsCall IsCallOrMark old new allowed h where
-  allowed : (e : Event) → IsCall e → IsCallOrMark e
+pub as_marked : (P : Event → Type 0) (old new : LineNow) → Continues P old new →
+    Continues (IsMarkOr P) old new
+as_marked P old new h = continues_weaker P (IsMarkOr P) old new allowed h where
+  allowed : (e : Event) → P e → IsMarkOr P e
   allowed Began h = tt
   allowed Ended h = tt
   allowed (Sent call) h = h
@@ -125,26 +160,31 @@ as_marked old new h = continues_weaker IsCall IsCallOrMark old new allowed h whe
 
 -- ---- what was added obeys
 
-obeys_whole : (client : List ℕ) (old new added : List Event) (result : Result ℕ SessionErr) →
-    IsWhole client old new result → new ≡ old ++ added → ObeysLease client added
-obeys_whole client old new added result h is =
+obeys_whole : {T : Type 0} (P : Event → Type 0) (B : List Event → Result T SessionErr → Type 0)
+    (client : List ℕ) (old new added : List Event) (result : Result T SessionErr) →
+    IsWhole P B client old new result → new ≡ old ++ added → ObeysLease client added
+obeys_whole P B client old new added result h is =
     subst (ObeysLease client) (append_cancel_left old _ added (sym h.whole.trail ∙ is))
     (record { locks = h.whole.obeys; work = h.work })
 
-pub obeys_added : (client : List ℕ) (old new added : List Event) (result : Result ℕ SessionErr) →
-    AddsUpgrade client old new result → new ≡ old ++ added → ObeysLease client added
-obeys_added client old new added (Err NoMemory) h is =
+pub obeys_added : {T : Type 0} (P : Event → Type 0)
+    (B : List Event → Result T SessionErr → Type 0) (client : List ℕ)
+    (old new added : List Event) (result : Result T SessionErr) →
+    AddsSession P B client old new result → new ≡ old ++ added → ObeysLease client added
+obeys_added P B client old new added (Err NoMemory) h is =
     subst (ObeysLease client) (append_cancel_left old _ added (sym h.begun.trail ∙ is))
     (record { locks = h.begun.obeys; work = h.work })
-obeys_added client old new added (Ok version) h is = obeys_whole client old new added _ h is
-obeys_added client old new added (Err (Busy lock now)) h is =
-    obeys_whole client old new added _ h is
-obeys_added client old new added (Err (LeaseLost seen)) h is =
-    obeys_whole client old new added _ h is
-obeys_added client old new added (Err (TargetNewer version)) h is =
-    obeys_whole client old new added _ h is
-obeys_added client old new added (Err BadInfo) h is = obeys_whole client old new added _ h is
-obeys_added client old new added (Err TargetFault) h is = obeys_whole client old new added _ h is
+obeys_added P B client old new added (Ok answer) h is = obeys_whole P B client old new added _ h is
+obeys_added P B client old new added (Err (Busy lock now)) h is =
+    obeys_whole P B client old new added _ h is
+obeys_added P B client old new added (Err (LeaseLost seen)) h is =
+    obeys_whole P B client old new added _ h is
+obeys_added P B client old new added (Err (TargetNewer version)) h is =
+    obeys_whole P B client old new added _ h is
+obeys_added P B client old new added (Err BadInfo) h is =
+    obeys_whole P B client old new added _ h is
+obeys_added P B client old new added (Err TargetFault) h is =
+    obeys_whole P B client old new added _ h is
 
 -- ---- the lock for which it gave up
 
@@ -154,13 +194,14 @@ NamesBlocked =
     IsBlocked kind client (old ++ Began ∷ calls) lock now →
     NamesALiveLock kind client (Began ∷ (calls ++ rest)) lock now
 
-pub names_added : (client : List ℕ) (old new added : List Event) (lock : Lock) (now : ℕ) →
-    NamesBlocked → IsWhole client old new (Err (Busy lock now)) → new ≡ old ++ added →
-    NamesALiveLock Exclusive client added lock now
-names_added client old new added lock now law h is =
-    subst (λ (es : List Event). NamesALiveLock Exclusive client es lock now)
-    (append_cancel_left old _ added (sym h.whole.trail ∙ is))
-    (law Exclusive client old h.whole.middle (Ended ∷ []) lock now h.because)
+pub names_added : (P : Event → Type 0) (kind : LockKind) (client : List ℕ)
+    (old new added : List Event) (lock : Lock) (now : ℕ) (adds : AddsWhole P client old new) →
+    NamesBlocked → IsBlocked kind client (old ++ Began ∷ adds.middle) lock now →
+    new ≡ old ++ added → NamesALiveLock kind client added lock now
+names_added P kind client old new added lock now adds law h is =
+    subst (λ (es : List Event). NamesALiveLock kind client es lock now)
+    (append_cancel_left old _ added (sym adds.trail ∙ is))
+    (law kind client old adds.middle (Ended ∷ []) lock now h)
 
 -- ---- it leaves the upgraded target
 
@@ -183,7 +224,7 @@ stage_ended client old middle at =
     ∙ (ap (λ (c : Course). c.stage) (sym (course_of-begun client old middle)) ∙ at)
 
 pub leaves_added : (client : List ℕ) (old new added : List Event) (version : ℕ) → Leaves →
-    IsWhole client old new (Ok version) → new ≡ old ++ added → LeavesUpgraded client added
+    IsWhole IsCall (UpgradeAnswers client) client old new (Ok version) → new ≡ old ++ added → LeavesUpgraded client added
 leaves_added client old new added version law h is =
     let left = h.because.1.left in
     let at : (course_of client (old ++ Began ∷ h.whole.middle)).stage ≡ Upgraded =

@@ -1,2 +1,4 @@
 pub mod Outcomes
 pub mod Sessions
+pub mod Checks
+pub mod Upgrades

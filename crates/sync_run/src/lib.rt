@@ -1,12 +1,14 @@
 //! Sessions from their begin to their end: taking a lease, what is done under it, and giving it up.
 //!
-//! Begin with [`upgrade_on`] and [`SessionErr`]; `specs/Sessions.antt` says why a session answers as
-//! it does.
+//! Begin with [`check_on`], [`upgrade_on`] and [`SessionErr`]; `specs/Checks.antt` and
+//! `specs/Upgrades.antt` say why they answer as they do.
 #![tactic(auto)]
 
+mod checking;
 mod outcome;
 mod session_err;
 mod upgrading;
 
+pub use checking::check_on;
 pub use session_err::SessionErr;
 pub use upgrading::upgrade_on;

@@ -1,3 +1,6 @@
+ghost use Rattle.std.specs.Prelude.{◌≡◌};
+ghost use Rattle.sync_run.specs.Sessions.{has_ended};
+
 use lease::{LeaseErr, Lock, Seen};
 use std::alloc::AllocError;
 
@@ -16,6 +19,13 @@ pub enum SessionErr {
     /// A call failed.
     TargetFault,
     NoMemory,
+}
+
+/// Whether a session ends with this answer: with every one but out of memory.
+pub(crate) fn has_ended<T>(outcome: &Result<T, SessionErr>) -> bool
+    ensures { result ≡ has_ended outcome.now }
+{
+    !matches!(outcome, Err(SessionErr::NoMemory))
 }
 
 impl From<AllocError> for SessionErr {

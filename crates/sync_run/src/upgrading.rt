@@ -1,20 +1,22 @@
 ghost use Rattle.std.specs.Prelude.{◌≡◌, ◌++◌, ℕ, List, Err, Ok};
+ghost use Rattle.exclusion.specs.Exclusive.{KeepsExclusive};
 ghost use Rattle.jop_target.specs.Runs.{Continues};
 ghost use Rattle.jop_target.specs.declared.event.Event.{Event};
 ghost use Rattle.lease.specs.Blocked.{NamesALiveLock};
 ghost use Rattle.lease.specs.Exclusion.{KeepsApart};
 ghost use Rattle.lease.specs.declared.lock.Lock.{Lock};
-ghost use Rattle.target_upgrade.specs.Answers.{StandsAt, WorkGoesOn};
+ghost use Rattle.target_upgrade.specs.Answers.{IsCall, StandsAt, WorkGoesOn};
 ghost use Rattle.target_upgrade.specs.Course.{ObeysLease};
 ghost use Rattle.target_upgrade.specs.Reading.{IsFoundAt};
 ghost use Rattle.target_upgrade.specs.Runs.{LeavesUpgraded};
 ghost use Rattle.target_upgrade.specs.Steps.{Reads};
 ghost use Rattle.sync_run.specs.Outcomes.{Comes, StandsFor};
-ghost use Rattle.sync_run.specs.Sessions.{AddsUpgrade, HasBegun, IsCallOrMark, IsReleased};
-ghost use Rattle.sync_run.specs.Sessions.{answer_by, answer_of, has_ended};
+ghost use Rattle.sync_run.specs.Sessions.{HasBegun, IsMarkOr};
+ghost use Rattle.sync_run.specs.Upgrades.{AddsUpgrade, IsUpgradeReleased, answer_by, answer_of};
 
 use crate::outcome::Outcome;
-use crate::session_err::SessionErr;
+use crate::session_err::{SessionErr, has_ended};
+use exclusion::exclusive;
 use jop_base::{ClientId, LockKind};
 use jop_target::{Diary, Line, Target, TargetLine};
 use lease::{Lease, LeaseErr, acquire, blocked, held_apart, release};
@@ -32,7 +34,7 @@ pub fn upgrade_on<T: Target>(
     diary: &mut Diary,
 ) -> Result<u64, SessionErr>
     ensures session { AddsUpgrade client.now diary.old.events diary.new.events result }
-    ensures line { Continues IsCallOrMark
+    ensures line { Continues (IsMarkOr IsCall)
         (record { trail = diary.old.events; target = T.state target.old })
         (record { trail = diary.new.events; target = T.state target.new }) }
 
@@ -43,8 +45,13 @@ pub fn upgrade_on<T: Target>(
 
     // Whatever history the added events are the client's last part of: no other client's write
     // falls within an upgrade, and no two upgrades overlap.
-    ensures exclusive { (added : List Event) →
+    ensures apart { (added : List Event) →
         diary.new.events ≡ diary.old.events ++ added → KeepsApart client.now added }
+
+    // If the other clients do under their leases what is allowed, each write of a synchroniser and
+    // each first write of an upgrade also lands on the version that its session has read.
+    ensures exclusive { (added : List Event) →
+        diary.new.events ≡ diary.old.events ++ added → KeepsExclusive client.now added }
 
     // In each such history the lock that is named stood in the way.
     ensures busy { (added : List Event) (lock : Lock) (now : ℕ) →
@@ -57,6 +64,7 @@ pub fn upgrade_on<T: Target>(
         LeavesUpgraded client.now added }
 {
     held_apart();
+    exclusive();
     blocked();
     redone();
     make_session(alloc, target, client, diary)
@@ -70,7 +78,7 @@ fn make_session<T: Target>(
     diary: &mut Diary,
 ) -> Result<u64, SessionErr>
     ensures session { AddsUpgrade client.now diary.old.events diary.new.events result }
-    ensures line { Continues IsCallOrMark
+    ensures line { Continues (IsMarkOr IsCall)
         (record { trail = diary.old.events; target = T.state target.old })
         (record { trail = diary.new.events; target = T.state target.new }) }
 {
@@ -82,13 +90,6 @@ fn make_session<T: Target>(
     outcome
 }
 
-/// Whether a session ends with this answer: with every one but out of memory.
-fn has_ended(outcome: &Result<u64, SessionErr>) -> bool
-    ensures { result ≡ has_ended outcome.now }
-{
-    !matches!(outcome, Err(SessionErr::NoMemory))
-}
-
 /// Takes the lock of a target, upgrades it and releases the lock, in a session that has begun.
 fn hold<T: Target>(
     alloc: Global,
@@ -97,7 +98,7 @@ fn hold<T: Target>(
     diary: &mut Diary,
 ) -> Result<u64, SessionErr>
     requires { HasBegun client.now diary.old.events }
-    ensures released { IsReleased client.now diary.new.events result }
+    ensures released { IsUpgradeReleased client.now diary.new.events result }
     ensures goes { WorkGoesOn client.now
         (record { trail = diary.old.events; target = T.state target.old })
         (record { trail = diary.new.events; target = T.state target.new }) }
@@ -112,7 +113,7 @@ fn take_and_upgrade<L: Line>(
     client: &ClientId,
 ) -> Result<u64, SessionErr>
     requires { HasBegun client.now (L.state line.old).trail }
-    ensures released { IsReleased client.now (L.state line.new).trail result }
+    ensures released { IsUpgradeReleased client.now (L.state line.new).trail result }
     ensures goes { WorkGoesOn client.now (L.state line.old) (L.state line.new) }
     ensures keeps { L.keeps line.old line.new }
 {
@@ -167,7 +168,7 @@ fn leave<L: Line>(
     outcome: Outcome,
 ) -> Result<u64, SessionErr>
     requires { StandsFor lease (L.state line.old).trail outcome }
-    ensures released { IsReleased lease.client (L.state line.new).trail result }
+    ensures released { IsUpgradeReleased lease.client (L.state line.new).trail result }
     ensures goes { WorkGoesOn lease.client (L.state line.old) (L.state line.new) }
     ensures keeps { L.keeps line.old line.new }
 {

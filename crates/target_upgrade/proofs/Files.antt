@@ -36,7 +36,7 @@ tail_same x y xs ys h = cc
 pub heads_apart : (x y : ℕ) (xs ys : List ℕ) → x ≢ y → x ∷ xs ≡ y ∷ ys → ⊥
 heads_apart x y xs ys other h = other (head_same x y xs ys h)
 
-seconds_apart : (x y z w : ℕ) (xs ys : List ℕ) → z ≢ w → x ∷ z ∷ xs ≡ y ∷ w ∷ ys → ⊥
+pub seconds_apart : (x y z w : ℕ) (xs ys : List ℕ) → z ≢ w → x ∷ z ∷ xs ≡ y ∷ w ∷ ys → ⊥
 seconds_apart x y z w xs ys other h = heads_apart z w xs ys other
     (tail_same x y (z ∷ xs) (w ∷ ys) h)
 

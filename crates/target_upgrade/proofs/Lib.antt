@@ -4,9 +4,10 @@ pub mod Courses
 mod NoFailures
 pub mod Made
 mod Standing
-mod Files
+pub mod Files
 mod Redo
 mod Alike
 mod OneKind
-mod Upgrades
+pub mod UnderWay
+pub mod Upgrades
 pub mod Whole

@@ -298,9 +298,9 @@ is_call-is (Put p x) (Put q y) h =
 is_call-is (MakeDir d) (MakeDir e) h = ap MakeDir (same_dir-is d e h)
 is_call-is c d h = cc
 
-record IsNext (o : Option Call) (call : Call) : Type 0 where
-  next : o ≡ Some call
-  text : puts_text call ≡ true
+pub record IsNext (o : Option Call) (call : Call) : Type 0 where
+  pub next : o ≡ Some call
+  pub text : puts_text call ≡ true
 
 awaited-is : (o : Option Call) (call : Call) → is_awaited o call ≡ true → IsNext o call
 awaited-is None call h = absurd (false≢true h)
@@ -351,7 +351,7 @@ quiet client c d t m call o allowed none stage aside fits =
     }
 
 -- the call that was made is the awaited one
-next_call : (client : List ℕ) (c : Course) (call : Call) (stamp : ℕ) → c.lease.phase ≡ Held
+pub next_call : (client : List ℕ) (c : Course) (call : Call) (stamp : ℕ) → c.lease.phase ≡ Held
     Exclusive stamp → is_work c.lease.phase (role_of client call) ≡ true → is_allowed client c call
     ≡ true → IsNext (awaited c.stage) call
 next_call client c call stamp phase work allowed =
@@ -468,7 +468,7 @@ own_sent client c t m call landed may never fits = by_work (is_work c.lease.phas
 
 -- ---- the monitors, event by event
 
-allowed_so_far : (client : List ℕ) (c : Course) (es : List Event) → allowed_from client c es ≡
+pub allowed_so_far : (client : List ℕ) (c : Course) (es : List Event) → allowed_from client c es ≡
     true → c.lawful ≡ true
 unfolding allowed_from
 allowed_so_far client c [] h = h

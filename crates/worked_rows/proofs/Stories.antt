@@ -1,7 +1,6 @@
 -- The written histories are honest, their clients keep their locks, and each busy answer has its lock.
-use Rattle.std.proofs.Common.{◌≡◌, ◌≤◌, refl, arith, inl, inr, ℕ, List, [], ◌∷◌, true}
+use Rattle.std.proofs.Common.{◌≡◌, ◌≤◌, refl, arith, inl, inr, ℕ, [], ◌∷◌}
 use Rattle.std.specs.Prelude.{take, All}
-use Rattle.std.specs.List.{list_all}
 use Rattle.std.proofs.lemmas.List.Elements.{All-nil, All-cons}
 use Rattle.std.proofs.lemmas.List.Sums.{AllPass-from_list_all}
 use Rattle.jop_base.specs.Id.{IsIdText, is_digit}
@@ -19,10 +18,13 @@ use Rattle.jop_target.specs.declared.reply.Entry.{Entry}
 use Rattle.jop_target.specs.declared.reply.Reply.TheVariants.{Done}
 use Rattle.jop_target.specs.declared.tree.File.{File}
 use Rattle.lease.specs.Discipline.{lawful_from, session_from}
-use Rattle.lease.specs.Exclusion.{AllKeepLocks}
+use Rattle.lease.specs.Exclusion.{AllKeepLocks, IsTimely}
 use Rattle.lease.specs.Outcomes.{IsBlocked}
 use Rattle.lease.specs.Stories.{one, two, lock_of, shown}
-use Rattle.lease.proofs.Written.{all_keep_locks, is_honest, orderly_empty}
+use Rattle.lease.proofs.Written.{all_keep_locks, is_honest, is_timely, orderly_empty}
+use Rattle.target_upgrade.specs.Course.{allowed_from}
+use Rattle.exclusion.specs.Exclusive.{AllKeepVersions}
+use Rattle.exclusion.proofs.Written.{all_keep_versions}
 use Rattle.worked_rows.specs.Histories.{two_upgraders, renewed_in_time, renewed_too_late, behind_a_sync_lock, lock, both_locks}
 
 -- ---- honest stores
@@ -75,6 +77,44 @@ keep_in_time = all_keep_locks renewed_in_time refl
 pub keep_too_late : AllKeepLocks renewed_too_late
 unfolding lawful_from
 keep_too_late = all_keep_locks renewed_too_late refl
+
+pub keep_behind : AllKeepLocks (behind_a_sync_lock 184999)
+unfolding lawful_from
+keep_behind = all_keep_locks (behind_a_sync_lock 184999) refl
+
+-- ---- what is done under leases
+
+pub versions_two : AllKeepVersions two_upgraders
+unfolding allowed_from
+versions_two = all_keep_versions two_upgraders refl
+
+pub versions_in_time : AllKeepVersions renewed_in_time
+unfolding allowed_from
+versions_in_time = all_keep_versions renewed_in_time refl
+
+pub versions_too_late : AllKeepVersions renewed_too_late
+unfolding allowed_from
+versions_too_late = all_keep_versions renewed_too_late refl
+
+pub versions_behind : AllKeepVersions (behind_a_sync_lock 184999)
+unfolding allowed_from
+versions_behind = all_keep_versions (behind_a_sync_lock 184999) refl
+
+pub timely_two : IsTimely two_upgraders
+unfolding session_from
+timely_two = is_timely two_upgraders refl
+
+pub timely_in_time : IsTimely renewed_in_time
+unfolding session_from
+timely_in_time = is_timely renewed_in_time refl
+
+pub timely_too_late : IsTimely renewed_too_late
+unfolding session_from
+timely_too_late = is_timely renewed_too_late refl
+
+pub timely_behind : IsTimely (behind_a_sync_lock 184999)
+unfolding session_from
+timely_behind = is_timely (behind_a_sync_lock 184999) refl
 
 -- ---- locks in the way
 

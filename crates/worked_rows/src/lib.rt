@@ -1,4 +1,5 @@
-//! Worked cases: runs of [`jop_cli::run`] over a target and sinks in memory, leases, and histories of all clients.
+//! Worked cases: runs of [`jop_cli::run`] over an outside in memory, leases, and histories of all
+//! clients.
 #![tactic(auto)]
 
 #[cfg(test)]

@@ -1,6 +1,7 @@
-use jop_base::{Bytes, MemSink, MemSource, Seq, Text};
+use jop_base::{Bytes, MemClock, MemEntropy, MemSink, MemSource, Seq, Text};
 use jop_cli::{Status, Words, run};
 use jop_target::{Diary, Event, MemTarget};
+use local_store::{Changes, MemKeeper};
 use std::alloc::{AllocError, Global};
 
 /// What a run came to: its status, what it wrote on standard error, and its trail.
@@ -38,9 +39,39 @@ pub(crate) fn run_over(
     input: &mut MemSource,
     out: &mut MemSink,
 ) -> Result<Ran, AllocError> {
+    let mut keeper = MemKeeper::new(alloc);
+    run_kept(alloc, words, &mut keeper, target, input, out)
+}
+
+/// Runs the program once over these tables and this input, with an empty diary. The random source
+/// gives the bytes 0 to 15, and then fails.
+pub(crate) fn run_kept(
+    alloc: Global,
+    words: &Words,
+    keeper: &mut MemKeeper,
+    target: &mut MemTarget,
+    input: &mut MemSource,
+    out: &mut MemSink,
+) -> Result<Ran, AllocError> {
+    let mut random = Bytes::new(alloc);
+    random.append(&[0, 1, 2, 3, 4, 5, 6, 7, 8, 9, 10, 11, 12, 13, 14, 15])?;
+    let mut entropy = MemEntropy::new(alloc, random);
     let mut err = MemSink::new(alloc);
     let mut diary = Diary::new(alloc);
-    let status = run(alloc, words, target, input, out, &mut err, &mut diary);
+    let mut made = Changes::new(alloc);
+    let status = run(
+        alloc,
+        words,
+        keeper,
+        target,
+        input,
+        out,
+        &mut err,
+        &mut MemClock::new(alloc, 1, 1),
+        &mut entropy,
+        &mut diary,
+        &mut made,
+    );
     let trail = trail_text(alloc, diary.events())?;
     Ok(Ran { status, err, trail })
 }

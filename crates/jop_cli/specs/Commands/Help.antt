@@ -1,8 +1,8 @@
 -- `help`: how the program is called.
-use Rattle.std.specs.Prelude.{ℕ, ◌≡◌, List, [], ◌∷◌, ◌++◌, codes, Option, Some, None, Result, Ok}
+use Rattle.std.specs.Prelude.{ℕ, ◌≡◌, List, [], ◌∷◌, ◌++◌, codes, Option, Some, None, Ok}
 use Rattle.jop_cli.specs.declared.command.Verb.{Verb}
 use Rattle.jop_cli.specs.declared.command.Verb.TheVariants.{Help}
-use Rattle.jop_cli.specs.declared.status.Status.{Status}
+use Rattle.jop_cli.specs.Commands.Sessions.{Outcome}
 
 -- nothing behind the word
 abbrev pub help_words : List (List ℕ) → Option Verb
@@ -13,5 +13,5 @@ help_words words = None
 abbrev pub usage_line : List ℕ
 usage_line = codes "usage: jop [--profile PATH] COMMAND" ++ 10 ∷ []
 
-abbrev pub Helps : Result (List ℕ) Status → Type 0
+abbrev pub Helps : Outcome → Type 0
 Helps outcome = outcome ≡ Ok usage_line

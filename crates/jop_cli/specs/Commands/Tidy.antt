@@ -14,6 +14,7 @@ use Rattle.jop_cli.specs.declared.command.Verb.{Verb}
 use Rattle.jop_cli.specs.declared.command.Verb.TheVariants.{Tidy}
 use Rattle.jop_cli.specs.declared.command.tidy.TidyErr.{TidyErr}
 use Rattle.jop_cli.specs.declared.command.tidy.TidyErr.TheVariants as tidy_errors
+use Rattle.jop_cli.specs.Commands.Sessions.{Outcome}
 use Rattle.jop_cli.specs.declared.status.Status.{Status}
 use Rattle.jop_cli.specs.declared.status.Status.TheVariants as statuses
 
@@ -70,11 +71,11 @@ status_of tidy_errors.TooLarge = statuses.TooLarge (TIDY_LIMIT + 1)
 status_of (tidy_errors.Bad bad) = statuses.BadItem bad
 status_of tidy_errors.NoMemory = statuses.NoMemory
 
-abbrev pub outcome_of : Result (List ℕ) TidyErr → Result (List ℕ) Status
+abbrev pub outcome_of : Result (List ℕ) TidyErr → Outcome
 outcome_of (Ok text) = Ok text
 outcome_of (Err error) = Err (status_of error)
 
-abbrev pub bytes_outcome : Result (List ℕ) ItemErr → Result (List ℕ) Status
+abbrev pub bytes_outcome : Result (List ℕ) ItemErr → Outcome
 bytes_outcome (Ok text) = Ok text
 bytes_outcome (Err error) = Err (status_of (item_err error))
 
@@ -83,8 +84,7 @@ abbrev pub StandsFor : Result (List ℕ) TidyErr → Status → Type 0
 StandsFor (Ok text) status = (status ≡ statuses.Ok) ⊎ (status ≡ statuses.SinkFault)
 StandsFor (Err error) status = status ≡ status_of error
 
-pub record Tidies (old : SourceNow) (outcome : Result (List ℕ) Status) (new : SourceNow)
-    : Type 0 where
+pub record Tidies (old : SourceNow) (outcome : Outcome) (new : SourceNow) : Type 0 where
   pub result : Result (List ℕ) TidyErr
   pub tidies : TidiesInput old result new
   pub is : outcome ≡ outcome_of result

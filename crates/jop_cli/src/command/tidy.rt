@@ -1,8 +1,9 @@
 ghost use Rattle.std.specs.Prelude.{◌≡◌, ℕ, List, Result};
 ghost use Rattle.item_text.specs.declared.bad_item.ItemErr.{ItemErr};
-ghost use Rattle.jop_cli.specs.Commands.{Outcome};
+ghost use Rattle.jop_cli.specs.Commands.Sessions.{Outcome};
 ghost use Rattle.jop_cli.specs.Commands.Tidy.{TIDY_LIMIT, Tidies, TidiesBytes, bytes_outcome, tidy_words};
-ghost use Rattle.jop_cli.specs.Run.{Emits, IsReadOf};
+ghost use Rattle.jop_cli.specs.Run.{Emits};
+ghost use Rattle.local_commands.specs.Sparing.{IsReadOf};
 
 use crate::command::Verb;
 use crate::emit::emit_three;

@@ -1,14 +1,16 @@
-use Rattle.jop_cli.proofs.Runs.{leaves_all, obeys_empty, uses_none}
+use Rattle.std.proofs.Common.{ap}
+use Rattle.jop_cli.proofs.Fit.{command_fit}
+use Rattle.jop_cli.proofs.Runs.{misused, starved}
+use Rattle.jop_cli.specs.Commands.{verb_in}
 use Rattle.jop_cli.proofs.program.answer.Goals as goal
 
-pub returns-in-Err-Usage-clause-target : goal.returns-in-Err-Usage-clause-target
-returns-in-Err-Usage-clause-target g c = uses_none _ _ c.requires
+pub obey-requires-clause-fit : goal.obey-requires-clause-fit
+obey-requires-clause-fit g c = command_fit c.args.words.now.list c.in-Ok.command c.in-Ok.ensures.ok
 
-pub returns-in-Err-NoMemory-clause-target : goal.returns-in-Err-NoMemory-clause-target
-returns-in-Err-NoMemory-clause-target g c = uses_none _ _ c.requires
+pub returns-in-Err-Usage : goal.returns-in-Err-Usage
+returns-in-Err-Usage g c =
+    let none = c.in-Err-Usage.ensures.usage (cc (c.in-Err-Usage.field-0-is)) in
+    misused _ _ _ _ (ap verb_in none) c.requires.unwritten c.requires.unchanged
 
-pub returns-in-Err-NoMemory-clause-discipline : goal.returns-in-Err-NoMemory-clause-discipline
-returns-in-Err-NoMemory-clause-discipline g c = λ kind client _. obeys_empty client _ c.requires
-
-pub returns-in-Err-NoMemory-clause-alone : goal.returns-in-Err-NoMemory-clause-alone
-returns-in-Err-NoMemory-clause-alone g c = leaves_all _ _ _ c.requires
+pub returns-in-Err-NoMemory : goal.returns-in-Err-NoMemory
+returns-in-Err-NoMemory g c = starved _ _ _ _ c.requires.unwritten c.requires.unchanged

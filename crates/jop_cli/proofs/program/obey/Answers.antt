@@ -1,67 +1,78 @@
-use Rattle.std.proofs.Common.{refl, subst, List, Ok, Err}
-use Rattle.jop_target.specs.declared.event.Event.{Event}
-use Rattle.jop_cli.proofs.Checks.{checks_of, early_check, explained_check}
-use Rattle.jop_cli.proofs.Runs.{explained_as, obeys_as, uses_line, uses_none}
-use Rattle.jop_cli.proofs.Tidied.{explained_tidied}
-use Rattle.jop_cli.specs.Commands.Check.{AddsSession, IsLeaseOrSession, free_line, status_of}
-use Rattle.jop_cli.specs.Commands.Help.{usage_line}
-use Rattle.jop_cli.specs.Outside.{seen}
+use Rattle.std.proofs.Common.{refl, Ok, Err}
+use Rattle.jop_cli.proofs.Checked.{acts_checked}
+use Rattle.local_commands.specs.Lines.{printed_text}
+use Rattle.jop_cli.proofs.Local.{acts_local, early_local}
+use Rattle.jop_cli.proofs.Runs.{acts_as, acts_help}
+use Rattle.jop_cli.proofs.Sessions.{early_session}
+use Rattle.jop_cli.proofs.Tidied.{acts_tidied}
+use Rattle.jop_cli.proofs.Upgraded.{acts_upgraded, early_upgrade}
+use Rattle.jop_cli.specs.declared.command.Verb.TheVariants.{Check, Help, Local, Tidy, Upgrade}
 use Rattle.jop_cli.proofs.program.obey.Goals as goal
 
 -- ---- check
 
-pub returns-in-Ok-clause-obeys : goal.returns-in-Ok-clause-obeys
-returns-in-Ok-clause-obeys g c =
-    obeys_as _ _ _ _ _ _ (Ok free_line) c.in-Check.is
-    (checks_of _ _ _ (Ok tt) c.requires c.in-Ok.ensures.session) c.emit.ensures
+pub returns-in-Ok : goal.returns-in-Ok
+returns-in-Ok g c =
+    let added = c.in-Ok.ensures in
+    acts_as _ (Check c.in-Check.target c.in-Check.client) _ _ _ _ c.in-Check.is
+    (acts_checked c.in-Check.target c.in-Check.client _ _ _ c.args.diary.now.events _ _ (Ok tt) _
+    c.requires.unwritten c.requires.unchanged added.session added.line added.obeys added.apart added.exclusive
+    (λ es lock now is busy. absurd (cc (busy))) c.emit.ensures)
 
-pub returns-in-Check-clause-obeys : goal.returns-in-Check-clause-obeys
-returns-in-Check-clause-obeys g c =
-    obeys_as _ _ _ _ _ _ (Err (status_of c.in-Err.ended)) c.in-Check.is
-    (checks_of _ _ _ (Err c.in-Err.ended) c.requires c.in-Err.ensures.session)
-    (c.from.ensures, early_check c.in-Err.ended, refl)
-
-pub returns-in-Check-clause-explained : goal.returns-in-Check-clause-explained
-returns-in-Check-clause-explained g c =
-    let client = c.in-Check.client in
-    let trail = c.check_on.new.diary.events in
-    let before = seen (g.T.Target.state c.args.target.now) (g.I.Source.state c.args.input.now)
-    (g.O.Sink.state c.args.out.now) in
-    let after = seen (g.T.Target.state c.check_on.new.target) (g.I.Source.state c.args.input.now)
-    (g.O.Sink.state c.args.out.now) in
-    let adds = subst (λ (t : List Event). AddsSession client t trail (Err c.in-Err.ended)) c.requires
-    c.in-Err.ensures.session in
-    let uses = uses_line (IsLeaseOrSession client) before.target after.target c.args.diary.now.events trail
-    c.requires c.check_on.ensures.line in
-    explained_as _ _ before after trail _ _ c.in-Check.is c.from.ensures
-    (explained_check _ client before after trail c.in-Err.ended adds uses)
+pub returns-in-Check : goal.returns-in-Check
+returns-in-Check g c =
+    let added = c.in-Err.ensures in
+    acts_as _ (Check c.in-Check.target c.in-Check.client) _ _ _ _ c.in-Check.is
+    (acts_checked c.in-Check.target c.in-Check.client _ _ _ c.args.diary.now.events _ _
+    (Err c.in-Err.ended) _ c.requires.unwritten c.requires.unchanged added.session added.line
+    added.obeys added.apart added.exclusive added.busy (c.from.ensures, early_session c.in-Err.ended, refl))
 
 -- ---- help
 
-pub returns-in-Help-clause-obeys : goal.returns-in-Help-clause-obeys
-returns-in-Help-clause-obeys g c =
-    obeys_as _ _ _ _ _ _ (Ok usage_line) c.in-Help.is refl c.emit-in-Help.ensures
-
-pub returns-in-Help-clause-target : goal.returns-in-Help-clause-target
-returns-in-Help-clause-target g c = uses_none _ _ c.requires
+pub returns-in-Help : goal.returns-in-Help
+returns-in-Help g c =
+    acts_as _ Help _ _ _ _ c.in-Help.is
+    (acts_help _ _ _ _ _ c.requires.unwritten c.requires.unchanged refl c.emit-in-Help.ensures)
 
 -- ---- tidy
 
-pub returns-clause-obeys : goal.returns-clause-obeys
-returns-clause-obeys g c =
+pub returns-in-Tidy : goal.returns-in-Tidy
+returns-in-Tidy g c =
     let tidied = c.tidy.ensures.tidies in
-    obeys_as _ _ _ _ _ _ tidied.0 c.in-Tidy.is tidied.1 tidied.2
+    acts_as _ Tidy _ _ _ _ c.in-Tidy.is
+    (acts_tidied _ _ _ _ _ tidied.0 c.requires.unwritten c.requires.unchanged refl tidied.1
+    tidied.2 c.tidy.ensures.input)
 
-pub returns-clause-explained : goal.returns-clause-explained
-returns-clause-explained g c =
-    let tidied = c.tidy.ensures.tidies in
-    let before = seen (g.T.Target.state c.args.target.now) (g.I.Source.state c.args.input.now)
-    (g.O.Sink.state c.args.out.now) in
-    let after = seen (g.T.Target.state c.args.target.now) (g.I.Source.state c.tidy.new.input)
-    (g.O.Sink.state c.tidy.new.out) in
-    let trail = c.args.diary.now.events in
-    explained_as _ _ before after trail _ _ c.in-Tidy.is refl
-    (explained_tidied before after trail c.tidy.result tidied.0 tidied.1 tidied.2)
+-- ---- a command on the tables
 
-pub returns-clause-target : goal.returns-clause-target
-returns-clause-target g c = uses_none _ _ c.requires
+pub returns-in-Ok-obey_locally : goal.returns-in-Ok-obey_locally
+returns-in-Ok-obey_locally g c =
+    acts_as _ (Local c.in-Local.command) _ _ _ _ c.in-Local.is
+    (acts_local c.in-Local.command _ _ c.args.diary.now.events _ c.args.made.now.changes _
+    (Ok (printed_text c.in-Ok-obey_locally.printed)) _ c.requires.unwritten c.requires.unchanged
+    c.in-Ok-obey_locally.ensures.runs c.in-Ok-obey_locally.ensures.spares refl c.emit_printed.ensures)
+
+pub returns-in-Local : goal.returns-in-Local
+returns-in-Local g c =
+    acts_as _ (Local c.in-Local.command) _ _ _ _ c.in-Local.is
+    (acts_local c.in-Local.command _ _ c.args.diary.now.events _ c.args.made.now.changes _
+    (Err c.in-Err-obey_locally.error) _ c.requires.unwritten c.requires.unchanged
+    c.in-Err-obey_locally.ensures.runs c.in-Err-obey_locally.ensures.spares refl
+    (c.from-in-Err-obey_locally.ensures, early_local c.in-Err-obey_locally.error, refl))
+
+-- ---- upgrade
+
+pub returns-in-Ok-upgrade : goal.returns-in-Ok-upgrade
+returns-in-Ok-upgrade g c =
+    acts_as _ (Upgrade c.in-Upgrade.target) _ _ _ _ c.in-Upgrade.is
+    (acts_upgraded c.in-Upgrade.target _ _ c.args.diary.now.events _ c.args.made.now.changes _
+    (Ok c.in-Ok-upgrade.version) _ c.requires.unwritten c.requires.unchanged refl
+    refl c.in-Ok-upgrade.ensures c.emit_version.ensures)
+
+pub returns : goal.returns
+returns g c =
+    acts_as _ (Upgrade c.in-Upgrade.target) _ _ _ _ c.in-Upgrade.is
+    (acts_upgraded c.in-Upgrade.target _ _ c.args.diary.now.events _ c.args.made.now.changes _
+    (Err c.in-Err-upgrade.error) _ c.requires.unwritten c.requires.unchanged refl
+    refl c.in-Err-upgrade.ensures
+    (c.from-in-Err-upgrade.ensures, early_upgrade c.in-Err-upgrade.error, refl))

@@ -1,0 +1,3 @@
+pub mod Exclusive
+pub mod Learnt
+pub mod Stories

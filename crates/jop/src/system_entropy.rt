@@ -1,0 +1,34 @@
+use jop_base::{Entropy, Failed, Faults};
+use std::random::RandomSource;
+
+/// The system's source of random bytes. It tells nothing of what it gives next.
+#[derive(Drop)]
+pub struct SystemEntropy {
+    rt: HostRuntime,
+    faults: Faults,
+}
+
+impl SystemEntropy {
+    pub fn new(rt: HostRuntime) -> SystemEntropy {
+        SystemEntropy {
+            rt,
+            faults: Faults::new(),
+        }
+    }
+}
+
+impl Entropy for SystemEntropy {
+    ghost use Rattle.std.specs.Prelude.{None};
+
+    ghost state = { λ s. record { left = None; faults = s.faults } };
+
+    fn fill(&mut self, into: &mut [u8]) -> Result<(), Failed> {
+        match self.rt.fill_bytes(into) {
+            Ok(()) => Ok(()),
+            Err(_) => {
+                self.faults.rise();
+                Err(Failed)
+            }
+        }
+    }
+}

@@ -1,0 +1,321 @@
+-- What an upgrade comes to.
+use Rattle.std.proofs.Common.{◌≡◌, ◌∙◌, refl, sym, ap, subst, inl, inr, ℕ, List, [], ◌∷◌, true, Option, Some, None, Result, Ok, Err, false}
+use Rattle.std.specs.Prelude.{option_map}
+use Rattle.std.proofs.lemmas.List.Elements.{All-cons, All-nil}
+use Rattle.jop_base.specs.Outside.{SinkNow}
+use Rattle.jop_base.specs.Random.{EntropyNow}
+use Rattle.jop_base.specs.declared.lock_name.LockKind.TheVariants.{Exclusive}
+use Rattle.jop_target.specs.Replies.{TargetNow}
+use Rattle.jop_target.specs.declared.event.Event.{Event}
+use Rattle.jop_target.specs.declared.event.Event.TheVariants.{Made}
+use Rattle.lease.specs.Phase.{Asked, Renewing}
+use Rattle.local_store.specs.Changing.{after_all}
+use Rattle.local_store.specs.Keepers.{KeeperNow, Kept, changed}
+use Rattle.local_store.specs.declared.change.Change.{Change}
+use Rattle.local_store.specs.declared.change.Change.TheVariants.{Named}
+use Rattle.site.specs.Owning.{NamesClient, OwnNow, Owns, own}
+use Rattle.site.specs.Sites.{IsAsBefore, SiteNow}
+use Rattle.site.specs.declared.own_err.OwnErr.{OwnErr}
+use Rattle.site.specs.declared.own_err.OwnErr.TheVariants as own_errors
+use Rattle.sync_run.specs.Sessions.{IsMarkOr}
+use Rattle.sync_run.specs.declared.session_err.SessionErr.{SessionErr}
+use Rattle.sync_run.specs.declared.session_err.SessionErr.TheVariants.{Busy, LeaseLost, TargetNewer, BadInfo, TargetFault, NoMemory}
+use Rattle.target_upgrade.specs.Answers.{IsCall}
+use Rattle.target_upgrade.specs.Runs.{LeavesUpgraded}
+use Rattle.jop_cli.proofs.Runs.{explained_emit, keeps_none, uses_behind, uses_none}
+use Rattle.jop_cli.proofs.Sessions.{busy_result, early_session, failed_session}
+use Rattle.jop_cli.specs.Commands.Sessions.{Redoes, outcome_by, session_status}
+use Rattle.jop_cli.specs.Commands.Upgrade.{HasRun, UpgradeNow, UpgradesBy, outcome_of, own_status, side, status_of, version_line}
+use Rattle.jop_cli.specs.Outside.{Outside, did}
+use Rattle.jop_cli.specs.Run.{Acts, Emits, IsChange, IsExplained, IsUncalled, KeepsChanges, UsesTarget, with_changes}
+use Rattle.jop_cli.specs.Statuses.{is_early}
+use Rattle.jop_cli.specs.declared.command.Verb.TheVariants.{Upgrade}
+use Rattle.jop_cli.specs.declared.command.upgrade.UpgradeErr.{UpgradeErr}
+use Rattle.jop_cli.specs.declared.command.upgrade.UpgradeErr.TheVariants.{Own, Session}
+use Rattle.jop_cli.specs.declared.status.Status.{Status}
+use Rattle.jop_cli.specs.declared.status.Status.TheVariants as statuses
+use Rattle.jop_cli.specs.declared.target_name.TargetName.{TargetName}
+
+early_own : (error : OwnErr) → is_early (own_status error) ≡ true
+early_own own_errors.KeeperFault = refl
+early_own own_errors.EntropyFault = refl
+early_own own_errors.NoMemory = refl
+
+pub early_upgrade : (error : UpgradeErr) → is_early (status_of error) ≡ true
+early_upgrade (Own error) = early_own error
+early_upgrade (Session error) = early_session error
+
+-- ---- the client is known
+
+-- what is known of a side that began with nothing, once its client is known
+record IsOwned (client : List ℕ) (keeper : KeeperNow) (named : OwnNow) : Type 0 where
+  pub uncalled : IsUncalled named.site.trail
+  pub tables : KeepsChanges false keeper named.site.made named.site.keeper
+  pub names : NamesClient named.site.keeper.kept (Some client)
+
+named_kept : (client : List ℕ) (kept : Option Kept) →
+    option_map (changed (Named client)) kept ≡ option_map (with_changes (Named client ∷ [])) kept
+unfolding after_all
+named_kept client None = refl
+named_kept client (Some kept) = refl
+
+names_itself : (client : List ℕ) (kept : Option Kept) →
+    NamesClient (option_map (changed (Named client)) kept) (Some client)
+names_itself client None = tt
+names_itself client (Some kept) = refl
+
+owned : (client : List ℕ) (keeper : KeeperNow) (entropy : EntropyNow) (named : OwnNow) →
+    Owns (own keeper entropy [] []) (Ok client) named → IsOwned client keeper named
+owned client keeper entropy named (inl was) = rw (was.same) (record {
+  uncalled = All-nil IsChange;
+  tables = keeps_none keeper keeper refl;
+  names = was.named;
+})
+owned client keeper entropy named (inr is) = record {
+  uncalled = subst IsUncalled (sym is.made.trail)
+      (All-cons IsChange (Made 0) [] tt (All-nil IsChange));
+  tables = subst (λ (m : List Change). KeepsChanges false keeper m named.site.keeper) (sym is.made.made)
+      (is.made.kept ∙ named_kept client keeper.kept);
+  names = subst (λ (k : Option Kept). NamesClient k (Some client)) (sym is.made.kept)
+      (names_itself client keeper.kept);
+}
+
+-- ---- or it isn't
+
+unowned : (before after : OwnNow) (error : OwnErr) → Owns before (Err error) after →
+    IsAsBefore before.site after.site
+unowned before after own_errors.KeeperFault h = h.1
+unowned before after own_errors.EntropyFault h = record {
+  kept = ap (λ (s : SiteNow). s.keeper.kept) h.1;
+  trail = ap (λ (s : SiteNow). s.trail) h.1;
+  made = ap (λ (s : SiteNow). s.made) h.1;
+}
+unowned before after own_errors.NoMemory h = h
+
+explained_unowned : (target : TargetName) (before after : Outside) (trail : List Event)
+    (made : List Change) (error : OwnErr) →
+    Owns (own before.keeper before.entropy [] []) (Err error)
+    (own after.keeper after.entropy trail made) →
+    IsExplained (Some (Upgrade target)) before (did trail made) (own_status error) after
+explained_unowned target before after trail made own_errors.KeeperFault h = h.0
+explained_unowned target before after trail made own_errors.EntropyFault h = h.0
+explained_unowned target before after trail made own_errors.NoMemory h = tt
+
+acts_unowned : (target : TargetName) (before after : Outside) (trail : List Event)
+    (made : List Change) (error : OwnErr) (status : Status) → after.input ≡ before.input →
+    after.clock ≡ before.clock →
+    UpgradesBy (side before (did [] [])) (Err (Own error)) (side after (did trail made)) →
+    Emits (Err (own_status error)) before.out status after.out →
+    Acts (Some (Upgrade target)) before (did trail made) status after
+acts_unowned target before after trail made error status input clock h emits =
+    let as_before = unowned (own before.keeper before.entropy [] [])
+    (own after.keeper after.entropy trail made) error h.0 in
+    record {
+      answers = inr (record {
+        outcome = Err (own_status error);
+        comes = record { result = Err (Own error); upgrades = h; is = refl };
+        emits = emits;
+      });
+      explained = subst (λ (s : Status). IsExplained (Some (Upgrade target)) before
+          (did trail made) s after) (sym emits.0)
+          (explained_unowned target before after trail made error h.0);
+      sessions = inl (subst IsUncalled (sym as_before.trail) (All-nil IsChange));
+      tables = subst (λ (m : List Change). KeepsChanges false before.keeper m after.keeper)
+          (sym as_before.made) (keeps_none before.keeper after.keeper as_before.kept);
+      target = subst (λ (t : List Event). UsesTarget before.target t after.target)
+          (sym as_before.trail)
+          (subst (λ (t : TargetNow). UsesTarget before.target [] t) (sym h.1)
+          (uses_none before.target));
+      alone = record { input = input; target = tt; tables = tt; clock = clock; random = tt };
+    }
+
+-- ---- a session was added
+
+explained_refusal : (target : TargetName) (before after : Outside) (trail : List Event)
+    (made : List Change) (error : SessionErr) →
+    (run : HasRun (side before (did [] [])) (Err error) (side after (did trail made))) →
+    IsUncalled run.named.site.trail → NamesClient after.keeper.kept (Some run.client) →
+    UsesTarget before.target trail after.target →
+    IsExplained (Some (Upgrade target)) before (did trail made) (session_status error) after
+explained_refusal target before after trail made (Busy lock now) run uncalled names uses = record {
+  session = record { kind = Exclusive; client = None };
+  uses = refl;
+  client = run.client;
+  of = names;
+  before = run.named.site.trail;
+  changes = uncalled;
+  calls = run.session.whole.middle;
+  whole = run.session.whole.trail;
+  came = run.session.because;
+}
+explained_refusal target before after trail made (LeaseLost seen) run uncalled names uses = record {
+  session = record { kind = Exclusive; client = None };
+  uses = refl;
+  client = run.client;
+  of = names;
+  before = run.named.site.trail;
+  changes = uncalled;
+  calls = run.session.whole.middle;
+  whole = run.session.whole.trail;
+  came = elim run.session.because [
+    | inl missed ↦ (Asked Exclusive, missed)
+    | inr lapsed ↦ (Renewing Exclusive lapsed.0, lapsed.1)
+  ];
+}
+explained_refusal target before after trail made (TargetNewer version) run uncalled names uses =
+    record {
+      session = record { kind = Exclusive; client = None };
+      uses = refl;
+      client = run.client;
+      of = names;
+      before = run.named.site.trail;
+      changes = uncalled;
+      calls = run.session.whole.middle;
+      whole = run.session.whole.trail;
+      came = run.session.because;
+    }
+explained_refusal target before after trail made BadInfo run uncalled names uses = record {
+  session = record { kind = Exclusive; client = None };
+  uses = refl;
+  client = run.client;
+  of = names;
+  before = run.named.site.trail;
+  changes = uncalled;
+  calls = run.session.whole.middle;
+  whole = run.session.whole.trail;
+  came = run.session.because;
+}
+explained_refusal target before after trail made TargetFault run uncalled names uses =
+    let failed = failed_session IsCall run.client run.named.site.trail trail run.session.whole
+    run.session.because in
+    (failed, uses.fault failed)
+explained_refusal target before after trail made NoMemory run uncalled names uses = tt
+
+explained_run : (target : TargetName) (before after : Outside) (trail : List Event)
+    (made : List Change) (result : Result ℕ SessionErr) (status : Status) →
+    (run : HasRun (side before (did [] [])) result (side after (did trail made))) →
+    IsUncalled run.named.site.trail → NamesClient after.keeper.kept (Some run.client) →
+    UsesTarget before.target trail after.target →
+    Emits (outcome_by version_line result) before.out status after.out →
+    IsExplained (Some (Upgrade target)) before (did trail made) status after
+explained_run target before after trail made (Ok version) status run uncalled names uses emits =
+    explained_emit (Some (Upgrade target)) before after (did trail made) status
+    (version_line version) emits
+explained_run target before after trail made (Err error) status run uncalled names uses emits =
+    subst (λ (s : Status). IsExplained (Some (Upgrade target)) before (did trail made) s after)
+    (sym emits.0) (explained_refusal target before after trail made error run uncalled names uses)
+
+early_not : (status : Status) (client : List ℕ) (events : List Event) →
+    is_early status ≡ true → Redoes Exclusive client events status
+early_not statuses.Ok client events early = cc
+early_not statuses.SinkFault client events early = cc
+early_not status client events early = tt
+
+redoes : (client : List ℕ) (events : List Event) (result : Result ℕ SessionErr)
+    (before after : SinkNow) (status : Status) →
+    ((version : ℕ) → result ≡ Ok version → LeavesUpgraded client events) →
+    Emits (outcome_by version_line result) before status after →
+    Redoes Exclusive client events status
+redoes client events (Ok version) before after status leaves (inl went) =
+    subst (λ (s : Status). Redoes Exclusive client events s) (sym went.0) (leaves version refl)
+redoes client events (Ok version) before after status leaves (inr cut) =
+    subst (λ (s : Status). Redoes Exclusive client events s) (sym cut.0) (leaves version refl)
+redoes client events (Err error) before after status leaves emits =
+    subst (λ (s : Status). Redoes Exclusive client events s) (sym emits.0)
+    (early_not (session_status error) client events emits.1)
+
+-- the same answer, as one of the command
+abbrev as_upgrade : Result ℕ SessionErr → Result ℕ UpgradeErr
+as_upgrade (Ok version) = Ok version
+as_upgrade (Err error) = Err (Session error)
+
+same_run : (before after : UpgradeNow) (result : Result ℕ SessionErr) →
+    HasRun before result after → UpgradesBy before (as_upgrade result) after
+same_run before after (Ok version) run = run
+same_run before after (Err error) run = run
+
+same_outcome : (result : Result ℕ SessionErr) →
+    outcome_by version_line result ≡ outcome_of (as_upgrade result)
+same_outcome (Ok version) = refl
+same_outcome (Err error) = refl
+
+acts_run : (target : TargetName) (before after : Outside) (trail : List Event)
+    (made : List Change) (result : Result ℕ SessionErr) (status : Status) →
+    after.input ≡ before.input →
+    after.clock ≡ before.clock →
+    HasRun (side before (did [] [])) result (side after (did trail made)) →
+    Emits (outcome_by version_line result) before.out status after.out →
+    Acts (Some (Upgrade target)) before (did trail made) status after
+acts_run target before after trail made result status input clock run emits =
+    let known = owned run.client before.keeper before.entropy run.named run.owns in
+    let uses = uses_behind (IsMarkOr IsCall) before.target after.target run.named.site.trail trail
+    known.uncalled run.line in
+    let names = subst (λ (k : KeeperNow). NamesClient k.kept (Some run.client)) (sym run.kept)
+    known.names in
+    record {
+      answers = inr (record {
+        outcome = outcome_by version_line result;
+        comes = record {
+          result = as_upgrade result;
+          upgrades = same_run _ _ result run;
+          is = same_outcome result;
+        };
+        emits = emits;
+      });
+      explained = explained_run target before after trail made result status run known.uncalled
+          names uses emits;
+      sessions = inr (record {
+        client = run.client;
+        of = names;
+        before = run.named.site.trail;
+        changes = known.uncalled;
+        events = run.line.more;
+        trail_is = run.line.trail;
+        keeps = record {
+          obeys = run.obeys;
+          apart = run.apart;
+          exclusive = run.exclusive;
+          busy = λ lock now is. run.busy lock now
+              (busy_result version_line result before.out after.out status lock now emits is);
+          redone = redoes run.client run.line.more result before.out after.out status run.redone
+              emits;
+        };
+      });
+      tables = subst (λ (m : List Change). KeepsChanges false before.keeper m after.keeper) (sym run.made)
+          (subst (λ (k : KeeperNow). KeepsChanges false before.keeper run.named.site.made k)
+          (sym run.kept) known.tables);
+      target = uses;
+      alone = record { input = input; target = tt; tables = tt; clock = clock; random = tt };
+    }
+
+-- ---- the command
+
+upgraded : (target : TargetName) (before after : Outside) (trail : List Event)
+    (made : List Change) (result : Result ℕ UpgradeErr) (status : Status) →
+    after.input ≡ before.input →
+    after.clock ≡ before.clock →
+    UpgradesBy (side before (did [] [])) result (side after (did trail made)) →
+    Emits (outcome_of result) before.out status after.out →
+    Acts (Some (Upgrade target)) before (did trail made) status after
+upgraded target before after trail made (Ok version) status input clock run emits =
+    acts_run target before after trail made (Ok version) status input clock run emits
+upgraded target before after trail made (Err (Session error)) status input clock run emits =
+    acts_run target before after trail made (Err error) status input clock run emits
+upgraded target before after trail made (Err (Own error)) status input clock h emits =
+    acts_unowned target before after trail made error status input clock h emits
+
+-- an upgrade that began with an empty trail and no changes
+pub acts_upgraded : (target : TargetName) (before after : Outside) (old trail : List Event)
+    (none made : List Change) (result : Result ℕ UpgradeErr) (status : Status) → old ≡ [] →
+    none ≡ [] → after.input ≡ before.input →
+    after.clock ≡ before.clock →
+    UpgradesBy (side before (did old none)) result (side after (did trail made)) →
+    Emits (outcome_of result) before.out status after.out →
+    Acts (Some (Upgrade target)) before (did trail made) status after
+acts_upgraded target before after old trail none made result status uncalled unchanged input
+    clock h emits =
+    upgraded target before after trail made result status input clock
+    (subst (λ (o : List Event). UpgradesBy (side before (did o [])) result
+    (side after (did trail made))) uncalled
+    (subst (λ (n : List Change). UpgradesBy (side before (did old n)) result
+    (side after (did trail made))) unchanged h)) emits

@@ -1,0 +1,74 @@
+-- Commands that run a session on a target.
+use Rattle.std.specs.Prelude.{ℕ, ◌≡◌, List, Option, Some, None, Result, Ok, Err}
+use Rattle.exclusion.specs.Exclusive.{KeepsExclusive}
+use Rattle.jop_base.specs.declared.lock_name.LockKind.{LockKind}
+use Rattle.jop_base.specs.declared.lock_name.LockKind.TheVariants.{Exclusive}
+use Rattle.jop_target.specs.declared.event.Event.{Event}
+use Rattle.lease.specs.Blocked.{NamesALiveLock}
+use Rattle.lease.specs.Exclusion.{KeepsApart}
+use Rattle.lease.specs.declared.lock.Lock.{Lock}
+use Rattle.local_store.specs.Keepers.{KeeperNow}
+use Rattle.site.specs.Owning.{NamesClient}
+use Rattle.sync_run.specs.declared.session_err.SessionErr.{SessionErr}
+use Rattle.sync_run.specs.declared.session_err.SessionErr.TheVariants as session_errors
+use Rattle.target_upgrade.specs.Course.{ObeysLease}
+use Rattle.target_upgrade.specs.Runs.{LeavesUpgraded}
+use Rattle.jop_cli.specs.declared.status.Status.{Status}
+use Rattle.jop_cli.specs.declared.status.Status.TheVariants as statuses
+
+-- ---- what a command comes to
+
+-- the text that is printed, or the status for which nothing is
+abbrev pub Outcome : Type 0
+Outcome = Result (List ℕ) Status
+
+-- why a session ended, as a status
+abbrev pub session_status : SessionErr → Status
+session_status (session_errors.Busy lock now) = statuses.Busy lock now
+session_status (session_errors.LeaseLost seen) = statuses.LeaseLost seen
+session_status (session_errors.TargetNewer version) = statuses.TargetNewer version
+session_status session_errors.BadInfo = statuses.BadInfo
+session_status session_errors.TargetFault = statuses.TargetFault
+session_status session_errors.NoMemory = statuses.NoMemory
+
+-- the text of what a session answered, or why it ended
+abbrev pub outcome_by : {T : Type 0} → (T → List ℕ) → Result T SessionErr → Outcome
+outcome_by text (Ok value) = Ok (text value)
+outcome_by text (Err error) = Err (session_status error)
+
+-- ---- whose session it is
+
+-- one session of this kind, for the client that the words name, or else for that of the tables
+pub record Session : Type 0 where
+  pub kind : LockKind
+  pub client : Option (List ℕ)
+
+-- the client of the words, or the one that the tables name in the end, if they are told
+abbrev pub IsClientOf : Option (List ℕ) → KeeperNow → List ℕ → Type 0
+IsClientOf (Some named) keeper client = client ≡ named
+IsClientOf None keeper client = NamesClient keeper.kept (Some client)
+
+-- ---- what holds in every history
+
+-- a session that went well leaves the upgraded target, if it is an upgrade
+abbrev pub Redoes : LockKind → List ℕ → List Event → Status → Type 0
+Redoes Exclusive client events statuses.Ok = LeavesUpgraded client events
+Redoes Exclusive client events statuses.SinkFault = LeavesUpgraded client events
+Redoes kind client events status = Unit {0}
+
+-- What is promised of the session that ends in this status, whatever history its events are the
+-- client's last part of.
+pub record KeepsLease (kind : LockKind) (client : List ℕ) (events : List Event) (status : Status)
+    : Type 0 where
+  -- its locks are put, renewed and deleted in turn, and nothing else is called than its lease allows
+  pub obeys : ObeysLease client events
+  -- no other client's write falls within an upgrade, and no two upgrades overlap
+  pub apart : KeepsApart client events
+  -- and each write lands on the version that its session has read, if the other clients do under
+  -- their leases what is allowed
+  pub exclusive : KeepsExclusive client events
+  -- the lock that a busy answer names stood in the way, live, with that stamp
+  pub busy : (lock : Lock) (now : ℕ) → status ≡ statuses.Busy lock now →
+      NamesALiveLock kind client events lock now
+  -- done once, or behind an upgrade that was stopped anywhere, it leaves the upgraded target
+  pub redone : Redoes kind client events status

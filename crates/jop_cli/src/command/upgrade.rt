@@ -1,0 +1,87 @@
+ghost use Rattle.std.specs.Prelude.{◌≡◌, [], IfOk};
+ghost use Rattle.site.specs.Owning.{own};
+ghost use Rattle.jop_cli.specs.Commands.Upgrade.{UpgradesBy, upgrade_of, upgrade_words};
+ghost use Rattle.jop_cli.specs.Words.{target_of};
+
+use crate::command::Verb;
+use crate::words::read_target;
+use jop_base::{Entropy, Text};
+use jop_target::{Diary, Target};
+use local_store::{Changes, Keeper};
+use site::{OwnErr, own_client};
+use std::alloc::{AllocError, Global};
+use sync_run::{SessionErr, upgrade_on};
+
+/// Why a target wasn't upgraded.
+#[derive(Clone, Copy, Debug, PartialEq, Eq)]
+pub(crate) enum UpgradeErr {
+    /// There is no client's id.
+    Own(OwnErr),
+    Session(SessionErr),
+}
+
+impl From<OwnErr> for UpgradeErr {
+    ghost use Rattle.std.specs.Prelude.{◌≡◌};
+    ghost use Rattle.jop_cli.specs.declared.command.upgrade.UpgradeErr.TheVariants.{Own};
+
+    ghost from_gives = { λ o e. e ≡ Own o };
+
+    fn from(error: OwnErr) -> UpgradeErr {
+        UpgradeErr::Own(error)
+    }
+}
+
+impl From<SessionErr> for UpgradeErr {
+    ghost use Rattle.std.specs.Prelude.{◌≡◌};
+    ghost use Rattle.jop_cli.specs.declared.command.upgrade.UpgradeErr.TheVariants.{Session};
+
+    ghost from_gives = { λ s e. e ≡ Session s };
+
+    fn from(error: SessionErr) -> UpgradeErr {
+        UpgradeErr::Session(error)
+    }
+}
+
+/// A target.
+pub(crate) fn read(alloc: Global, words: &[Text]) -> Result<Option<Verb>, AllocError>
+    ensures { IfOk result (λ verb. verb ≡ upgrade_words words.now) }
+{
+    match words {
+        [target] => read_one(alloc, target),
+        _ => Ok(None),
+    }
+}
+
+fn read_one(alloc: Global, target: &Text) -> Result<Option<Verb>, AllocError>
+    ensures { IfOk result (λ verb. verb ≡ upgrade_of (target_of target.now)) }
+{
+    match read_target(alloc, target)? {
+        Some(target) => Ok(Some(Verb::Upgrade { target })),
+        None => Ok(None),
+    }
+}
+
+/// Brings the target to the supported version, which it answers, in a session of the client that the
+/// tables name. Where they name none, it is named before anything else is changed or called.
+pub(crate) fn upgrade<T: Target, K: Keeper, N: Entropy>(
+    alloc: Global,
+    keeper: &mut K,
+    target: &mut T,
+    entropy: &mut N,
+    diary: &mut Diary,
+    made: &mut Changes,
+) -> Result<u64, UpgradeErr>
+    ensures { UpgradesBy
+        (record {
+          own = own (K.state keeper.old) (N.state entropy.old) diary.old.events made.old.changes;
+          target = T.state target.old;
+        })
+        result
+        (record {
+          own = own (K.state keeper.new) (N.state entropy.new) diary.new.events made.new.changes;
+          target = T.state target.new;
+        }) }
+{
+    let client = own_client(alloc, keeper, entropy, diary, made)?;
+    Ok(upgrade_on(alloc, target, &client, diary)?)
+}

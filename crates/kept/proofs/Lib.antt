@@ -1,0 +1,12 @@
+pub mod Accounts
+pub mod Clients
+pub mod Crossings
+pub mod Gaps
+pub mod Holding
+pub mod Losses
+pub mod Obeying
+pub mod Places
+pub mod TaleFiles
+pub mod TaleTold
+pub mod Told
+pub mod TreeFiles

@@ -1,0 +1,11 @@
+pub mod Agreeing
+pub mod Copies
+pub mod Joins
+pub mod Keeping
+pub mod Licensed
+pub mod Ordered
+pub mod Rows
+pub mod Seeing
+pub mod Standing
+pub mod Story
+pub mod Texts

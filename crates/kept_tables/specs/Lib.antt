@@ -1,0 +1,5 @@
+pub mod Fair
+pub mod Holding
+pub mod Known
+pub mod Stories
+pub mod Trails

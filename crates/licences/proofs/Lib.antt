@@ -1,0 +1,6 @@
+pub mod Joins
+pub mod Settled
+pub mod Settling
+pub mod Told
+pub mod Obeying
+pub mod Breaking

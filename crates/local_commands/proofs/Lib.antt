@@ -1,0 +1,10 @@
+pub mod Acting
+pub mod Bytes
+pub mod Edits
+pub mod InARow
+pub mod Leaving
+pub mod Plain
+pub mod Planned
+pub mod Removals
+pub mod Runs
+pub mod Stages

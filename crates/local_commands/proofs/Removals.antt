@@ -1,0 +1,57 @@
+-- What a removal may be refused for.
+use Rattle.std.specs.Prelude.{ℕ, ◌≡◌, ◌⊎◌, List, Bool, true, false, Option, Some, None, if◌then◌else◌, Result, Ok, Err, refl}
+use Rattle.std.proofs.Common.{sym, ◌∙◌, ap, subst, inl, inr}
+use Rattle.local_changes.specs.Makers.{is_full, removed, removed_row}
+use Rattle.local_changes.specs.declared.store_err.StoreErr.{StoreErr}
+use Rattle.local_changes.specs.declared.store_err.StoreErr.TheVariants as store_errors
+use Rattle.local_store.specs.Keepers.{KeeperNow}
+use Rattle.local_store.specs.Tables.{row_at}
+use Rattle.local_store.specs.declared.change.Change.{Change}
+use Rattle.local_store.specs.declared.change.Change.TheVariants.{Removed}
+use Rattle.local_store.specs.declared.row.Row.{Row}
+use Rattle.local_store.specs.declared.tables.Tables.{Tables}
+use Rattle.local_commands.specs.Commands.Rm.{rm_plan, why_kept}
+use Rattle.local_commands.specs.Keeping.{AreKept}
+use Rattle.local_commands.specs.Refusals.{store_refusal}
+use Rattle.local_commands.specs.Running.{Around, Runs}
+use Rattle.local_commands.specs.declared.local_err.LocalErr.{LocalErr}
+use Rattle.local_commands.specs.declared.local_err.LocalErr.TheVariants.{NotFound, NotEmpty}
+use Rattle.local_commands.proofs.Runs.{refused}
+
+-- of this id, there is no row, or it is full
+abbrev IsNamed : List ℕ → StoreErr → Type 0
+IsNamed id e = (e ≡ store_errors.NotFound id) ⊎ (e ≡ store_errors.NotEmpty id)
+
+pub removal_named : (t : Tables) (id : List ℕ) (e : StoreErr) → removed t id ≡ Err e → IsNamed id e
+removal_named t id e is = by (row_at t id) is where
+  full : (b : Bool) → (if b then Err (store_errors.NotEmpty id) else Ok (Removed id)) ≡ Err e → IsNamed id e
+  full true is = inr cc
+  full false is = cc
+
+  by : (row : Option Row) → removed_row t id row ≡ Err e → IsNamed id e
+  by None is = inl cc
+  by (Some r) is = full (is_full t id r) is
+
+-- a removal that is refused is one that the tables don't allow
+pub unremoved : (around : Around) (old new : KeeperNow) (t : Tables) (id : List ℕ) (e : LocalErr)
+    → AreKept old t × (new ≡ old) → why_kept (removed t id) ≡ Some e
+    → Runs (rm_plan id) (record around { keeper = old }) (Err e) (record around { keeper = new })
+unremoved around old new t id e read why = by (removed t id) refl why where
+  refuses : LocalErr → Type 0
+  refuses x =
+      Runs (rm_plan id) (record around { keeper = old }) (Err x) (record around { keeper = new })
+
+  named : (s : StoreErr) → removed t id ≡ Err s → IsNamed id s → refuses (store_refusal s)
+  named s due (inl is) =
+      subst (λ (x : StoreErr). refuses (store_refusal x)) (sym is)
+      (refused (rm_plan id) around old new t (NotFound id) read
+      (sym (ap why_kept (due ∙ ap (λ (x : StoreErr). Err x) is))))
+  named s due (inr is) =
+      subst (λ (x : StoreErr). refuses (store_refusal x)) (sym is)
+      (refused (rm_plan id) around old new t (NotEmpty id) read
+      (sym (ap why_kept (due ∙ ap (λ (x : StoreErr). Err x) is))))
+
+  by : (due : Result Change StoreErr) → removed t id ≡ due → why_kept due ≡ Some e → refuses e
+  by (Ok change) is none = cc none
+  by (Err s) is same =
+      subst refuses (cc same) (named s is (removal_named t id s is))

@@ -1,0 +1,11 @@
+-- A notebook that is asked for.
+use Rattle.std.specs.Prelude.{ℕ, List, Option, Some, None, if◌then◌else◌}
+use Rattle.local_changes.specs.Lookup.{folder_kind, is_row_of}
+use Rattle.local_store.specs.Tables.{row_at}
+use Rattle.local_store.specs.declared.tables.Tables.{Tables}
+
+-- the notebook that is asked for, if no row of its id is one
+abbrev pub missing_book : Tables → Option (List ℕ) → Option (List ℕ)
+missing_book t None = None
+missing_book t (Some book) =
+    if is_row_of folder_kind (row_at t book) then None else Some book

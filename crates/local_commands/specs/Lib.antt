@@ -1,0 +1,14 @@
+pub mod Refusals
+pub mod Keeping
+pub mod Taking
+pub mod Drawing
+pub mod Running
+pub mod Sparing
+pub mod Following
+pub mod Bodies
+pub mod Books
+pub mod Lines
+pub mod Saving
+pub mod Stamping
+pub mod Commands
+pub mod Plans

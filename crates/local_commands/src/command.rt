@@ -1,0 +1,10 @@
+pub(crate) mod add;
+pub(crate) mod attach;
+pub(crate) mod cat;
+pub(crate) mod clear;
+pub(crate) mod conflicts;
+pub(crate) mod edit;
+pub(crate) mod ls;
+pub(crate) mod mkbook;
+pub(crate) mod rm;
+pub(crate) mod tag;

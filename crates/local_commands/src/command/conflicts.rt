@@ -1,0 +1,56 @@
+ghost use Rattle.std.specs.Prelude.{◌≡◌, ◌∷◌, ◌++◌, [], OnOk};
+ghost use Rattle.std.specs.Fmt.{decimal};
+ghost use Rattle.local_commands.specs.Commands.Conflicts.{conflicts_plan};
+ghost use Rattle.local_commands.specs.Commands.Conflicts.{note_line, note_lines};
+ghost use Rattle.local_commands.specs.Refusals.{said};
+ghost use Rattle.local_commands.specs.Running.{Around, Runs};
+
+use crate::keeping::read_tables;
+use crate::local_err::LocalErr;
+use crate::title::title_of;
+use itoa::Buffer;
+use jop_base::Bytes;
+use local_store::{ConflictNote, Keeper, KeeperErr};
+use std::alloc::{AllocError, Global};
+
+/// A line for each conflict note, in the order in which they were made: its number, the id of the
+/// item and its title, with a space between each two.
+pub(crate) fn conflicts<K: Keeper>(alloc: Global, keeper: &mut K) -> Result<Bytes, LocalErr>
+    ensures { (around : Around) →
+        Runs conflicts_plan (record around { keeper = K.state keeper.old })
+        (said (λ text. text) result)
+        (record around { keeper = K.state keeper.new }) }
+{
+    let tables = read_tables(alloc, keeper)?;
+    let mut text = Bytes::new(alloc);
+    put_notes(&mut text, tables.conflicts.as_slice())?;
+    Ok(text)
+}
+
+fn put_notes(text: &mut Bytes, notes: &[ConflictNote]) -> Result<(), AllocError>
+    ensures { OnOk result (text.new ≡ text.old ++ note_lines notes.now) }
+{
+    for note in notes {
+        put_note(text, note)?;
+    }
+    Ok(())
+}
+
+fn put_note(text: &mut Bytes, note: &ConflictNote) -> Result<(), AllocError>
+    ensures { OnOk result (text.new ≡ text.old ++ note_line note.now) }
+{
+    put_numbers(text, note)?;
+    text.append(title_of(&note.item).as_bytes())?;
+    text.append(b"\n")
+}
+
+/// The number and the id, with a space behind each.
+fn put_numbers(text: &mut Bytes, note: &ConflictNote) -> Result<(), AllocError>
+    ensures { OnOk result
+        (text.new ≡ text.old ++ decimal note.now.number ++ 32 ∷ note.now.note ++ 32 ∷ []) }
+{
+    text.append(Buffer::new().format(note.number).as_bytes())?;
+    text.append(b" ")?;
+    text.append(note.note.as_str().as_bytes())?;
+    text.append(b" ")
+}

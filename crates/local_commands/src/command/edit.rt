@@ -1,0 +1,114 @@
+ghost use Rattle.std.specs.Prelude.{◌≡◌, ◌≤◌, [], None, IfOk, IfSome};
+ghost use Rattle.item_kinds.specs.Made.{IsLine};
+ghost use Rattle.jop_base.specs.Times.{last_time};
+ghost use Rattle.local_changes.specs.Editing.{plain_note};
+ghost use Rattle.local_store.specs.Sound.{IsAllowed, IsSound};
+ghost use Rattle.local_store.specs.Tables.{row_at};
+ghost use Rattle.local_commands.specs.Bodies.{body_limit};
+ghost use Rattle.local_commands.specs.Commands.Edit.{AllowsNote, ChecksNote, IsEdit, IsNote};
+ghost use Rattle.local_commands.specs.Commands.Edit.{edit_plan};
+ghost use Rattle.local_commands.specs.Keeping.{notes};
+ghost use Rattle.local_commands.specs.Refusals.{said};
+ghost use Rattle.local_commands.specs.Running.{Around, Runs};
+ghost use Rattle.local_commands.specs.Sparing.{IsReadOf};
+
+use crate::body::{BODY_LIMIT, BodyErr, take_body};
+use crate::keeping::{commit, read_tables};
+use crate::local_err::LocalErr;
+use crate::saving::{SaveErr, unless_long};
+use crate::stamp::read_clock;
+use item_kinds::{Kind, updated_of};
+use item_text::Item;
+use jop_base::{Clock, Id, MAX_TIME, Source, Text};
+use jop_target::Diary;
+use local_changes::edited;
+use local_store::{Change, Changes, Content, Keeper, KeeperErr, Tables, has_kind};
+use std::alloc::Global;
+
+/// Gives a note another title, if one is given, and the whole input as its body, and prints nothing. In
+/// this order: `NotFound` exactly if no row of this id is a note; `Sealed` exactly if it is sealed;
+/// `TimeEnd` exactly if it was last changed at [`MAX_TIME`]; the refusals of the input; the clock's;
+/// `TooLarge` of the note's text.
+pub(crate) fn edit<K: Keeper, I: Source, C: Clock>(
+    alloc: Global,
+    keeper: &mut K,
+    input: &mut I,
+    clock: &mut C,
+    diary: &mut Diary,
+    made: &mut Changes,
+    id: Id,
+    title: Option<Text>,
+) -> Result<(), LocalErr>
+    requires { IfSome title (λ title. IsLine title) }
+    ensures runs { (around : Around) →
+        Runs (edit_plan id title)
+        (record around {
+          keeper = K.state keeper.old;
+          input = I.state input.old;
+          clock = C.state clock.old;
+          notes = notes made.old.changes diary.old.events;
+        })
+        (said (λ done. []) result)
+        (record around {
+          keeper = K.state keeper.new;
+          input = I.state input.new;
+          clock = C.state clock.new;
+          notes = notes made.new.changes diary.new.events;
+        }) }
+    ensures input { IsReadOf body_limit (I.state input.old) (I.state input.new) }
+{
+    let tables = read_tables(alloc, keeper)?;
+    check_note(&tables, &id)?;
+    let body = take_body(alloc, input)?;
+    let Ok(now) = read_clock(clock) else {
+        return Err(LocalErr::ClockFault);
+    };
+    let change = edit_saving(alloc, &tables, id, title, body, now)?;
+    commit(alloc, keeper, diary, made, change)?;
+    Ok(())
+}
+
+/// Refuses what is no readable note, and a note that can't be changed later.
+fn check_note(tables: &Tables, id: &Id) -> Result<(), LocalErr>
+    ensures { AllowsNote id.now (plain_note id.now (row_at tables.now id.now)) result }
+{
+    let item = plain_note(tables, id)?;
+    if updated_of(item) == MAX_TIME {
+        return Err(LocalErr::TimeEnd(*id));
+    }
+    Ok(())
+}
+
+/// The note of an id, which must be readable.
+fn plain_note<'a>(tables: &'a Tables, id: &Id) -> Result<&'a Item, LocalErr>
+    ensures { IsNote (plain_note id.now (row_at tables.now id.now)) result }
+{
+    match tables.rows.at(id) {
+        Some(row) if has_kind(row.content.item(), Kind::NOTE) => match &row.content {
+            Content::Plain(item) => Ok(item),
+            Content::Sealed(_) => Err(LocalErr::Sealed(*id)),
+        },
+        _ => Err(LocalErr::NotFound(*id)),
+    }
+}
+
+/// The change that edits the note, which is readable and can be changed later.
+#[tactic(auto, using(crate::proofs::Edits::edit_long, crate::proofs::Edits::edit_saves))]
+fn edit_saving(
+    alloc: Global,
+    tables: &Tables,
+    id: Id,
+    title: Option<Text>,
+    body: Text,
+    now: u64,
+) -> Result<Change, SaveErr>
+    requires sound { IsSound tables.now }
+    requires title { IfSome title (λ title. IsLine title) }
+    requires time { now ≤ last_time }
+    requires note { ChecksNote id (plain_note id (row_at tables.now id)) None }
+    ensures saving { IsEdit id title body now (plain_note id (row_at tables.now id)) result }
+    ensures allowed { IfOk result (λ change. IsAllowed change) }
+{
+    let change = unless_long(edited(alloc, tables, id, title, body, now))?;
+    Ok(change)
+}

@@ -1,0 +1,105 @@
+use crate::body::{BODY_LIMIT, BodyErr};
+use crate::saving::SaveErr;
+use crate::stamp::StampErr;
+use jop_base::Id;
+use local_store::KeeperErr;
+use std::alloc::AllocError;
+
+/// Why a command ended otherwise than well: one word for each cause. Which of them a command can give
+/// follows from its plan.
+#[derive(Clone, Copy, Debug, PartialEq, Eq)]
+pub enum LocalErr {
+    /// The keeper failed.
+    KeeperFault,
+    /// The input failed.
+    SourceFault,
+    /// The clock failed.
+    ClockFault,
+    /// The random source failed.
+    EntropyFault,
+    /// No row of this id is of the kind that is wanted.
+    NotFound(Id),
+    /// The row of this id is sealed.
+    Sealed(Id),
+    /// The note of this id was last changed at [`jop_base::MAX_TIME`].
+    TimeEnd(Id),
+    /// Notes or notebooks are in the notebook of this id.
+    NotEmpty(Id),
+    /// There is no conflict note of this number.
+    NoConflict(u64),
+    /// The input is past its limit, and this is the limit and one; or the item's text has this many
+    /// bytes, more than [`local_changes::ITEM_LIMIT`].
+    TooLarge(u64),
+    /// The input isn't UTF-8.
+    NotText,
+    NoMemory,
+}
+
+impl From<AllocError> for LocalErr {
+    ghost use Rattle.std.specs.Prelude.{◌≡◌};
+    ghost use Rattle.local_commands.specs.declared.local_err.LocalErr.TheVariants.{NoMemory};
+
+    ghost from_gives = { λ _ e. e ≡ NoMemory };
+
+    fn from(_error: AllocError) -> LocalErr {
+        LocalErr::NoMemory
+    }
+}
+
+impl From<KeeperErr> for LocalErr {
+    ghost use Rattle.std.specs.Prelude.{◌≡◌};
+    ghost use Rattle.local_commands.specs.Refusals.{keeper_refusal};
+
+    ghost from_gives = { λ k e. e ≡ keeper_refusal k };
+
+    fn from(error: KeeperErr) -> LocalErr {
+        match error {
+            KeeperErr::Fault => LocalErr::KeeperFault,
+            KeeperErr::NoMemory => LocalErr::NoMemory,
+        }
+    }
+}
+
+impl From<BodyErr> for LocalErr {
+    ghost use Rattle.std.specs.Prelude.{◌≡◌};
+    ghost use Rattle.local_commands.specs.Bodies.{body_refusal};
+
+    ghost from_gives = { λ b e. e ≡ body_refusal b };
+
+    fn from(error: BodyErr) -> LocalErr {
+        match error {
+            BodyErr::SourceFault => LocalErr::SourceFault,
+            BodyErr::TooLarge => LocalErr::TooLarge(BODY_LIMIT as u64 + 1),
+            BodyErr::NotText => LocalErr::NotText,
+            BodyErr::NoMemory => LocalErr::NoMemory,
+        }
+    }
+}
+
+impl From<StampErr> for LocalErr {
+    ghost use Rattle.std.specs.Prelude.{◌≡◌};
+    ghost use Rattle.local_commands.specs.Stamping.{stamp_refusal};
+
+    ghost from_gives = { λ s e. e ≡ stamp_refusal s };
+
+    fn from(error: StampErr) -> LocalErr {
+        match error {
+            StampErr::ClockFault => LocalErr::ClockFault,
+            StampErr::EntropyFault => LocalErr::EntropyFault,
+        }
+    }
+}
+
+impl From<SaveErr> for LocalErr {
+    ghost use Rattle.std.specs.Prelude.{◌≡◌};
+    ghost use Rattle.local_commands.specs.Saving.{save_refusal};
+
+    ghost from_gives = { λ s e. e ≡ save_refusal s };
+
+    fn from(error: SaveErr) -> LocalErr {
+        match error {
+            SaveErr::TooLarge(len) => LocalErr::TooLarge(len),
+            SaveErr::NoMemory => LocalErr::NoMemory,
+        }
+    }
+}

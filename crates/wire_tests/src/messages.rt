@@ -1,0 +1,322 @@
+use dav_wire::{
+    ReadRequest, ReadResponse, read_request, read_response, request_missing, response_missing,
+    write_refusal, write_request, write_response,
+};
+use jop_base::{Bytes, Dir, Path, Seq, Text};
+use jop_target::{Call, Listing, Reply};
+use std::alloc::{AllocError, Global};
+use std::test::Fail;
+
+/// What is read of a request: how many bytes a call's takes, how it is refused, or how many bytes
+/// are missing.
+fn seen(alloc: Global, bytes: &[u8]) -> Result<(&'static str, u64), AllocError> {
+    Ok(match read_request(alloc, bytes)? {
+        ReadRequest::More => ("more", request_missing(bytes).unwrap_or(0)),
+        ReadRequest::Bad(status) => ("bad", u64::from(status)),
+        ReadRequest::Whole { request, used } => match &request.call {
+            Some(_) => ("call", used),
+            None => ("refused", u64::from(request.refusal)),
+        },
+    })
+}
+
+/// What is read of a response: the moment of a reply, the length of a file that is too long, or how
+/// many bytes are missing.
+fn told(alloc: Global, call: &Call, bytes: &[u8]) -> Result<(&'static str, u64), AllocError> {
+    Ok(match read_response(alloc, call, bytes)? {
+        ReadResponse::More => ("more", response_missing(call, bytes).unwrap_or(0)),
+        ReadResponse::Bad => ("bad", 0),
+        ReadResponse::Whole {
+            reply,
+            blob: _blob,
+            used: _,
+        } => match &reply {
+            Reply::Listed(listing) => ("listed", listing.now),
+            Reply::Got { now, content: _ } => ("got", *now),
+            Reply::GotBlob { now, len: _ } => ("got blob", *now),
+            Reply::Absent { now } => ("absent", *now),
+            Reply::Done { now } => ("done", *now),
+            Reply::Failed => ("failed", 0),
+            Reply::TooLarge { len } => ("too large", *len),
+        },
+    })
+}
+
+#[test]
+fn requests_are_read_or_refused(rt: HostRuntime) -> Result<(), Fail> {
+    let rows: [(&[u8], (&str, u64)); 24] = [
+        (b"GET /info.json HTTP/1.1\r\n\r\n", ("call", 27)),
+        (b"\r\nGET /info.json HTTP/1.0\n\n", ("call", 27)),
+        (b"GET /info.json HTTP/2.0\r\n\r\n", ("bad", 400)),
+        (b"GET /info.json\r\n\r\n", ("bad", 400)),
+        (b"GET /x HTTP/1.1\r\n\r\n", ("refused", 404)),
+        (b"GET /locks/ HTTP/1.1\r\n\r\n", ("refused", 404)),
+        (b"GET /info%2Ejson HTTP/1.1\r\n\r\n", ("refused", 404)),
+        (b"GET http://h/info.json HTTP/1.1\r\n\r\n", ("refused", 404)),
+        (b"GET /\xff", ("more", 0)),
+        (b"GET /\xff HTTP/1.1\r\n\r\n", ("bad", 400)),
+        (b"\x01", ("bad", 400)),
+        (b"", ("more", 0)),
+        (b"get /info.json HTTP/1.1\r\n\r\n", ("refused", 405)),
+        (b"OPTIONS / HTTP/1.1\r\n\r\n", ("refused", 405)),
+        (b"DELETE /info.json HTTP/1.1\r\n\r\n", ("call", 30)),
+        (b"MKCOL /locks/ HTTP/1.1\r\n\r\n", ("call", 26)),
+        (b"MKCOL /x/ HTTP/1.1\r\n\r\n", ("refused", 403)),
+        (b"PROPFIND /locks/ HTTP/1.1\r\n\r\n", ("refused", 400)),
+        (
+            b"PROPFIND /locks/ HTTP/1.1\r\nDepth: 0\r\n\r\n",
+            ("refused", 400),
+        ),
+        (
+            b"PROPFIND /locks/ HTTP/1.1\r\nDepth: infinity\r\n\r\n",
+            ("refused", 400),
+        ),
+        (
+            b"PROPFIND /locks/ HTTP/1.1\r\nDepth: 1\r\nDepth: 1\r\n\r\n",
+            ("refused", 400),
+        ),
+        (
+            b"PROPFIND /locks/ HTTP/1.1\r\ndepth:1 \r\n\r\n",
+            ("call", 39),
+        ),
+        (
+            b"PROPFIND /locks HTTP/1.1\r\nDepth: 1\r\n\r\n",
+            ("refused", 404),
+        ),
+        (
+            b"POST /x HTTP/1.1\r\nTransfer-Encoding: chunked\r\n\r\n",
+            ("bad", 400),
+        ),
+    ];
+    for (text, wanted) in rows {
+        assert_eq!(rt; seen(rt.alloc(), text)?, wanted);
+    }
+    Ok(())
+}
+
+/// The head of a request that puts, with these lines.
+fn put_head(alloc: Global, target: &[u8], lines: &[u8]) -> Result<Bytes, AllocError> {
+    let mut head = Bytes::new(alloc);
+    head.append(b"PUT ")?;
+    head.append(target)?;
+    head.append(b" HTTP/1.1\r\n")?;
+    head.append(lines)?;
+    head.append(b"\r\n")?;
+    Ok(head)
+}
+
+#[test]
+fn lengths_are_read_or_refused(rt: HostRuntime) -> Result<(), Fail> {
+    let alloc = rt.alloc();
+    let info: &[u8] = b"/info.json";
+    let blob: &[u8] = b"/.resource/11111111111111111111111111111111";
+    let rows: [(&[u8], &[u8], (&str, u64)); 17] = [
+        (info, b"", ("bad", 400)),
+        (info, b"Content-Length: 0\r\n", ("call", 46)),
+        (info, b"CONTENT-LENGTH:\t00 \r\n", ("call", 48)),
+        (info, b"Content-Length: 3\r\n", ("more", 3)),
+        (info, b"Content-Length: +1\r\n", ("bad", 400)),
+        (info, b"Content-Length: -1\r\n", ("bad", 400)),
+        (info, b"Content-Length: 1 1\r\n", ("bad", 400)),
+        (info, b"Content-Length: 0x1\r\n", ("bad", 400)),
+        (info, b"Content-Length:\r\n", ("bad", 400)),
+        (
+            info,
+            b"Content-Length: 0\r\nContent-Length: 0\r\n",
+            ("bad", 400),
+        ),
+        (
+            info,
+            b"Content-Length: 18446744073709551616\r\n",
+            ("bad", 400),
+        ),
+        (
+            info,
+            b"Content-Length: 18446744073709551615\r\n",
+            ("bad", 413),
+        ),
+        (info, b"Content-Length: 16777216\r\n", ("more", 16_777_216)),
+        (info, b"Content-Length: 16777217\r\n", ("bad", 413)),
+        (blob, b"Content-Length: 67108864\r\n", ("more", 67_108_864)),
+        (blob, b"Content-Length: 67108865\r\n", ("bad", 413)),
+        (b"/x", b"Content-Length: 0\r\n", ("refused", 403)),
+    ];
+    for (target, lines, wanted) in rows {
+        let head = put_head(alloc, target, lines)?;
+        assert_eq!(rt; seen(alloc, head.as_slice())?, wanted);
+    }
+    Ok(())
+}
+
+#[test]
+fn control_characters_are_refused_in_every_place(rt: HostRuntime) -> Result<(), Fail> {
+    let alloc = rt.alloc();
+    let text: &[u8] = b"GET /info.json HTTP/1.1\r\nHost: h\r\n\r\n";
+    for place in 0..text.len() {
+        for byte in [0_u8, 1, 8, 11, 12, 14, 27, 31, 127] {
+            let mut changed = text.to_vec(alloc)?;
+            changed[place] = byte;
+            assert_eq!(rt; seen(alloc, changed.as_slice())?, ("bad", 400));
+        }
+    }
+    Ok(())
+}
+
+/// A request with so many fields, the last of which has so long a value.
+fn long_head(alloc: Global, fields: u64, value: usize) -> Result<Bytes, AllocError> {
+    let mut head = Bytes::new(alloc);
+    head.append(b"GET /info.json HTTP/1.1\r\n")?;
+    for _ in 1..fields {
+        head.append(b"a:b\r\n")?;
+    }
+    let letters = vec![in alloc; b'x'; value]?;
+    head.append(b"a:")?;
+    head.append(letters.as_slice())?;
+    head.append(b"\r\n\r\n")?;
+    Ok(head)
+}
+
+#[test]
+fn heads_have_their_limits(rt: HostRuntime) -> Result<(), Fail> {
+    let alloc = rt.alloc();
+    let rows: [(u64, usize, (&str, u64)); 5] = [
+        (1, 16_353, ("call", 16_384)),
+        (1, 16_354, ("bad", 400)),
+        (128, 0, ("call", 666)),
+        (129, 0, ("bad", 400)),
+        (3_000, 0, ("bad", 400)),
+    ];
+    for (fields, value, wanted) in rows {
+        let head = long_head(alloc, fields, value)?;
+        assert_eq!(rt; seen(alloc, head.as_slice())?, wanted);
+        let Some(cut) = head
+            .as_slice()
+            .get(..head.len().min(16_384).saturating_sub(1))
+        else {
+            continue;
+        };
+        assert_eq!(rt; seen(alloc, cut)?, ("more", 0));
+    }
+    Ok(())
+}
+
+#[test]
+fn responses_are_read_or_refused(rt: HostRuntime) -> Result<(), Fail> {
+    let alloc = rt.alloc();
+    let date: &[u8] = b"Date: Thu, 01 Jan 1970 00:00:01 GMT\r\n";
+    let rows: [(&[u8], &[u8], &[u8], (&str, u64)); 17] = [
+        (b"200 OK", date, b"Content-Length: 0\r\n", ("got", 1_000)),
+        (b"200", date, b"Content-Length: 0\r\n", ("got", 1_000)),
+        (b"200 OK", date, b"Content-Length: 3\r\n", ("more", 3)),
+        (b"404 No", date, b"Content-Length: 0\r\n", ("absent", 1_000)),
+        (
+            b"200 OK",
+            date,
+            b"Content-Length: 16777217\r\n",
+            ("too large", 16_777_217),
+        ),
+        (b"201 Created", date, b"Content-Length: 0\r\n", ("bad", 0)),
+        (b"500 No", date, b"Content-Length: 0\r\n", ("bad", 0)),
+        (b"200 OK", b"", b"Content-Length: 0\r\n", ("bad", 0)),
+        (
+            b"200 OK",
+            date,
+            b"Date: Thu, 01 Jan 1970 00:00:01 GMT\r\nContent-Length: 0\r\n",
+            ("bad", 0),
+        ),
+        (
+            b"200 OK",
+            b"Date: 1\r\n",
+            b"Content-Length: 0\r\n",
+            ("bad", 0),
+        ),
+        (
+            b"200 OK",
+            b"Date: Fri, 01 Jan 1970 00:00:01 GMT\r\n",
+            b"Content-Length: 0\r\n",
+            ("bad", 0),
+        ),
+        (
+            b"200 OK",
+            b"Date: Thu Jan  1 00:00:02 1970\r\n",
+            b"Content-Length: 0\r\n",
+            ("got", 2_000),
+        ),
+        (b"200 OK", date, b"", ("bad", 0)),
+        (b"200 OK", date, b"Content-Length: +1\r\n", ("bad", 0)),
+        (
+            b"200 OK",
+            date,
+            b"Content-Length: 0\r\nContent-Length: 0\r\n",
+            ("bad", 0),
+        ),
+        (
+            b"200 OK",
+            date,
+            b"Content-Length: 18446744073709551616\r\n",
+            ("bad", 0),
+        ),
+        (
+            b"200 OK",
+            date,
+            b"Transfer-Encoding: chunked\r\n",
+            ("bad", 0),
+        ),
+    ];
+    for (status, date, lines, wanted) in rows {
+        let mut text = Bytes::new(alloc);
+        for piece in [
+            b"HTTP/1.1 ".as_slice(),
+            status,
+            b"\r\n",
+            date,
+            lines,
+            b"\r\n",
+        ] {
+            text.append(piece)?;
+        }
+        assert_eq!(rt;
+            told(alloc, &Call::Get(Path::Info), text.as_slice())?,
+            wanted
+        );
+    }
+    Ok(())
+}
+
+#[test]
+fn an_empty_listing_is_read_in_any_cut(rt: HostRuntime) -> Result<(), Fail> {
+    let alloc = rt.alloc();
+    let call = Call::List(Dir::Locks);
+    let reply = Reply::Listed(Listing {
+        now: 1_000,
+        entries: Seq::new(alloc),
+    });
+    let text = write_response(alloc, &call, &reply, &Bytes::new(alloc), 0)?;
+    let head: &[u8] = b"HTTP/1.1 207 Multi-Status\r\nDate: Thu, 01 Jan 1970 00:00:01 GMT\r\n\
+        Content-Type: application/xml; charset=\"utf-8\"\r\nContent-Length: 263\r\n\r\n";
+    assert!(rt; text.as_slice().starts_with(head));
+    assert_eq!(rt; text.len(), head.len() + 263);
+    assert_eq!(rt; told(alloc, &call, text.as_slice())?, ("listed", 1_000));
+    for cut in 0..text.len() {
+        let (word, _) = told(alloc, &call, &text.as_slice()[..cut])?;
+        assert_eq!(rt; word, "more");
+    }
+    Ok(())
+}
+
+#[test]
+fn requests_and_refusals_are_written(rt: HostRuntime) -> Result<(), Fail> {
+    let alloc = rt.alloc();
+    let host = Text::of(alloc, "h:80")?;
+    let text = write_request(alloc, &host, &Call::List(Dir::Locks), &Bytes::new(alloc))?;
+    assert_eq!(rt;
+        text.as_slice(),
+        b"PROPFIND /locks/ HTTP/1.1\r\nHost: h:80\r\nDepth: 1\r\nContent-Length: 0\r\n\r\n".as_slice()
+    );
+    let refusal = write_refusal(alloc, 413, 0)?;
+    assert_eq!(rt;
+        refusal.as_slice(),
+        b"HTTP/1.1 413 Content Too Large\r\nDate: Thu, 01 Jan 1970 00:00:00 GMT\r\nContent-Length: 0\r\n\r\n".as_slice()
+    );
+    Ok(())
+}
