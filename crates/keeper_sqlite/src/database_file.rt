@@ -4,8 +4,10 @@ ghost use Rattle.std.specs.List.{list_all};
 ghost use Rattle.record_keeper.specs.Stores.{IsSoundRowOf};
 ghost use Rattle.record_keeper.specs.Writes.{IsSoundWrite, has_room};
 
+use crate::columns::FromColumns;
 use crate::database::Database;
 use crate::opening::open;
+use crate::statements::{BLOB, META, ROW};
 use crate::trouble::Trouble;
 use crate::{reading, writing};
 use jop_base::{Bytes, Id, Seq, Text};
@@ -13,7 +15,7 @@ use local_store::{Row, Tables};
 use record_keeper::{Write, have_room};
 use std::alloc::Global;
 use std::rt::HostRuntime;
-use stored_records::{Record, read_number};
+use stored_records::{Record, RowRecord, read_number};
 
 /// A file, which is opened at the first call, and closed when the keeper is let go.
 pub(crate) struct DatabaseFile {
@@ -57,17 +59,27 @@ impl DatabaseFile {
         }
     }
 
+    /// What a query answers of this key, if it answers anything.
+    fn one<T: FromColumns>(
+        &mut self,
+        alloc: Global,
+        query: &str,
+        key: &str,
+    ) -> Result<Option<T>, Trouble> {
+        reading::one_of(alloc, self.opened(alloc)?, query, key)
+    }
+
     pub fn tables(&mut self, alloc: Global) -> Result<Tables, Trouble>
         ensures { IfOk result (λ tables. IsSound tables) }
     {
-        let records = reading::tables(alloc, self.opened(alloc)?)?;
-        Ok(records.read(alloc)?)
+        let tables = reading::tables(alloc, self.opened(alloc)?)?;
+        Ok(tables)
     }
 
     pub fn row(&mut self, alloc: Global, id: &Id) -> Result<Option<Row>, Trouble>
         ensures { IfOk result (λ row. IsSoundRowOf id.now row) }
     {
-        let record = match reading::row(alloc, self.opened(alloc)?, id)? {
+        let record: RowRecord = match self.one(alloc, ROW, id.as_str())? {
             Some(record) => record,
             None => return Ok(None),
         };
@@ -79,7 +91,10 @@ impl DatabaseFile {
     }
 
     pub fn next_conflict(&mut self, alloc: Global) -> Result<u64, Trouble> {
-        let digits = reading::next_conflict(alloc, self.opened(alloc)?)?;
+        let digits: Bytes = match self.one(alloc, META, "next_conflict")? {
+            Some(digits) => digits,
+            None => return Err(Trouble::Fault),
+        };
         Ok(read_number(alloc, digits.as_slice())?)
     }
 
@@ -95,7 +110,7 @@ impl DatabaseFile {
     }
 
     pub fn load_blob(&mut self, alloc: Global, id: &Id) -> Result<Option<Bytes>, Trouble> {
-        reading::blob(alloc, self.opened(alloc)?, id)
+        self.one(alloc, BLOB, id.as_str())
     }
 
     pub fn save_blob(&mut self, alloc: Global, id: &Id, bytes: &Bytes) -> Result<(), Trouble> {

@@ -3,14 +3,14 @@
 ghost use Rattle.std.specs.Prelude.{All, IfOk};
 ghost use Rattle.record_keeper.specs.Writes.{IsSoundWrite};
 
-use crate::database::Database;
+use crate::database::{Database, Queries, begin, commit, run_all};
 use crate::statements::{COUNT_TABLES, TABLES};
 use crate::trouble::Trouble;
 use crate::writing::make_all;
 use jop_base::Seq;
 use local_store::Tables;
 use record_keeper::Write;
-use sqlite::Connection;
+use sqlite::{Alter, Connection, Row};
 use std::alloc::{AllocError, Global};
 
 /// What the keys of a new database hold.
@@ -25,29 +25,39 @@ fn first_writes(alloc: Global) -> Result<Seq<Write>, AllocError>
     Ok(writes)
 }
 
-/// How many of the tables are there, and whether that of the keys is.
-fn count_tables(database: &mut Database) -> Result<(i64, bool), Trouble> {
-    let row = database.query_row(COUNT_TABLES, &[])?;
+/// The first writes, if there are no keys yet.
+fn missing_writes(alloc: Global, has_keys: bool) -> Result<Seq<Write>, AllocError>
+    ensures { IfOk result (λ writes. All IsSoundWrite writes) }
+{
+    if has_keys {
+        return Ok(Seq::new(alloc));
+    }
+    first_writes(alloc)
+}
+
+fn counts(row: &Row) -> Result<(i64, bool), Trouble> {
     Ok((row.get(0)?, row.get(1)?))
 }
 
+/// How many of the tables are there, and whether that of the keys is.
+fn count_tables<D: Queries>(database: &mut D) -> Result<(i64, bool), Trouble> {
+    match database.first(COUNT_TABLES, &[])? {
+        Some(row) => counts(&row),
+        None => Err(Trouble::Fault),
+    }
+}
+
 /// Makes the tables that are missing.
-fn make_tables(alloc: Global, database: &mut Database) -> Result<(), Trouble> {
+fn make_tables<S: Alter>(alloc: Global, database: &mut Connection<S>) -> Result<(), Trouble> {
     let (count, has_keys) = count_tables(database)?;
     if count == 5 {
         return Ok(());
     }
-    if !database.is_autocommit() {
-        return Err(Trouble::Fault);
-    }
-    let first = first_writes(alloc)?;
-    let mut together = database.transaction();
-    together.execute_batch(TABLES)?;
-    if !has_keys {
-        make_all(alloc, &mut together, first.as_slice())?;
-    }
-    together.commit()?;
-    Ok(())
+    let first = missing_writes(alloc, has_keys)?;
+    let mut together = begin(database)?;
+    run_all(&mut together, TABLES)?;
+    make_all(alloc, &mut together, first.as_slice())?;
+    commit(together)
 }
 
 /// Opens the file, or makes it, and makes the tables that are missing.

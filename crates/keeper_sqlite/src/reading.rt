@@ -1,55 +1,100 @@
 //! What is read from the database.
 
-use crate::columns::FromColumns;
-use crate::database::Database;
-use crate::statements::{ALL_CONFLICTS, ALL_DELETIONS, ALL_ROWS, BLOB, META, ROW};
-use crate::trouble::Trouble;
-use jop_base::{Bytes, Id, Seq};
-use sqlite::{Error, params};
-use std::alloc::Global;
-use stored_records::{MetaRecord, RowRecord, TableRecords};
+ghost use Rattle.std.specs.Prelude.{All, IfOk, OnOk};
+ghost use Rattle.local_store.specs.Sound.{IsSound, IsSoundRow};
 
-/// All that a query answers.
-fn all_of<T: FromColumns>(
+use crate::columns::FromColumns;
+use crate::database::{Answer, Queries, rows_of};
+use crate::statements::{ALL_CONFLICTS, ALL_DELETIONS, ALL_ROWS, META};
+use crate::trouble::Trouble;
+use jop_base::{Bytes, Seq};
+use local_store::{Row, Tables};
+use sqlite::{Alter, Connection, Row as Columns, params};
+use std::alloc::Global;
+use stored_records::{DeletionRecord, MetaRecord, NoteRecord, Record, RowRecord};
+
+/// Puts the sound value that the record in a row holds behind the others. The record itself is let go.
+#[tactic(auto, using(crate::proofs::Found::sound_more))]
+fn take<R: Record + FromColumns>(
     alloc: Global,
-    database: &mut Database,
-    query: &str,
-) -> Result<Seq<T>, Trouble> {
-    let mut found = Seq::new(alloc);
-    let mut rows = database.query(query, &[])?;
-    for _ in 0..u64::MAX {
-        rows.advance()?;
-        match rows.get() {
-            Some(row) => found.push(T::from_columns(alloc, row)?)?,
-            None => return Ok(found),
+    row: &Columns,
+    found: &mut Seq<R::Held>,
+) -> Result<(), Trouble>
+    requires { All R.is_sound found.old }
+    ensures { OnOk result (All R.is_sound found.new) }
+{
+    let record = R::from_columns(alloc, row)?;
+    let value = record.read(alloc)?;
+    found.push(value)?;
+    Ok(())
+}
+
+/// Takes the rows that are left of an answer.
+fn take_all<R: Record + FromColumns, A: Answer>(
+    alloc: Global,
+    answer: &mut A,
+    found: &mut Seq<R::Held>,
+) -> Result<(), Trouble>
+    requires { All R.is_sound found.old }
+    ensures { OnOk result (All R.is_sound found.new) }
+{
+    'each: for _ in 0..u64::MAX {
+        answer.advance()?;
+        match answer.row() {
+            Some(row) => take::<R>(alloc, row, found)?,
+            None => return Ok(()),
         }
     }
     Err(Trouble::Fault)
 }
 
-/// What a query answers of this key, if it answers anything.
-fn one_of<T: FromColumns>(
+/// What the records that a query answers hold. They are read one after the other, so that no two are in memory.
+fn all_of<R: Record + FromColumns, S: Alter>(
     alloc: Global,
-    database: &mut Database,
+    database: &mut Connection<S>,
+    query: &str,
+) -> Result<Seq<R::Held>, Trouble>
+    ensures { IfOk result (λ values. All R.is_sound values) }
+{
+    let mut found = Seq::new(alloc);
+    let mut answer = rows_of(database, query)?;
+    take_all::<R, _>(alloc, &mut answer, &mut found)?;
+    Ok(found)
+}
+
+/// The rows in the order of their ids. For that order the database would look each row up, all over its file.
+#[tactic(auto, using(crate::proofs::Found::sound_moved))]
+fn in_order(rows: Seq<Row>) -> Seq<Row>
+    requires { All IsSoundRow rows }
+    ensures { All IsSoundRow result }
+{
+    let mut rows = rows.into_vec();
+    rows.sort_unstable_by_key(|row| row.id);
+    Seq::from_vec(rows)
+}
+
+/// What a query answers of this key, if it answers anything.
+pub(crate) fn one_of<T: FromColumns, D: Queries>(
+    alloc: Global,
+    database: &mut D,
     query: &str,
     key: &str,
 ) -> Result<Option<T>, Trouble> {
-    match database.query_row(query, params![key]) {
-        Ok(row) => Ok(Some(T::from_columns(alloc, &row)?)),
-        Err(Error::QueryReturnedNoRows) => Ok(None),
-        Err(error) => Err(error.into()),
+    match database.first(query, params![key])? {
+        Some(row) => Ok(Some(T::from_columns(alloc, &row)?)),
+        None => Ok(None),
     }
 }
 
 /// The value of a key that has to be there.
-fn value_of(alloc: Global, database: &mut Database, key: &str) -> Result<Bytes, Trouble> {
+fn value_of<D: Queries>(alloc: Global, database: &mut D, key: &str) -> Result<Bytes, Trouble> {
     match one_of(alloc, database, META, key)? {
         Some(value) => Ok(value),
         None => Err(Trouble::Fault),
     }
 }
 
-fn meta(alloc: Global, database: &mut Database) -> Result<MetaRecord, Trouble> {
+fn meta<D: Queries>(alloc: Global, database: &mut D) -> Result<MetaRecord, Trouble> {
     Ok(MetaRecord {
         client: one_of(alloc, database, META, "client")?,
         next_conflict: value_of(alloc, database, "next_conflict")?,
@@ -59,32 +104,16 @@ fn meta(alloc: Global, database: &mut Database) -> Result<MetaRecord, Trouble> {
     })
 }
 
-pub(crate) fn tables(alloc: Global, database: &mut Database) -> Result<TableRecords, Trouble> {
-    Ok(TableRecords {
-        meta: meta(alloc, database)?,
-        rows: all_of(alloc, database, ALL_ROWS)?,
-        deletions: all_of(alloc, database, ALL_DELETIONS)?,
-        conflicts: all_of(alloc, database, ALL_CONFLICTS)?,
-    })
-}
-
-pub(crate) fn row(
+pub(crate) fn tables<S: Alter>(
     alloc: Global,
-    database: &mut Database,
-    id: &Id,
-) -> Result<Option<RowRecord>, Trouble> {
-    one_of(alloc, database, ROW, id.as_str())
-}
-
-/// The number of the next conflict note, in decimal.
-pub(crate) fn next_conflict(alloc: Global, database: &mut Database) -> Result<Bytes, Trouble> {
-    value_of(alloc, database, "next_conflict")
-}
-
-pub(crate) fn blob(
-    alloc: Global,
-    database: &mut Database,
-    id: &Id,
-) -> Result<Option<Bytes>, Trouble> {
-    one_of(alloc, database, BLOB, id.as_str())
+    database: &mut Connection<S>,
+) -> Result<Tables, Trouble>
+    ensures { IfOk result (λ tables. IsSound tables) }
+{
+    let meta = meta(alloc, database)?;
+    let rows = all_of::<RowRecord, S>(alloc, database, ALL_ROWS)?;
+    let deletions = all_of::<DeletionRecord, S>(alloc, database, ALL_DELETIONS)?;
+    let conflicts = all_of::<NoteRecord, S>(alloc, database, ALL_CONFLICTS)?;
+    let tables = meta.tables(alloc, in_order(rows), deletions, conflicts)?;
+    Ok(tables)
 }

@@ -18,7 +18,8 @@ WHERE type = 'table' AND name IN ('meta', 'rows', 'deletions', 'conflicts', 'blo
 
 pub(crate) const META: &str = "SELECT value FROM meta WHERE key = ?1";
 
-pub(crate) const ALL_ROWS: &str = "SELECT id, sealed, content, base, pending FROM rows ORDER BY id";
+/// In any order.
+pub(crate) const ALL_ROWS: &str = "SELECT id, sealed, content, base, pending FROM rows";
 
 pub(crate) const ROW: &str = "SELECT id, sealed, content, base, pending FROM rows WHERE id = ?1";
 

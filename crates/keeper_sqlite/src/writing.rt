@@ -5,7 +5,7 @@ ghost use Rattle.local_store.specs.Sound.{IsSoundRow, IsSoundNote};
 ghost use Rattle.record_keeper.specs.Writes.{IsSoundWrite};
 ghost use Rattle.sync_info.specs.Info.{IsInfo};
 
-use crate::database::{Database, Together};
+use crate::database::{Statements, begin, commit};
 use crate::statements::{
     ADD_CONFLICT, DROP_CONFLICT, DROP_DELETION, DROP_ROW, SET_BLOB, SET_CLIENT, SET_CONTEXT,
     SET_DELETION, SET_INFO, SET_NEXT, SET_ROW,
@@ -14,24 +14,26 @@ use crate::trouble::Trouble;
 use jop_base::{Bytes, Context, Id};
 use local_store::{ConflictNote, Deletion, Row};
 use record_keeper::Write;
-use sqlite::params;
+use sqlite::{Alter, Connection, params};
 use std::alloc::Global;
 use stored_records::{DeletionRecord, NoteRecord, RowRecord, ids_text, number_text};
 use sync_info::{Info, write_info};
 
 /// Runs a statement on a key.
-fn run(together: &mut Together<'_>, statement: &str, key: &str) -> Result<(), Trouble> {
-    together.execute(statement, params![key])?;
-    Ok(())
+fn run_on_key<D: Statements>(together: &mut D, statement: &str, key: &str) -> Result<(), Trouble> {
+    together.run(statement, params![key])
 }
 
 /// Runs a statement on bytes.
-fn run_on(together: &mut Together<'_>, statement: &str, bytes: &Bytes) -> Result<(), Trouble> {
-    together.execute(statement, params![bytes.as_slice()])?;
-    Ok(())
+fn run_on_bytes<D: Statements>(
+    together: &mut D,
+    statement: &str,
+    bytes: &Bytes,
+) -> Result<(), Trouble> {
+    together.run(statement, params![bytes.as_slice()])
 }
 
-fn set_row(alloc: Global, together: &mut Together<'_>, row: &Row) -> Result<(), Trouble>
+fn set_row<D: Statements>(alloc: Global, together: &mut D, row: &Row) -> Result<(), Trouble>
     requires { IsSoundRow row.now }
 {
     let record = RowRecord::of(alloc, row)?;
@@ -39,7 +41,7 @@ fn set_row(alloc: Global, together: &mut Together<'_>, row: &Row) -> Result<(), 
         Some(base) => Some(base.as_slice()),
         None => None,
     };
-    together.execute(
+    together.run(
         SET_ROW,
         params![
             record.id.as_str(),
@@ -52,25 +54,25 @@ fn set_row(alloc: Global, together: &mut Together<'_>, row: &Row) -> Result<(), 
     Ok(())
 }
 
-fn set_deletion(
+fn set_deletion<D: Statements>(
     alloc: Global,
-    together: &mut Together<'_>,
+    together: &mut D,
     deletion: &Deletion,
 ) -> Result<(), Trouble> {
     let record = DeletionRecord::of(alloc, deletion)?;
-    together.execute(SET_DELETION, params![record.id.as_str(), record.resource])?;
+    together.run(SET_DELETION, params![record.id.as_str(), record.resource])?;
     Ok(())
 }
 
-fn add_conflict(
+fn add_conflict<D: Statements>(
     alloc: Global,
-    together: &mut Together<'_>,
+    together: &mut D,
     note: &ConflictNote,
 ) -> Result<(), Trouble>
     requires { IsSoundNote note.now }
 {
     let record = NoteRecord::of(alloc, note)?;
-    together.execute(
+    together.run(
         ADD_CONFLICT,
         params![
             record.number,
@@ -82,49 +84,49 @@ fn add_conflict(
 }
 
 /// Drops the conflict notes of a number. Of a number past 2^63 - 1 there is none.
-fn drop_conflict(together: &mut Together<'_>, number: u64) -> Result<(), Trouble> {
+fn drop_conflict<D: Statements>(together: &mut D, number: u64) -> Result<(), Trouble> {
     if let Ok(number) = i64::try_from(number) {
-        together.execute(DROP_CONFLICT, params![number])?;
+        together.run(DROP_CONFLICT, params![number])?;
     }
     Ok(())
 }
 
-fn set_next(alloc: Global, together: &mut Together<'_>, number: u64) -> Result<(), Trouble> {
-    run_on(together, SET_NEXT, &number_text(alloc, number)?)
+fn set_next<D: Statements>(alloc: Global, together: &mut D, number: u64) -> Result<(), Trouble> {
+    run_on_bytes(together, SET_NEXT, &number_text(alloc, number)?)
 }
 
-fn set_client(together: &mut Together<'_>, client: &Id) -> Result<(), Trouble> {
+fn set_client<D: Statements>(together: &mut D, client: &Id) -> Result<(), Trouble> {
     let digits = client.digits();
-    together.execute(SET_CLIENT, params![digits.as_slice()])?;
+    together.run(SET_CLIENT, params![digits.as_slice()])?;
     Ok(())
 }
 
-fn set_context(
+fn set_context<D: Statements>(
     alloc: Global,
-    together: &mut Together<'_>,
+    together: &mut D,
     context: &Context,
 ) -> Result<(), Trouble> {
     let moment = number_text(alloc, context.moment)?;
     let seen = ids_text(alloc, context.seen.as_slice())?;
-    together.execute(SET_CONTEXT, params![moment.as_slice(), seen.as_slice()])?;
+    together.run(SET_CONTEXT, params![moment.as_slice(), seen.as_slice()])?;
     Ok(())
 }
 
-fn set_info(alloc: Global, together: &mut Together<'_>, info: &Info) -> Result<(), Trouble>
+fn set_info<D: Statements>(alloc: Global, together: &mut D, info: &Info) -> Result<(), Trouble>
     requires { IsInfo info.now }
 {
-    run_on(together, SET_INFO, &write_info(alloc, info)?)
+    run_on_bytes(together, SET_INFO, &write_info(alloc, info)?)
 }
 
 /// Makes a write.
-fn make(alloc: Global, together: &mut Together<'_>, write: &Write) -> Result<(), Trouble>
+fn make<D: Statements>(alloc: Global, together: &mut D, write: &Write) -> Result<(), Trouble>
     requires { IsSoundWrite write.now }
 {
     match write {
         Write::SetRow(row) => set_row(alloc, together, row),
-        Write::DropRow(id) => run(together, DROP_ROW, id.as_str()),
+        Write::DropRow(id) => run_on_key(together, DROP_ROW, id.as_str()),
         Write::SetDeletion(deletion) => set_deletion(alloc, together, deletion),
-        Write::DropDeletion(id) => run(together, DROP_DELETION, id.as_str()),
+        Write::DropDeletion(id) => run_on_key(together, DROP_DELETION, id.as_str()),
         Write::AddConflict(note) => add_conflict(alloc, together, note),
         Write::DropConflict(number) => drop_conflict(together, *number),
         Write::SetNext(number) => set_next(alloc, together, *number),
@@ -135,9 +137,9 @@ fn make(alloc: Global, together: &mut Together<'_>, write: &Write) -> Result<(),
 }
 
 /// Makes the writes, in order.
-pub(crate) fn make_all(
+pub(crate) fn make_all<D: Statements>(
     alloc: Global,
-    together: &mut Together<'_>,
+    together: &mut D,
     writes: &[Write],
 ) -> Result<(), Trouble>
     requires { All IsSoundWrite writes.now }
@@ -149,19 +151,22 @@ pub(crate) fn make_all(
 }
 
 /// Makes all the writes, or none.
-pub(crate) fn write(alloc: Global, database: &mut Database, writes: &[Write]) -> Result<(), Trouble>
+pub(crate) fn write<S: Alter>(
+    alloc: Global,
+    database: &mut Connection<S>,
+    writes: &[Write],
+) -> Result<(), Trouble>
     requires { All IsSoundWrite writes.now }
 {
-    if !database.is_autocommit() {
-        return Err(Trouble::Fault);
-    }
-    let mut together = database.transaction();
+    let mut together = begin(database)?;
     make_all(alloc, &mut together, writes)?;
-    together.commit()?;
-    Ok(())
+    commit(together)
 }
 
-pub(crate) fn save_blob(database: &mut Database, id: &Id, bytes: &Bytes) -> Result<(), Trouble> {
-    database.execute(SET_BLOB, params![id.as_str(), bytes.as_slice()])?;
-    Ok(())
+pub(crate) fn save_blob<D: Statements>(
+    database: &mut D,
+    id: &Id,
+    bytes: &Bytes,
+) -> Result<(), Trouble> {
+    database.run(SET_BLOB, params![id.as_str(), bytes.as_slice()])
 }

@@ -92,16 +92,13 @@ pub acts_none : (old new : KeeperNow) (before after : Notes) → new ≡ old →
 acts_none old new before after is same =
     (is ∙ ap (λ (kept : Option Kept). record old { kept = kept }) (none_kept old.kept), same)
 
--- one act alone, on the keeper as it was read
-pub one_act : (act : Act) (old read new : KeeperNow) (before after : Notes)
-    (result : Result (Unit {0}) KeeperErr) → read ≡ old → Acts act read result new
+-- one act alone
+pub one_act : (act : Act) (old new : KeeperNow) (before after : Notes)
+    (result : Result (Unit {0}) KeeperErr) → Acts act old result new
     → after ≡ notes_if act result before → ActsAll (act ∷ []) old before result new after
-one_act act old read new before after result same acts noted =
-    by result (subst (λ (k : KeeperNow). Acts act k result new) same acts) noted where
-      by : (result : Result (Unit {0}) KeeperErr) → Acts act old result new
-          → after ≡ notes_if act result before → ActsAll (act ∷ []) old before result new after
-      by (Ok done) acts noted = (acts, noted)
-      by (Err e) acts noted = acts_refused act [] old new before after e acts noted
+one_act act old new before after (Ok done) acts noted = (acts, noted)
+one_act act old new before after (Err e) acts noted =
+    acts_refused act [] old new before after e acts noted
 
 -- ---- the answer of a run
 
@@ -125,23 +122,21 @@ unacted p old new work e why is made acts =
       by Fault acts = inr (record { work = work; made = made; does = acts.0 }, acts.1)
       by NoMemory acts = inr (record { work = work; made = made; does = acts })
 
--- one change, by a keeper as it was read
-pub committed : (p : Plan) (old new : Around) (change : Change) (text : List ℕ) (read : KeeperNow)
-    → IsMade p old new (Ok (one_change change text)) → read ≡ old.keeper
-    → Acts (MakeChange change) read (Ok tt) new.keeper
+-- one change
+pub committed : (p : Plan) (old new : Around) (change : Change) (text : List ℕ)
+    → IsMade p old new (Ok (one_change change text)) → Acts (MakeChange change) old.keeper (Ok tt) new.keeper
     → new.notes ≡ notes_after (MakeChange change) old.notes → Runs p old (Ok text) new
-committed p old new change text read made same acts notes =
+committed p old new change text made acts notes =
     acted p old new (one_change change text) made
-    (one_act (MakeChange change) old.keeper read new.keeper old.notes new.notes (Ok tt) same acts notes)
+    (one_act (MakeChange change) old.keeper new.keeper old.notes new.notes (Ok tt) acts notes)
 
-pub uncommitted : (p : Plan) (old new : Around) (change : Change) (text : List ℕ) (read : KeeperNow)
-    (e : KeeperErr) (why : LocalErr) → why ≡ keeper_refusal e
-    → IsMade p old new (Ok (one_change change text)) → read ≡ old.keeper
-    → Acts (MakeChange change) read (Err e) new.keeper → new.notes ≡ old.notes
+pub uncommitted : (p : Plan) (old new : Around) (change : Change) (text : List ℕ) (e : KeeperErr)
+    (why : LocalErr) → why ≡ keeper_refusal e → IsMade p old new (Ok (one_change change text))
+    → Acts (MakeChange change) old.keeper (Err e) new.keeper → new.notes ≡ old.notes
     → Runs p old (Err why) new
-uncommitted p old new change text read e why is made same acts notes =
+uncommitted p old new change text e why is made acts notes =
     unacted p old new (one_change change text) e why is made
-    (one_act (MakeChange change) old.keeper read new.keeper old.notes new.notes (Err e) same acts notes)
+    (one_act (MakeChange change) old.keeper new.keeper old.notes new.notes (Err e) acts notes)
 
 -- ---- changes one after the other
 
@@ -175,22 +170,19 @@ still_ended acts old mid before between cs i all still =
     (subst (λ (left : List Change). ActsAll (map MakeChange left) mid between (Ok tt) mid between)
     (sym none) (acts_none mid mid between between refl refl))
 
--- the bytes of a resource were saved by a keeper as it was read, and then a change came to this
-pub saved_then : (act : Act) (old read mid new : KeeperNow) (before after : Notes) (change : Change)
-    (result : Result (Unit {0}) KeeperErr) → read ≡ old → Acts act read (Ok tt) mid
-    → before ≡ notes_after act before → Acts (MakeChange change) mid result new
-    → after ≡ notes_if (MakeChange change) result before
+-- an act was done that is written down nowhere, and then a change came to this
+pub saved_then : (act : Act) (old mid new : KeeperNow) (before after : Notes) (change : Change)
+    (result : Result (Unit {0}) KeeperErr) → Acts act old (Ok tt) mid → before ≡ notes_after act before
+    → Acts (MakeChange change) mid result new → after ≡ notes_if (MakeChange change) result before
     → ActsAll (act ∷ MakeChange change ∷ []) old before result new after
-saved_then act old read mid new before after change result same first noted acts notes =
-    acts_then act (MakeChange change ∷ []) old mid new before before after result
-    (subst (λ (k : KeeperNow). Acts act k (Ok tt) mid) same first) noted
-    (one_act (MakeChange change) mid mid new before after result refl acts notes)
+saved_then act old mid new before after change result first noted acts notes =
+    acts_then act (MakeChange change ∷ []) old mid new before before after result first noted
+    (one_act (MakeChange change) mid new before after result acts notes)
 
--- changes made by a keeper as it was read
-pub all_from : (changes given : List Change) (read old new : KeeperNow) (before after : Notes)
-    (result : Result (Unit {0}) KeeperErr) → read ≡ old → given ≡ changes
-    → ActsAll (map MakeChange given) read before result new after
+-- changes that are given by another name
+pub all_from : (changes given : List Change) (old new : KeeperNow) (before after : Notes)
+    (result : Result (Unit {0}) KeeperErr) → given ≡ changes
+    → ActsAll (map MakeChange given) old before result new after
     → ActsAll (map MakeChange changes) old before result new after
-all_from changes given read old new before after result same is acts =
-    subst (λ (k : KeeperNow). ActsAll (map MakeChange changes) k before result new after) same
-    (subst (λ (cs : List Change). ActsAll (map MakeChange cs) read before result new after) is acts)
+all_from changes given old new before after result is acts =
+    subst (λ (cs : List Change). ActsAll (map MakeChange cs) old before result new after) is acts

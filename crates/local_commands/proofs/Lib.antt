@@ -1,5 +1,6 @@
 pub mod Acting
 pub mod Bytes
+pub mod Due
 pub mod Edits
 pub mod InARow
 pub mod Leaving
@@ -7,4 +8,5 @@ pub mod Plain
 pub mod Planned
 pub mod Removals
 pub mod Runs
+pub mod Sparing
 pub mod Stages

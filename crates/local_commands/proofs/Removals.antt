@@ -4,7 +4,6 @@ use Rattle.std.proofs.Common.{sym, ◌∙◌, ap, subst, inl, inr}
 use Rattle.local_changes.specs.Makers.{is_full, removed, removed_row}
 use Rattle.local_changes.specs.declared.store_err.StoreErr.{StoreErr}
 use Rattle.local_changes.specs.declared.store_err.StoreErr.TheVariants as store_errors
-use Rattle.local_store.specs.Keepers.{KeeperNow}
 use Rattle.local_store.specs.Tables.{row_at}
 use Rattle.local_store.specs.declared.change.Change.{Change}
 use Rattle.local_store.specs.declared.change.Change.TheVariants.{Removed}
@@ -22,7 +21,7 @@ use Rattle.local_commands.proofs.Runs.{refused}
 abbrev IsNamed : List ℕ → StoreErr → Type 0
 IsNamed id e = (e ≡ store_errors.NotFound id) ⊎ (e ≡ store_errors.NotEmpty id)
 
-pub removal_named : (t : Tables) (id : List ℕ) (e : StoreErr) → removed t id ≡ Err e → IsNamed id e
+removal_named : (t : Tables) (id : List ℕ) (e : StoreErr) → removed t id ≡ Err e → IsNamed id e
 removal_named t id e is = by (row_at t id) is where
   full : (b : Bool) → (if b then Err (store_errors.NotEmpty id) else Ok (Removed id)) ≡ Err e → IsNamed id e
   full true is = inr cc
@@ -33,25 +32,18 @@ removal_named t id e is = by (row_at t id) is where
   by (Some r) is = full (is_full t id r) is
 
 -- a removal that is refused is one that the tables don't allow
-pub unremoved : (around : Around) (old new : KeeperNow) (t : Tables) (id : List ℕ) (e : LocalErr)
-    → AreKept old t × (new ≡ old) → why_kept (removed t id) ≡ Some e
-    → Runs (rm_plan id) (record around { keeper = old }) (Err e) (record around { keeper = new })
-unremoved around old new t id e read why = by (removed t id) refl why where
-  refuses : LocalErr → Type 0
-  refuses x =
-      Runs (rm_plan id) (record around { keeper = old }) (Err x) (record around { keeper = new })
+pub unremoved : (old new : Around) (t : Tables) (id : List ℕ) (e : StoreErr) (why : LocalErr)
+    → why ≡ store_refusal e → removed t id ≡ Err e → AreKept old.keeper t × (new.keeper ≡ old.keeper)
+    → new ≡ record old { keeper = new.keeper } → Runs (rm_plan id) old (Err why) new
+unremoved old new t id e why is due read same =
+    subst (λ (w : LocalErr). Runs (rm_plan id) old (Err w) new) (sym is) (by (removal_named t id e due)) where
+      named : (other : StoreErr) → e ≡ other → why_kept (removed t id) ≡ Some (store_refusal other)
+      named other is = ap why_kept due ∙ ap (λ (x : StoreErr). Some (store_refusal x)) is
 
-  named : (s : StoreErr) → removed t id ≡ Err s → IsNamed id s → refuses (store_refusal s)
-  named s due (inl is) =
-      subst (λ (x : StoreErr). refuses (store_refusal x)) (sym is)
-      (refused (rm_plan id) around old new t (NotFound id) read
-      (sym (ap why_kept (due ∙ ap (λ (x : StoreErr). Err x) is))))
-  named s due (inr is) =
-      subst (λ (x : StoreErr). refuses (store_refusal x)) (sym is)
-      (refused (rm_plan id) around old new t (NotEmpty id) read
-      (sym (ap why_kept (due ∙ ap (λ (x : StoreErr). Err x) is))))
-
-  by : (due : Result Change StoreErr) → removed t id ≡ due → why_kept due ≡ Some e → refuses e
-  by (Ok change) is none = cc none
-  by (Err s) is same =
-      subst refuses (cc same) (named s is (removal_named t id s is))
+      by : IsNamed id e → Runs (rm_plan id) old (Err (store_refusal e)) new
+      by (inl is) =
+          subst (λ (x : StoreErr). Runs (rm_plan id) old (Err (store_refusal x)) new) (sym is)
+          (refused (rm_plan id) old new t (NotFound id) read (sym (named (store_errors.NotFound id) is)) same)
+      by (inr is) =
+          subst (λ (x : StoreErr). Runs (rm_plan id) old (Err (store_refusal x)) new) (sym is)
+          (refused (rm_plan id) old new t (NotEmpty id) read (sym (named (store_errors.NotEmpty id) is)) same)

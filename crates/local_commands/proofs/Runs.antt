@@ -7,42 +7,42 @@ use Rattle.local_store.specs.declared.tables.Tables.{Tables}
 use Rattle.local_store.specs.Keepers.{KeeperNow}
 use Rattle.local_commands.specs.Keeping.{AreKept, ReadsTables}
 use Rattle.local_commands.specs.declared.local_err.LocalErr.{LocalErr}
+use Rattle.local_commands.specs.declared.local_err.LocalErr.TheVariants.{NoMemory}
 use Rattle.local_commands.specs.Refusals.{keeper_refusal}
-use Rattle.local_commands.specs.Running.{Plan, Work, Around, of_tables, only_text, IsAllowedBy, IsMade, IsRefused, IsUnsaved, Runs}
+use Rattle.local_commands.specs.Running.{Plan, Work, Around, of_tables, only_text, IsMade, IsRefused, IsUnsaved, Runs}
 use Rattle.local_commands.proofs.Acting.{none_kept}
 
 -- ---- the keeper's reading
 
-pub unread : (p : Plan) (around : Around) (old new : KeeperNow) (e : KeeperErr) (why : LocalErr)
-    → why ≡ keeper_refusal e → ReadsTables old (Err e) new
-    → Runs p (record around { keeper = old }) (Err why) (record around { keeper = new })
-unread p around old new e why is read =
-    subst (λ (w : LocalErr). Runs p (record around { keeper = old }) (Err w) (record around { keeper = new }))
-    (sym is) (by e read) where
-      by : (e : KeeperErr) → ReadsTables old (Err e) new
-          → Runs p (record around { keeper = old }) (Err (keeper_refusal e)) (record around { keeper = new })
-      by keeper_errors.Fault read = inl (record { failed = read; same = refl })
-      by keeper_errors.NoMemory read = inl (record { keeper = read; notes = refl })
+pub unread : (p : Plan) (old new : Around) (e : KeeperErr) (why : LocalErr) → why ≡ keeper_refusal e
+    → ReadsTables old.keeper (Err e) new.keeper → new ≡ record old { keeper = new.keeper }
+    → Runs p old (Err why) new
+unread p old new e why is read same =
+    subst (λ (w : LocalErr). Runs p old (Err w) new) (sym is) (by e read) where
+      by : (e : KeeperErr) → ReadsTables old.keeper (Err e) new.keeper
+          → Runs p old (Err (keeper_refusal e)) new
+      by keeper_errors.Fault read = inl (record { failed = read; same = same })
+      by keeper_errors.NoMemory read =
+          inl (record { keeper = read; notes = ap (λ (a : Around). a.notes) same })
 
 -- ---- the tables' word
 
-pub allowed_by : (p : Plan) (around : Around) (old new : KeeperNow) (t : Tables)
-    → AreKept old t × (new ≡ old) → p.Checks t None → IsAllowedBy p (record around { keeper = old }) t
-allowed_by p around old new t read passed = record { kept = read.0; passed = passed }
-
-pub refused : (p : Plan) (around : Around) (old new : KeeperNow) (t : Tables) (why : LocalErr)
-    → AreKept old t × (new ≡ old) → p.Checks t (Some why)
-    → IsRefused p (record around { keeper = old }) (record around { keeper = new }) why
-refused p around old new t why read checks = record {
+pub refused : (p : Plan) (old new : Around) (t : Tables) (why : LocalErr)
+    → AreKept old.keeper t × (new.keeper ≡ old.keeper) → p.Checks t (Some why)
+    → new ≡ record old { keeper = new.keeper } → IsRefused p old new why
+refused p old new t why read checks same = record {
   tables = t;
   kept = read.0;
   checks = checks;
-  same = ap (λ (k : KeeperNow). record around { keeper = k }) read.1;
+  same = same ∙ ap (λ (k : KeeperNow). record old { keeper = k }) read.1;
 }
 
-pub unsaved_read : (around : Around) (old new : KeeperNow) (t : Tables) → AreKept old t × (new ≡ old)
-    → IsUnsaved (record around { keeper = old }) (record around { keeper = new })
-unsaved_read around old new t read = record { keeper = read.1; notes = refl }
+-- ---- memory
+
+pub out_of_memory : (p : Plan) (old new : Around) (why : LocalErr) → why ≡ NoMemory → IsUnsaved old new
+    → Runs p old (Err why) new
+out_of_memory p old new why is unsaved =
+    subst (λ (w : LocalErr). Runs p old (Err w) new) (sym is) (inl unsaved)
 
 -- ---- commands that take nothing but the tables
 
@@ -66,15 +66,13 @@ of_tables_made Checks Makes old new t made kept passed makes input clock entropy
 
 -- a text of the tables is printed, and nothing is done
 pub printed : (Checks : Tables → Option LocalErr → Type 0)
-    (Makes : Tables → Result Work LocalErr → Type 0) (around : Around) (old new : KeeperNow) (t : Tables)
-    (text : List ℕ) → AreKept old t × (new ≡ old) → Checks t None
-    → Makes t (Ok (only_text text))
-    → Runs (of_tables Checks Makes) (record around { keeper = old }) (Ok text) (record around { keeper = new })
-printed Checks Makes around old new t text read passed makes = record {
+    (Makes : Tables → Result Work LocalErr → Type 0) (old : Around) (t : Tables) (text : List ℕ)
+    → AreKept old.keeper t → Checks t None → Makes t (Ok (only_text text))
+    → Runs (of_tables Checks Makes) old (Ok text) old
+printed Checks Makes old t text kept passed makes = record {
   work = only_text text;
-  made = of_tables_made Checks Makes (record around { keeper = old }) (record around { keeper = new }) t
-      (Ok (only_text text)) read.0 passed makes refl refl refl;
-  keeper = read.1 ∙ ap (λ (kept : _). record old { kept = kept }) (none_kept old.kept);
+  made = of_tables_made Checks Makes old old t (Ok (only_text text)) kept passed makes refl refl refl;
+  keeper = ap (λ (kept : _). record old.keeper { kept = kept }) (none_kept old.keeper.kept);
   notes = refl;
   prints = refl;
 }

@@ -1,5 +1,5 @@
 -- What is read from a keeper, what is done to it, and what is written down of that.
-use Rattle.std.specs.Prelude.{◌≡◌, List, [], ◌∷◌, ◌++◌, length, Result, Ok, Err, option_map}
+use Rattle.std.specs.Prelude.{ℕ, ◌≡◌, List, [], ◌∷◌, ◌++◌, length, Result, Ok, Err, option_map}
 use Rattle.jop_base.specs.Outside.{HasRisen}
 use Rattle.jop_target.specs.declared.event.Event.{Event}
 use Rattle.jop_target.specs.declared.event.Event.TheVariants.{Made}
@@ -92,6 +92,10 @@ notes_if act (Ok done) n = notes_after act n
 notes_if act (Err e) n = n
 
 -- ---- acts in a row
+
+-- the bytes of a resource are saved, and then the resource is
+abbrev pub save_then : List ℕ → List ℕ → Change → List Act
+save_then id bytes change = SaveBlob (record { id = id; bytes = bytes }) ∷ MakeChange change ∷ []
 
 -- some of the acts were done, the first ones, and they are written down
 pub record DoesSome (acts : List Act) (old : KeeperNow) (before : Notes) (new : KeeperNow)

@@ -1,7 +1,7 @@
 ghost use Rattle.std.specs.Prelude.{◌≡◌, All, map};
 ghost use Rattle.local_store.specs.Sound.{IsAllowed};
 ghost use Rattle.local_commands.specs.Keeping.{Acts, ActsAll, MakeChange, ReadsTables, SaveBlob};
-ghost use Rattle.local_commands.specs.Keeping.{notes, notes_if};
+ghost use Rattle.local_commands.specs.Keeping.{notes, notes_if, save_then};
 
 use jop_base::{Bytes, Copied, Id};
 use jop_target::Diary;
@@ -57,7 +57,7 @@ pub(crate) fn commit_all<K: Keeper>(
 
 /// Saves the bytes of a resource.
 #[tactic(auto, using(crate::proofs::Acting::act_done, crate::proofs::Acting::act_undone))]
-pub(crate) fn save_blob<K: Keeper>(
+fn save_blob<K: Keeper>(
     alloc: Global,
     keeper: &mut K,
     id: &Id,
@@ -67,5 +67,26 @@ pub(crate) fn save_blob<K: Keeper>(
         result (K.state keeper.new) }
 {
     keeper.save_blob(alloc, id, bytes)?;
+    Ok(())
+}
+
+/// Saves the bytes of a resource, and then makes the change that saves the resource, and writes that down.
+pub(crate) fn save_resource<K: Keeper>(
+    alloc: Global,
+    keeper: &mut K,
+    diary: &mut Diary,
+    made: &mut Changes,
+    id: &Id,
+    bytes: &Bytes,
+    change: Change,
+) -> Result<(), KeeperErr>
+    requires { IsAllowed change }
+    ensures { ActsAll (save_then id.now bytes.now change)
+        (K.state keeper.old) (notes made.old.changes diary.old.events)
+        result
+        (K.state keeper.new) (notes made.new.changes diary.new.events) }
+{
+    save_blob(alloc, keeper, id, bytes)?;
+    commit(alloc, keeper, diary, made, change)?;
     Ok(())
 }

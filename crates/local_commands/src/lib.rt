@@ -15,7 +15,6 @@ mod local_command;
 mod local_err;
 mod obeying;
 mod printed;
-mod saving;
 mod stamp;
 mod title;
 

@@ -1,7 +1,7 @@
 use crate::body::{BODY_LIMIT, BodyErr};
-use crate::saving::SaveErr;
 use crate::stamp::StampErr;
 use jop_base::Id;
+use local_changes::StoreErr;
 use local_store::KeeperErr;
 use std::alloc::AllocError;
 
@@ -90,16 +90,20 @@ impl From<StampErr> for LocalErr {
     }
 }
 
-impl From<SaveErr> for LocalErr {
+impl From<StoreErr> for LocalErr {
     ghost use Rattle.std.specs.Prelude.{◌≡◌};
-    ghost use Rattle.local_commands.specs.Saving.{save_refusal};
+    ghost use Rattle.local_commands.specs.Refusals.{store_refusal};
 
-    ghost from_gives = { λ s e. e ≡ save_refusal s };
+    ghost from_gives = { λ s e. e ≡ store_refusal s };
 
-    fn from(error: SaveErr) -> LocalErr {
+    fn from(error: StoreErr) -> LocalErr {
         match error {
-            SaveErr::TooLarge(len) => LocalErr::TooLarge(len),
-            SaveErr::NoMemory => LocalErr::NoMemory,
+            StoreErr::NotFound(id) => LocalErr::NotFound(id),
+            StoreErr::Sealed(id) => LocalErr::Sealed(id),
+            StoreErr::TimeEnd(id) => LocalErr::TimeEnd(id),
+            StoreErr::NotEmpty(id) => LocalErr::NotEmpty(id),
+            StoreErr::TooLarge(len) => LocalErr::TooLarge(len),
+            StoreErr::NoMemory => LocalErr::NoMemory,
         }
     }
 }

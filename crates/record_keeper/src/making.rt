@@ -1,6 +1,7 @@
 //! The writes that make a change.
 
-ghost use Rattle.std.specs.Prelude.{◌≡◌, ◌++◌, ◌∷◌, [], All, IfOk, OnOk, None, true};
+ghost use Rattle.std.specs.Prelude.{◌≡◌, ◌≢◌, ◌++◌, ◌∷◌, [], ℕ, All, Option, IfOk, OnOk, None, true};
+ghost use Rattle.local_store.specs.declared.row.Row.{Row};
 ghost use Rattle.item_text.specs.Valid.{IsItem};
 ghost use Rattle.local_store.specs.Rows.{item_of};
 ghost use Rattle.local_store.specs.Sound.{IsAllowed};
@@ -12,9 +13,10 @@ ghost use Rattle.record_keeper.specs.Writes.{IsSoundWrite};
 use crate::write::Write;
 use item_kinds::Kind;
 use item_text::Item;
-use jop_base::{Bytes, Copied, Id, Seq};
+use jop_base::{Bytes, Context, Copied, Id, Seq};
 use local_store::{Change, ConflictNote, Content, Deletion, Row, has_kind};
 use std::alloc::{AllocError, Global};
+use sync_info::Info;
 
 /// The id of the row that has to be known before the writes of the change can be told.
 pub(crate) fn row_needed(change: &Change) -> Option<Id>
@@ -165,6 +167,21 @@ fn add_note(
     Ok(())
 }
 
+/// Puts a row as it is with its file, whose content is copied.
+fn add_taken(
+    writes: &mut Seq<Write>,
+    alloc: Global,
+    id: &Id,
+    content: &Content,
+    bytes: &Bytes,
+) -> Result<(), AllocError>
+    ensures { OnOk result (writes.new
+        ≡ writes.old ++ Write.SetRow (synced_row id.now content.now bytes.now) ∷ []) }
+{
+    let content = content.copy(alloc)?;
+    add_synced(writes, alloc, id, content, bytes)
+}
+
 fn add_remote(
     writes: &mut Seq<Write>,
     alloc: Global,
@@ -174,13 +191,9 @@ fn add_remote(
     ensures { OnOk result (writes.new ≡ writes.old ++ remote_writes id.now remote.now) }
 {
     match remote {
-        Some((bytes, content)) => {
-            let content = content.copy(alloc)?;
-            add_synced(writes, alloc, id, content, bytes)?;
-        }
-        None => writes.push(Write::DropRow(*id))?,
+        Some((bytes, content)) => add_taken(writes, alloc, id, content, bytes),
+        None => writes.push(Write::DropRow(*id)),
     }
-    Ok(())
 }
 
 fn add_conflict(
@@ -204,6 +217,20 @@ fn add_conflict(
     Ok(())
 }
 
+/// Puts a note of a row whose folder is gone, and takes the row out.
+fn add_moved(
+    writes: &mut Seq<Write>,
+    alloc: Global,
+    id: &Id,
+    row: Option<Row>,
+    number: u64,
+) -> Result<(), AllocError>
+    ensures { OnOk result (writes.new ≡ writes.old ++ conflict_writes id.now None true row number) }
+{
+    let remote = None;
+    add_conflict(writes, alloc, id, &remote, true, row, number)
+}
+
 fn add_opened(
     writes: &mut Seq<Write>,
     alloc: Global,
@@ -225,6 +252,73 @@ fn add_opened(
     Ok(())
 }
 
+fn add_info(writes: &mut Seq<Write>, alloc: Global, info: &Info) -> Result<(), AllocError>
+    ensures { OnOk result (writes.new ≡ writes.old ++ Write.SetInfo info.now ∷ []) }
+{
+    let info = info.copy(alloc)?;
+    writes.push(Write::SetInfo(info))
+}
+
+fn add_context(writes: &mut Seq<Write>, alloc: Global, context: &Context) -> Result<(), AllocError>
+    ensures { OnOk result (writes.new ≡ writes.old ++ Write.SetContext context.now ∷ []) }
+{
+    let context = context.copy(alloc)?;
+    writes.push(Write::SetContext(context))
+}
+
+/// Adds the writes that make a change which needs no row.
+fn add_alone(writes: &mut Seq<Write>, alloc: Global, change: &Change) -> Result<(), AllocError>
+    requires { row_needed change.now ≡ None }
+    ensures { (row : Option Row) (number : ℕ) →
+        OnOk result (writes.new ≡ writes.old ++ writes_of change.now row number) }
+{
+    match change {
+        Change::Named(client) => writes.push(Write::SetClient(*client)),
+        Change::Dropped(id) => writes.push(Write::DropDeletion(*id)),
+        Change::Taken(id, bytes, content) => add_taken(writes, alloc, id, content, bytes),
+        Change::Gone(id) => writes.push(Write::DropRow(*id)),
+        Change::Cleared(number) => writes.push(Write::DropConflict(*number)),
+        Change::InfoIs(info) => add_info(writes, alloc, info),
+        Change::ContextIs(context) => add_context(writes, alloc, context),
+        Change::Saved(_, _)
+        | Change::Removed(_)
+        | Change::Uploaded(_, _)
+        | Change::Conflict(_, _, _)
+        | Change::Moved(_)
+        | Change::Opened(_, _) => unreachable!(),
+    }
+}
+
+/// Adds the writes that make a change to a row, from that row and the number that it needs.
+fn add_to_row(
+    writes: &mut Seq<Write>,
+    alloc: Global,
+    change: &Change,
+    row: Option<Row>,
+    number: u64,
+) -> Result<(), AllocError>
+    requires { row_needed change.now ≢ None }
+    ensures { OnOk result (writes.new ≡ writes.old ++ writes_of change.now row number) }
+{
+    match change {
+        Change::Saved(id, item) => add_saved(writes, alloc, id, item, row),
+        Change::Removed(id) => add_removal(writes, id, &row),
+        Change::Uploaded(id, bytes) => add_upload(writes, alloc, id, bytes, row),
+        Change::Conflict(id, remote, copies) => {
+            add_conflict(writes, alloc, id, remote, *copies, row, number)
+        }
+        Change::Moved(id) => add_moved(writes, alloc, id, row, number),
+        Change::Opened(id, item) => add_opened(writes, alloc, id, item, row),
+        Change::Named(_)
+        | Change::Dropped(_)
+        | Change::Taken(_, _, _)
+        | Change::Gone(_)
+        | Change::Cleared(_)
+        | Change::InfoIs(_)
+        | Change::ContextIs(_) => unreachable!(),
+    }
+}
+
 /// The writes that make a change, from the row and the number that it needs.
 pub(crate) fn writes_of(
     alloc: Global,
@@ -235,24 +329,9 @@ pub(crate) fn writes_of(
     ensures { IfOk result (λ writes. writes ≡ writes_of change.now row number) }
 {
     let mut writes = Seq::new(alloc);
-    match change {
-        Change::Named(client) => writes.push(Write::SetClient(*client))?,
-        Change::Saved(id, item) => add_saved(&mut writes, alloc, id, item, row)?,
-        Change::Removed(id) => add_removal(&mut writes, id, &row)?,
-        Change::Uploaded(id, bytes) => add_upload(&mut writes, alloc, id, bytes, row)?,
-        Change::Dropped(id) => writes.push(Write::DropDeletion(*id))?,
-        Change::Taken(id, bytes, content) => {
-            add_synced(&mut writes, alloc, id, content.copy(alloc)?, bytes)?;
-        }
-        Change::Conflict(id, remote, copies) => {
-            add_conflict(&mut writes, alloc, id, remote, *copies, row, number)?;
-        }
-        Change::Moved(id) => add_conflict(&mut writes, alloc, id, &None, true, row, number)?,
-        Change::Gone(id) => writes.push(Write::DropRow(*id))?,
-        Change::Opened(id, item) => add_opened(&mut writes, alloc, id, item, row)?,
-        Change::Cleared(number) => writes.push(Write::DropConflict(*number))?,
-        Change::InfoIs(info) => writes.push(Write::SetInfo(info.copy(alloc)?))?,
-        Change::ContextIs(context) => writes.push(Write::SetContext(context.copy(alloc)?))?,
+    match row_needed(change) {
+        Some(_) => add_to_row(&mut writes, alloc, change, row, number)?,
+        None => add_alone(&mut writes, alloc, change)?,
     }
     Ok(writes)
 }

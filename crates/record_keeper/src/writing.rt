@@ -5,9 +5,10 @@ ghost use Rattle.record_keeper.specs.Writes.{written, written_all, has_room, is_
 ghost use Rattle.std.specs.List.{list_all};
 
 use crate::write::Write;
-use jop_base::Copied;
-use local_store::{Change, ConflictNote, KeeperErr, Tables};
+use jop_base::{Context, Copied, Id};
+use local_store::{Change, ConflictNote, KeeperErr, Row, Tables};
 use std::alloc::{AllocError, Global};
+use sync_info::Info;
 
 /// The numbers that a database holds are below this one, 2^63.
 const LIMIT: u64 = 9_223_372_036_854_775_808;
@@ -47,27 +48,74 @@ fn fits(tables: &Tables, write: &Write) -> bool
     }
 }
 
+fn set_row(tables: &mut Tables, alloc: Global, row: &Row) -> Result<(), AllocError>
+    ensures { OnOk result (tables.new ≡ written tables.old (Write.SetRow row.now)) }
+{
+    let row = row.copy(alloc)?;
+    tables.rows.put(row)
+}
+
+fn drop_row(tables: &mut Tables, id: &Id)
+    ensures { tables.new ≡ written tables.old (Write.DropRow id.now) }
+{
+    tables.rows.cut(id);
+}
+
+fn add_conflict(tables: &mut Tables, alloc: Global, note: &ConflictNote) -> Result<(), AllocError>
+    ensures { OnOk result (tables.new ≡ written tables.old (Write.AddConflict note.now)) }
+{
+    let note = note.copy(alloc)?;
+    tables.conflicts.push(note)
+}
+
+fn drop_conflict(tables: &mut Tables, alloc: Global, number: u64) -> Result<(), AllocError>
+    ensures { OnOk result (tables.new ≡ written tables.old (Write.DropConflict number)) }
+{
+    tables.apply(alloc, &Change::Cleared(number))
+}
+
+fn set_context(tables: &mut Tables, alloc: Global, context: &Context) -> Result<(), AllocError>
+    ensures { OnOk result (tables.new ≡ written tables.old (Write.SetContext context.now)) }
+{
+    tables.context = context.copy(alloc)?;
+    Ok(())
+}
+
+fn set_info(tables: &mut Tables, alloc: Global, info: &Info) -> Result<(), AllocError>
+    ensures { OnOk result (tables.new ≡ written tables.old (Write.SetInfo info.now)) }
+{
+    tables.info = info.copy(alloc)?;
+    Ok(())
+}
+
 /// Makes a write.
 fn make(alloc: Global, tables: &mut Tables, write: &Write) -> Result<(), AllocError>
     ensures { OnOk result (tables.new ≡ written tables.old write.now) }
 {
     match write {
-        Write::SetRow(row) => tables.rows.put(row.copy(alloc)?)?,
+        Write::SetRow(row) => set_row(tables, alloc, row),
         Write::DropRow(id) => {
-            tables.rows.cut(id);
+            drop_row(tables, id);
+            Ok(())
         }
-        Write::SetDeletion(deletion) => tables.deletions.put(*deletion)?,
+        Write::SetDeletion(deletion) => tables.deletions.put(*deletion),
         Write::DropDeletion(id) => {
             tables.deletions.cut(id);
+            Ok(())
         }
-        Write::AddConflict(note) => tables.conflicts.push(note.copy(alloc)?)?,
-        Write::DropConflict(number) => tables.apply(alloc, &Change::Cleared(*number))?,
-        Write::SetNext(number) => tables.next_conflict = *number,
-        Write::SetClient(client) => tables.client = Some(*client),
-        Write::SetContext(context) => tables.context = context.copy(alloc)?,
-        Write::SetInfo(info) => tables.info = info.copy(alloc)?,
+        Write::AddConflict(note) => add_conflict(tables, alloc, note),
+        Write::DropConflict(number) => drop_conflict(tables, alloc, *number),
+        Write::SetNext(number) => {
+            tables.next_conflict = *number;
+            Ok(())
+        }
+        Write::SetClient(client) => {
+            tables.client = Some(*client);
+            Ok(())
+        }
+        Write::SetContext(context) => set_context(tables, alloc, context),
+        Write::SetInfo(info) => set_info(tables, alloc, info),
     }
-    Ok(())
 }
 
 /// Makes all the writes, in order, or refuses at the first that doesn't fit.

@@ -1,5 +1,5 @@
--- How flags, ids and lists stand in the columns of a database.
-use Rattle.std.specs.Prelude.{ℕ, ℤ, pos, ◌≡◌, List, [], ◌∷◌, All, Bool, true, false, if◌then◌else◌}
+-- How flags and ids stand in the columns of a database.
+use Rattle.std.specs.Prelude.{ℕ, ℤ, pos, ◌≡◌, List, Bool, true, false, if◌then◌else◌}
 use Rattle.std.specs.List.{flat_map}
 
 -- a flag is 1 or 0
@@ -9,10 +9,3 @@ flag set = if set then pos 1 else pos 0
 -- the digits of ids, one after the other
 abbrev pub id_digits : List (List ℕ) → List ℕ
 id_digits ids = flat_map (λ id. id) ids
-
--- each record holds the value at its place
-abbrev pub HoldAll : {S T : Type 0} → (S → T → Type 0) → List S → List T → Type 0
-HoldAll P [] [] = Unit {0}
-HoldAll P [] (t ∷ ts) = ⊥
-HoldAll P (s ∷ ss) [] = ⊥
-HoldAll P (s ∷ ss) (t ∷ ts) = P s t × HoldAll P ss ts

@@ -1,5 +1,4 @@
 pub mod Columns
 pub mod Holding
 pub mod Meta
-pub mod Whole
 pub mod Ordered

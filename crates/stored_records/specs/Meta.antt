@@ -1,5 +1,6 @@
 -- What a client knows of itself and its target, as the values of a table of keys.
-use Rattle.std.specs.Prelude.{ℕ, ◌≡◌, List, Some, decimal}
+use Rattle.std.specs.Prelude.{ℕ, ◌<◌, ◌^◌, ◌≡◌, List, All, Some, IfSome, decimal}
+use Rattle.jop_base.specs.Id.{IsIdText}
 use Rattle.jop_base.specs.declared.context.Context.{Context}
 use Rattle.sync_info.specs.Read.{info_in}
 use Rattle.local_store.specs.declared.tables.Tables.{Tables}
@@ -14,3 +15,14 @@ pub record HoldsMeta (s : MetaRecord) (t : Tables) : Type 0 where
   pub moment : s.moment ≡ decimal t.context.moment
   pub seen : s.seen ≡ id_digits t.context.seen
   pub info : info_in s.info ≡ Some t.info
+
+-- the moment fits 64 bits, and what was seen are ids
+pub record IsSoundContext (c : Context) : Type 0 where
+  pub moment : c.moment < 2 ^ 64
+  pub seen : All IsIdText c.seen
+
+-- the client's id is one, and the numbers fit 64 bits
+pub record IsSoundMeta (t : Tables) : Type 0 where
+  pub client : IfSome t.client IsIdText
+  pub next_conflict : t.next_conflict < 2 ^ 64
+  pub context : IsSoundContext t.context

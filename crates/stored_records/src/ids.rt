@@ -1,4 +1,5 @@
-ghost use Rattle.std.specs.Prelude.{◌≡◌, IfOk, IfErr};
+ghost use Rattle.std.specs.Prelude.{◌≡◌, ℕ, List, All, IfOk};
+ghost use Rattle.jop_base.specs.Id.{IsIdText};
 ghost use Rattle.stored_records.specs.Columns.{id_digits};
 
 use crate::record_err::RecordErr;
@@ -18,7 +19,9 @@ pub fn ids_text(alloc: Global, ids: &[Id]) -> Result<Bytes, AllocError>
 
 /// The ids whose digits stand in a text, one after the other.
 pub(crate) fn read_ids(alloc: Global, text: &[u8]) -> Result<Seq<Id>, RecordErr>
-    ensures { IfOk result (λ ids. text.now ≡ id_digits ids) }
+    ensures ok { IfOk result (λ ids. text.now ≡ id_digits ids) }
+    ensures bad { result ≡ Err RecordErr.Bad → (ids : List (List ℕ)) → All IsIdText ids
+        → ¬ (text.now ≡ id_digits ids) }
 {
     let mut ids = Seq::new(alloc);
     let mut rest = text;

@@ -1,7 +1,7 @@
 //! Tables as a database holds them: records of numbers, texts and bytes, and which rows, deletions and conflict notes
 //! they hold. What is written is read back as it was, and what can't be read back, or would be unsound, is refused.
 //!
-//! Begin with [`RowRecord`] and [`TableRecords`], and for what a record holds with `specs/Holding.antt`. It stands on
+//! Begin with [`RowRecord`] and [`MetaRecord`], and for what a record holds with `specs/Holding.antt`. It stands on
 //! the tables of `local_store`, and touches no database.
 #![tactic(auto)]
 
@@ -16,7 +16,6 @@ mod order;
 mod record;
 mod record_err;
 mod row_record;
-mod table_records;
 mod texts;
 
 pub use deletion_record::DeletionRecord;
@@ -28,4 +27,3 @@ pub use number::{number_text, read_number};
 pub use record::Record;
 pub use record_err::RecordErr;
 pub use row_record::RowRecord;
-pub use table_records::TableRecords;

@@ -1,10 +1,19 @@
-ghost use Rattle.std.specs.Prelude.{◌≡◌, IfOk, IfSome, decimal};
+ghost use Rattle.std.specs.Prelude.{◌≡◌, ℕ, List, All, Option, IfOk, IfSome, decimal};
+ghost use Rattle.jop_base.specs.Id.{IsIdText};
+ghost use Rattle.jop_base.specs.declared.context.Context.{Context};
+ghost use Rattle.local_store.specs.declared.tables.Tables.{Tables};
+ghost use Rattle.local_store.specs.Sound.{IsSound, IsSoundRow};
 ghost use Rattle.stored_records.specs.Columns.{id_digits};
+ghost use Rattle.stored_records.specs.Holding.{IsSoundConflict};
+ghost use Rattle.stored_records.specs.Meta.{HoldsMeta, IsSoundContext, IsSoundMeta};
 
 use crate::ids::read_ids;
 use crate::number::read_number;
+use crate::order::are_in_order;
 use crate::record_err::RecordErr;
-use jop_base::{Bytes, ClientId, Context, Id};
+use crate::texts::info_of;
+use jop_base::{Bytes, ClientId, Context, Id, Seq};
+use local_store::{ConflictNote, Deletion, Row, Tables};
 use std::alloc::Global;
 
 /// What a client knows of itself and its target, as a database holds it.
@@ -23,8 +32,43 @@ pub struct MetaRecord {
 }
 
 impl MetaRecord {
+    /// The sound tables of what this record holds, and of these rows, deletions and conflict notes.
+    #[tactic(auto, using(crate::proofs::Held::tables_sound))]
+    pub fn tables(
+        &self,
+        alloc: Global,
+        rows: Seq<Row>,
+        deletions: Seq<Deletion>,
+        conflicts: Seq<ConflictNote>,
+    ) -> Result<Tables, RecordErr>
+        requires rows { All IsSoundRow rows }
+        requires conflicts { All IsSoundConflict conflicts }
+        ensures holds { IfOk result (λ tables. HoldsMeta self.now tables) }
+        ensures rows { IfOk result (λ tables. tables.rows ≡ rows) }
+        ensures deletions { IfOk result (λ tables. tables.deletions ≡ deletions) }
+        ensures conflicts { IfOk result (λ tables. tables.conflicts ≡ conflicts) }
+        ensures sound { IfOk result (λ tables. IsSound tables) }
+        ensures bad { result ≡ Err RecordErr.Bad → (tables : Tables) → IsSound tables → IsSoundMeta tables
+            → tables.rows ≡ rows → tables.deletions ≡ deletions → ¬ HoldsMeta self.now tables }
+    {
+        if !are_in_order(rows.as_slice()) || !are_in_order(deletions.as_slice()) {
+            return Err(RecordErr::Bad);
+        }
+        Ok(Tables {
+            client: self.client()?,
+            rows,
+            deletions,
+            conflicts,
+            next_conflict: read_number(alloc, self.next_conflict.as_slice())?,
+            context: self.context(alloc)?,
+            info: info_of(alloc, &self.info)?,
+        })
+    }
+
     pub(crate) fn client(&self) -> Result<Option<ClientId>, RecordErr>
-        ensures { IfOk result (λ client. self.now.client ≡ client) }
+        ensures ok { IfOk result (λ client. self.now.client ≡ client) }
+        ensures bad { result ≡ Err RecordErr.Bad → (client : Option (List ℕ)) → IfSome client IsIdText
+            → ¬ (self.now.client ≡ client) }
     {
         let digits = match &self.client {
             Some(digits) => digits,
@@ -39,6 +83,8 @@ impl MetaRecord {
     pub(crate) fn context(&self, alloc: Global) -> Result<Context, RecordErr>
         ensures moment { IfOk result (λ context. self.now.moment ≡ decimal context.moment) }
         ensures seen { IfOk result (λ context. self.now.seen ≡ id_digits context.seen) }
+        ensures bad { result ≡ Err RecordErr.Bad → (context : Context) → IsSoundContext context
+            → self.now.moment ≡ decimal context.moment → ¬ (self.now.seen ≡ id_digits context.seen) }
     {
         let moment = read_number(alloc, self.moment.as_slice())?;
         let seen = read_ids(alloc, self.seen.as_slice())?;

@@ -5,7 +5,8 @@ use jop_base::{Key, Keyed};
 
 /// Whether the items stand in the order of their keys, each key once.
 pub(crate) fn are_in_order<T: Keyed>(items: &[T]) -> bool
-    ensures { IsTrue result → IsSorted T.key items.now }
+    ensures sorted { IsTrue result → IsSorted T.key items.now }
+    ensures unsorted { IsSorted T.key items.now → IsTrue result }
 {
     let mut last: Option<T::Key> = None;
     for item in items {

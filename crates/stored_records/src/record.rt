@@ -1,8 +1,6 @@
-ghost use Rattle.std.specs.Prelude.{◌≡◌, List, All, IfOk};
-ghost use Rattle.stored_records.specs.Columns.{HoldAll};
+ghost use Rattle.std.specs.Prelude.{◌≡◌, IfOk};
 
 use crate::record_err::RecordErr;
-use jop_base::Seq;
 use std::alloc::Global;
 
 /// A record that may hold a value.
@@ -19,18 +17,4 @@ pub trait Record: Drop {
         ensures ok { IfOk result (λ value. holds self.now value × is_sound value) }
         ensures bad { result ≡ Err RecordErr.Bad
             → (value : Self.Held) → is_sound value → ¬ holds self.now value };
-}
-
-/// The values that the records hold, in their order.
-pub(crate) fn read_all<R: Record>(alloc: Global, records: &[R]) -> Result<Seq<R::Held>, RecordErr>
-    ensures held { IfOk result (λ values. HoldAll R.holds records.now values) }
-    ensures sound { IfOk result (λ values. All R.is_sound values) }
-    ensures bad { result ≡ Err RecordErr.Bad → (values : List R.Held) → All R.is_sound values
-        → ¬ HoldAll R.holds records.now values }
-{
-    let mut values = Seq::new(alloc);
-    for record in records {
-        values.push(record.read(alloc)?)?;
-    }
-    Ok(values)
 }

@@ -5,7 +5,7 @@ use Rattle.jop_base.specs.declared.reading.ReadErr.TheVariants as read_errors
 use Rattle.local_changes.specs.Makers.{new_resource}
 use Rattle.local_store.specs.declared.change.Change.{Change}
 use Rattle.local_commands.specs.Drawing.{OneId}
-use Rattle.local_commands.specs.Keeping.{SaveBlob, MakeChange}
+use Rattle.local_commands.specs.Keeping.{save_then}
 use Rattle.local_commands.specs.Lines.{id_line}
 use Rattle.local_commands.specs.declared.local_err.LocalErr.{LocalErr}
 use Rattle.local_commands.specs.declared.local_err.LocalErr.TheVariants.{KeeperFault, SourceFault, ClockFault, EntropyFault, TooLarge, NoMemory}
@@ -27,7 +27,7 @@ blob_refusal read_errors.NoMemory = NoMemory
 -- the bytes are saved, then the resource is, and its id is printed
 abbrev pub attach_work : List ℕ → List ℕ → Change → Work
 attach_work id bytes change = record {
-  acts = SaveBlob (record { id = id; bytes = bytes }) ∷ MakeChange change ∷ [];
+  acts = save_then id bytes change;
   text = id_line id;
 }
 

@@ -7,15 +7,13 @@ use Rattle.jop_base.specs.Times.{last_time}
 use Rattle.local_changes.specs.Editing.{edited_note, plain_note}
 use Rattle.local_changes.specs.declared.store_err.StoreErr.{StoreErr}
 use Rattle.local_store.specs.Tables.{row_at}
-use Rattle.local_store.specs.declared.change.Change.{Change}
 use Rattle.local_commands.specs.Bodies.{body_intake}
 use Rattle.local_commands.specs.Drawing.{NoId}
 use Rattle.local_commands.specs.declared.local_err.LocalErr.{LocalErr}
 use Rattle.local_commands.specs.declared.local_err.LocalErr.TheVariants.{KeeperFault, SourceFault, ClockFault, NotFound, Sealed, TimeEnd, TooLarge, NotText, NoMemory}
 use Rattle.local_commands.specs.Refusals.{store_refusal}
 use Rattle.local_commands.specs.Running.{Plan, Work}
-use Rattle.local_commands.specs.Saving.{IsSaving, saving}
-use Rattle.local_commands.specs.declared.saving.SaveErr.{SaveErr}
+use Rattle.local_commands.specs.Saving.{saving}
 
 -- a note that was last changed at the end of time can't be changed later
 abbrev pub why_last : List ℕ → ℕ → Option LocalErr
@@ -54,11 +52,3 @@ IsNote due (Err e) = (refusal : StoreErr) × (due ≡ Err refusal) × (store_ref
 abbrev pub AllowsNote : List ℕ → Result Item StoreErr → Result (Unit {0}) LocalErr → Type 0
 AllowsNote id note (Ok done) = ChecksNote id note None
 AllowsNote id note (Err e) = ChecksNote id note (Some e)
-
--- the change that edits the note, or its length is refused
-abbrev pub IsEdit : List ℕ → Option (List ℕ) → List ℕ → ℕ → Result Item StoreErr
-    → Result Change SaveErr → Type 0
-IsEdit id title body now (Ok item) result =
-    (last : ℕ) × IsUpdated item.props last
-    × IsSaving (edited_note id title body now last item) result
-IsEdit id title body now (Err e) result = ⊥

@@ -21,8 +21,3 @@ abbrev pub rm_plan : List ℕ → Plan
 rm_plan id = of_tables
     (λ t refusal. refusal ≡ why_kept (removed t id))
     (λ t made. MakesRemoval (removed t id) made)
-
--- the change is this one, or the refusal stands for this one
-abbrev pub IsRemoval : Result Change StoreErr → Result Change LocalErr → Type 0
-IsRemoval due (Ok change) = due ≡ Ok change
-IsRemoval due (Err e) = why_kept due ≡ Some e

@@ -3,18 +3,18 @@ ghost use Rattle.item_kinds.specs.Made.{IsLine};
 ghost use Rattle.item_text.specs.Lines.{trimmed};
 ghost use Rattle.local_commands.specs.Commands.Attach.{attach_plan, blob_limit, blob_refusal};
 ghost use Rattle.local_commands.specs.Lines.{id_line};
-ghost use Rattle.local_commands.specs.Keeping.{notes};
+ghost use Rattle.local_commands.specs.Keeping.{AreKept, notes};
 ghost use Rattle.local_commands.specs.Refusals.{said};
 ghost use Rattle.local_commands.specs.Running.{Around, Runs};
 ghost use Rattle.local_commands.specs.Sparing.{IsReadOf};
 
-use crate::keeping::{commit, read_tables, save_blob};
+use crate::keeping::save_resource;
 use crate::local_err::LocalErr;
 use crate::stamp::{StampErr, stamp};
 use jop_base::{Clock, Entropy, Id, ReadErr, Source, Text, read_to_end};
 use jop_target::Diary;
 use local_changes::new_resource;
-use local_store::{Changes, Keeper, KeeperErr};
+use local_store::{Changes, Keeper, KeeperErr, Tables};
 use std::alloc::{AllocError, Global};
 
 /// The most bytes of a resource that is taken: 32 MiB.
@@ -24,6 +24,7 @@ pub const BLOB_LIMIT: usize = 33_554_432;
 /// line of its own. The bytes are saved before the resource is.
 pub(crate) fn attach<K: Keeper, I: Source, C: Clock, N: Entropy>(
     alloc: Global,
+    tables: &Tables,
     keeper: &mut K,
     input: &mut I,
     clock: &mut C,
@@ -36,6 +37,7 @@ pub(crate) fn attach<K: Keeper, I: Source, C: Clock, N: Entropy>(
     requires name { IsLine name }
     requires mime { IsLine mime }
     requires trimmed { trimmed mime ≡ mime }
+    requires kept { AreKept (K.state keeper.old) tables.now }
     ensures runs { (around : Around) →
         Runs (attach_plan name mime)
         (record around {
@@ -55,15 +57,13 @@ pub(crate) fn attach<K: Keeper, I: Source, C: Clock, N: Entropy>(
         }) }
     ensures input { IsReadOf blob_limit (I.state input.old) (I.state input.new) }
 {
-    let tables = read_tables(alloc, keeper)?;
     let bytes = match read_to_end(alloc, input, BLOB_LIMIT) {
         Ok(bytes) => bytes,
         Err(error) => return Err(blob_refusal(error)),
     };
-    let (now, id) = stamp(&tables, clock, entropy)?;
+    let (now, id) = stamp(tables, clock, entropy)?;
     let change = new_resource(alloc, id, name, mime, bytes.len() as u64, now)?;
-    save_blob(alloc, keeper, &id, &bytes)?;
-    commit(alloc, keeper, diary, made, change)?;
+    save_resource(alloc, keeper, diary, made, &id, &bytes, change)?;
     Ok(id)
 }
 

@@ -1,26 +1,25 @@
 ghost use Rattle.std.specs.Prelude.{◌≡◌};
+ghost use Rattle.local_store.specs.Sound.{IsSound};
 ghost use Rattle.local_store.specs.Tables.{row_at};
 ghost use Rattle.local_commands.specs.Commands.Cat.{IsLent, cat_plan, plain_at};
+ghost use Rattle.local_commands.specs.Keeping.{AreKept};
 ghost use Rattle.local_commands.specs.Refusals.{said};
 ghost use Rattle.local_commands.specs.Running.{Around, Runs};
 
-use crate::keeping::read_tables;
 use crate::local_err::LocalErr;
 use item_text::{Item, write_item};
 use jop_base::{Bytes, Id};
-use local_store::{Content, Keeper, KeeperErr, Tables};
+use local_store::{Content, Tables};
 use std::alloc::{AllocError, Global};
 
 /// The text of the item of this id, with nothing added. `NotFound` exactly if there is no row of it,
 /// and `Sealed` exactly if that is sealed.
-pub(crate) fn cat<K: Keeper>(alloc: Global, keeper: &mut K, id: Id) -> Result<Bytes, LocalErr>
-    ensures { (around : Around) →
-        Runs (cat_plan id) (record around { keeper = K.state keeper.old })
-        (said (λ text. text) result)
-        (record around { keeper = K.state keeper.new }) }
+pub(crate) fn cat(alloc: Global, tables: &Tables, id: Id) -> Result<Bytes, LocalErr>
+    requires { IsSound tables.now }
+    ensures { (old : Around) → AreKept old.keeper tables.now →
+        Runs (cat_plan id) old (said (λ text. text) result) old }
 {
-    let tables = read_tables(alloc, keeper)?;
-    let item = plain_at(&tables, &id)?;
+    let item = plain_at(tables, &id)?;
     let text = write_item(alloc, item)?;
     Ok(text)
 }

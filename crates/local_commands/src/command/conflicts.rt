@@ -2,26 +2,23 @@ ghost use Rattle.std.specs.Prelude.{◌≡◌, ◌∷◌, ◌++◌, [], OnOk};
 ghost use Rattle.std.specs.Fmt.{decimal};
 ghost use Rattle.local_commands.specs.Commands.Conflicts.{conflicts_plan};
 ghost use Rattle.local_commands.specs.Commands.Conflicts.{note_line, note_lines};
+ghost use Rattle.local_commands.specs.Keeping.{AreKept};
 ghost use Rattle.local_commands.specs.Refusals.{said};
 ghost use Rattle.local_commands.specs.Running.{Around, Runs};
 
-use crate::keeping::read_tables;
 use crate::local_err::LocalErr;
 use crate::title::title_of;
 use itoa::Buffer;
 use jop_base::Bytes;
-use local_store::{ConflictNote, Keeper, KeeperErr};
+use local_store::{ConflictNote, Tables};
 use std::alloc::{AllocError, Global};
 
 /// A line for each conflict note, in the order in which they were made: its number, the id of the
 /// item and its title, with a space between each two.
-pub(crate) fn conflicts<K: Keeper>(alloc: Global, keeper: &mut K) -> Result<Bytes, LocalErr>
-    ensures { (around : Around) →
-        Runs conflicts_plan (record around { keeper = K.state keeper.old })
-        (said (λ text. text) result)
-        (record around { keeper = K.state keeper.new }) }
+pub(crate) fn conflicts(alloc: Global, tables: &Tables) -> Result<Bytes, LocalErr>
+    ensures { (old : Around) → AreKept old.keeper tables.now →
+        Runs conflicts_plan old (said (λ text. text) result) old }
 {
-    let tables = read_tables(alloc, keeper)?;
     let mut text = Bytes::new(alloc);
     put_notes(&mut text, tables.conflicts.as_slice())?;
     Ok(text)

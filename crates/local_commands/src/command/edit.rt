@@ -1,28 +1,24 @@
-ghost use Rattle.std.specs.Prelude.{◌≡◌, ◌≤◌, [], None, IfOk, IfSome};
+ghost use Rattle.std.specs.Prelude.{[], IfSome};
 ghost use Rattle.item_kinds.specs.Made.{IsLine};
-ghost use Rattle.jop_base.specs.Times.{last_time};
 ghost use Rattle.local_changes.specs.Editing.{plain_note};
-ghost use Rattle.local_store.specs.Sound.{IsAllowed, IsSound};
 ghost use Rattle.local_store.specs.Tables.{row_at};
 ghost use Rattle.local_commands.specs.Bodies.{body_limit};
-ghost use Rattle.local_commands.specs.Commands.Edit.{AllowsNote, ChecksNote, IsEdit, IsNote};
-ghost use Rattle.local_commands.specs.Commands.Edit.{edit_plan};
-ghost use Rattle.local_commands.specs.Keeping.{notes};
+ghost use Rattle.local_commands.specs.Commands.Edit.{AllowsNote, IsNote, edit_plan};
+ghost use Rattle.local_commands.specs.Keeping.{AreKept, notes};
 ghost use Rattle.local_commands.specs.Refusals.{said};
 ghost use Rattle.local_commands.specs.Running.{Around, Runs};
 ghost use Rattle.local_commands.specs.Sparing.{IsReadOf};
 
 use crate::body::{BODY_LIMIT, BodyErr, take_body};
-use crate::keeping::{commit, read_tables};
+use crate::keeping::commit;
 use crate::local_err::LocalErr;
-use crate::saving::{SaveErr, unless_long};
 use crate::stamp::read_clock;
 use item_kinds::{Kind, updated_of};
 use item_text::Item;
 use jop_base::{Clock, Id, MAX_TIME, Source, Text};
 use jop_target::Diary;
-use local_changes::edited;
-use local_store::{Change, Changes, Content, Keeper, KeeperErr, Tables, has_kind};
+use local_changes::{StoreErr, edited};
+use local_store::{Changes, Content, Keeper, KeeperErr, Tables, has_kind};
 use std::alloc::Global;
 
 /// Gives a note another title, if one is given, and the whole input as its body, and prints nothing. In
@@ -31,6 +27,7 @@ use std::alloc::Global;
 /// `TooLarge` of the note's text.
 pub(crate) fn edit<K: Keeper, I: Source, C: Clock>(
     alloc: Global,
+    tables: &Tables,
     keeper: &mut K,
     input: &mut I,
     clock: &mut C,
@@ -39,7 +36,8 @@ pub(crate) fn edit<K: Keeper, I: Source, C: Clock>(
     id: Id,
     title: Option<Text>,
 ) -> Result<(), LocalErr>
-    requires { IfSome title (λ title. IsLine title) }
+    requires title { IfSome title (λ title. IsLine title) }
+    requires kept { AreKept (K.state keeper.old) tables.now }
     ensures runs { (around : Around) →
         Runs (edit_plan id title)
         (record around {
@@ -57,13 +55,12 @@ pub(crate) fn edit<K: Keeper, I: Source, C: Clock>(
         }) }
     ensures input { IsReadOf body_limit (I.state input.old) (I.state input.new) }
 {
-    let tables = read_tables(alloc, keeper)?;
-    check_note(&tables, &id)?;
+    check_note(tables, &id)?;
     let body = take_body(alloc, input)?;
     let Ok(now) = read_clock(clock) else {
         return Err(LocalErr::ClockFault);
     };
-    let change = edit_saving(alloc, &tables, id, title, body, now)?;
+    let change = edited(alloc, tables, id, title, body, now)?;
     commit(alloc, keeper, diary, made, change)?;
     Ok(())
 }
@@ -90,25 +87,4 @@ fn plain_note<'a>(tables: &'a Tables, id: &Id) -> Result<&'a Item, LocalErr>
         },
         _ => Err(LocalErr::NotFound(*id)),
     }
-}
-
-/// The change that edits the note, which is readable and can be changed later.
-#[tactic(auto, using(crate::proofs::Edits::edit_long, crate::proofs::Edits::edit_saves))]
-fn edit_saving(
-    alloc: Global,
-    tables: &Tables,
-    id: Id,
-    title: Option<Text>,
-    body: Text,
-    now: u64,
-) -> Result<Change, SaveErr>
-    requires sound { IsSound tables.now }
-    requires title { IfSome title (λ title. IsLine title) }
-    requires time { now ≤ last_time }
-    requires note { ChecksNote id (plain_note id (row_at tables.now id)) None }
-    ensures saving { IsEdit id title body now (plain_note id (row_at tables.now id)) result }
-    ensures allowed { IfOk result (λ change. IsAllowed change) }
-{
-    let change = unless_long(edited(alloc, tables, id, title, body, now))?;
-    Ok(change)
 }

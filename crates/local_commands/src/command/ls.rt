@@ -2,34 +2,27 @@ ghost use Rattle.std.specs.Prelude.{◌≡◌, ◌++◌, OnOk, codes};
 ghost use Rattle.local_changes.specs.Lookup.{has_value};
 ghost use Rattle.local_commands.specs.Commands.Ls.{is_listed, label, line_if_listed, listing};
 ghost use Rattle.local_commands.specs.Commands.Ls.{ls_plan, row_line};
+ghost use Rattle.local_commands.specs.Keeping.{AreKept};
 ghost use Rattle.local_commands.specs.Refusals.{said};
 ghost use Rattle.local_commands.specs.Running.{Around, Runs};
 
 use crate::books::missing_book;
-use crate::keeping::read_tables;
 use crate::local_err::LocalErr;
 use crate::title::title_of;
 use item_kinds::Kind;
 use item_text::{Item, prop};
 use jop_base::{Bytes, Id};
-use local_store::{Content, Keeper, KeeperErr, Row, has_kind};
+use local_store::{Content, Row, Tables, has_kind};
 use std::alloc::{AllocError, Global};
 
 /// A line for each notebook, or for each note in the notebook that is given, in the order of their
 /// ids: the id, a space and the title, or `(sealed)` in place of the title of a sealed one. `NotFound`
 /// exactly if a notebook is given and no row of its id is one.
-pub(crate) fn ls<K: Keeper>(
-    alloc: Global,
-    keeper: &mut K,
-    book: Option<Id>,
-) -> Result<Bytes, LocalErr>
-    ensures { (around : Around) →
-        Runs (ls_plan book) (record around { keeper = K.state keeper.old })
-        (said (λ text. text) result)
-        (record around { keeper = K.state keeper.new }) }
+pub(crate) fn ls(alloc: Global, tables: &Tables, book: Option<Id>) -> Result<Bytes, LocalErr>
+    ensures { (old : Around) → AreKept old.keeper tables.now →
+        Runs (ls_plan book) old (said (λ text. text) result) old }
 {
-    let tables = read_tables(alloc, keeper)?;
-    if let Some(book) = missing_book(&tables, &book) {
+    if let Some(book) = missing_book(tables, &book) {
         return Err(LocalErr::NotFound(book));
     }
     let mut text = Bytes::new(alloc);

@@ -1,25 +1,18 @@
-ghost use Rattle.std.specs.Prelude.{◌≡◌, ◌≤◌, None, IfOk};
 ghost use Rattle.item_kinds.specs.Made.{IsLine};
-ghost use Rattle.jop_base.specs.Times.{last_time};
-ghost use Rattle.local_changes.specs.Makers.{new_book};
-ghost use Rattle.local_store.specs.Sound.{IsAllowed};
-ghost use Rattle.local_commands.specs.Books.{missing_book};
 ghost use Rattle.local_commands.specs.Commands.Mkbook.{mkbook_plan};
 ghost use Rattle.local_commands.specs.Lines.{id_line};
-ghost use Rattle.local_commands.specs.Keeping.{notes};
+ghost use Rattle.local_commands.specs.Keeping.{AreKept, notes};
 ghost use Rattle.local_commands.specs.Refusals.{said};
 ghost use Rattle.local_commands.specs.Running.{Around, Runs};
-ghost use Rattle.local_commands.specs.Saving.{IsSaving};
 
 use crate::books::missing_book;
-use crate::keeping::{commit, read_tables};
+use crate::keeping::commit;
 use crate::local_err::LocalErr;
-use crate::saving::{SaveErr, unless_long};
 use crate::stamp::{StampErr, stamp};
 use jop_base::{Clock, Entropy, Id, Text};
 use jop_target::Diary;
-use local_changes::new_book;
-use local_store::{Change, Changes, Keeper, KeeperErr, Tables};
+use local_changes::{StoreErr, new_book};
+use local_store::{Changes, Keeper, KeeperErr, Tables};
 use std::alloc::Global;
 
 /// Makes a notebook, at the top or in the parent that is given, and answers its id, which is printed on
@@ -27,6 +20,7 @@ use std::alloc::Global;
 /// comes before the clock and the random source are asked.
 pub(crate) fn mkbook<K: Keeper, C: Clock, N: Entropy>(
     alloc: Global,
+    tables: &Tables,
     keeper: &mut K,
     clock: &mut C,
     entropy: &mut N,
@@ -35,7 +29,8 @@ pub(crate) fn mkbook<K: Keeper, C: Clock, N: Entropy>(
     title: Text,
     parent: Option<Id>,
 ) -> Result<Id, LocalErr>
-    requires { IsLine title }
+    requires title { IsLine title }
+    requires kept { AreKept (K.state keeper.old) tables.now }
     ensures { (around : Around) →
         Runs (mkbook_plan title parent)
         (record around {
@@ -52,31 +47,11 @@ pub(crate) fn mkbook<K: Keeper, C: Clock, N: Entropy>(
           notes = notes made.new.changes diary.new.events;
         }) }
 {
-    let tables = read_tables(alloc, keeper)?;
-    if let Some(book) = missing_book(&tables, &parent) {
+    if let Some(book) = missing_book(tables, &parent) {
         return Err(LocalErr::NotFound(book));
     }
-    let (now, id) = stamp(&tables, clock, entropy)?;
-    let change = book_saving(alloc, &tables, id, parent, title, now)?;
+    let (now, id) = stamp(tables, clock, entropy)?;
+    let change = new_book(alloc, tables, id, parent, title, now)?;
     commit(alloc, keeper, diary, made, change)?;
     Ok(id)
-}
-
-/// The change that saves the notebook, whose parent is there.
-fn book_saving(
-    alloc: Global,
-    tables: &Tables,
-    id: Id,
-    parent: Option<Id>,
-    title: Text,
-    now: u64,
-) -> Result<Change, SaveErr>
-    requires title { IsLine title }
-    requires time { now ≤ last_time }
-    requires parent { missing_book tables.now parent ≡ None }
-    ensures saving { IsSaving (new_book tables.now id parent title now) result }
-    ensures allowed { IfOk result (λ change. IsAllowed change) }
-{
-    let change = unless_long(new_book(alloc, tables, id, parent, title, now))?;
-    Ok(change)
 }

@@ -1,64 +1,55 @@
-use Rattle.std.proofs.Common.{◌∙◌, ℕ, [], ◌∷◌, Ok, Err, ap, refl, subst}
+use Rattle.std.proofs.Common.{◌∙◌, ℕ, ap, refl}
 use Rattle.std.proofs.lemmas.Result.{err_from_is_err_and}
 use Rattle.local_changes.specs.Makers.{new_resource}
-use Rattle.local_store.specs.Keepers.{KeeperNow}
 use Rattle.local_commands.specs.Commands.Attach.{attach_work}
-use Rattle.local_commands.specs.Keeping.{Acts, MakeChange, SaveBlob, notes}
-use Rattle.local_commands.proofs.InARow.{acted, acts_refused, saved_then, unacted}
-use Rattle.local_commands.proofs.Stages.{attach_made}
+use Rattle.local_commands.proofs.InARow.{acted, unacted}
+use Rattle.local_commands.proofs.Runs.{out_of_memory}
+use Rattle.local_commands.proofs.Stages.{attach_made, ungiven, unstamped}
 use Rattle.local_commands.proofs.command.attach.attach.Goals as goal
 
-pub returns-in_err-save_blob-clause-runs : goal.returns-in_err-save_blob-clause-runs
-returns-in_err-save_blob-clause-runs g c around =
-    let p = err_from_is_err_and c.from_residual-in_err-save_blob.result
-    c.from_residual-in_err-save_blob.ensures.1 in
-    let change = c.in_ok-change.change in
-    rw p.1
-    (unacted _ _ _ (attach_work c.in_ok-now.id c.in-Ok.bytes change) c.in_err-save_blob.field-0.0 _ p.2
-    (attach_made c.args.name c.args.mime c.in-Ok.bytes _ _ c.in_ok-tables.tables c.in_ok-now.now
-    c.in_ok-now.id change c.in_ok-tables.ensures.0 c.in-Ok.ensures.read c.in_ok-now.ensures
-    (c.in_ok-change.ensures.change
-    ∙ ap (λ (n : ℕ). new_resource c.in_ok-now.id c.args.name c.args.mime n c.in_ok-now.now) c.len.ensures))
-    (acts_refused (SaveBlob (record { id = c.in_ok-now.id; bytes = c.in-Ok.bytes }))
-    (MakeChange change ∷ []) (g.K.Keeper.state c.args.keeper.now)
-    (g.K.Keeper.state c.save_blob.new.keeper) (notes c.args.made.now.changes c.args.diary.now.events)
-    (notes c.args.made.now.changes c.args.diary.now.events) c.in_err-save_blob.field-0.0
-    (subst (λ (k : KeeperNow).
-    Acts (SaveBlob (record { id = c.in_ok-now.id; bytes = c.in-Ok.bytes })) k
-    (Err c.in_err-save_blob.field-0.0) (g.K.Keeper.state c.save_blob.new.keeper))
-    c.in_ok-tables.ensures.1 c.in_err-save_blob.ensures) refl))
+pub returns-in-Err-clause-runs : goal.returns-in-Err-clause-runs
+returns-in-Err-clause-runs g c around =
+    ungiven _ _ _ c.args.tables.now c.in-Err.error _ c.blob_refusal.ensures refl
+    (record { kept = c.requires.kept; passed = refl })
+    c.in-Err.ensures.read refl refl (record { keeper = refl; notes = refl })
 
-pub returns-in_err-commit-clause-runs : goal.returns-in_err-commit-clause-runs
-returns-in_err-commit-clause-runs g c around =
-    let p = err_from_is_err_and c.from_residual-in_err-commit.result
-    c.from_residual-in_err-commit.ensures.1 in
+pub returns-in_err-now-clause-runs : goal.returns-in_err-now-clause-runs
+returns-in_err-now-clause-runs g c around =
+    let p = err_from_is_err_and c.from_residual.result
+    c.from_residual.ensures.1 in
+    rw p.1
+    (unstamped _ _ _ c.args.tables.now c.in-Ok.bytes c.in_err-now.field-0.0 _ p.2
+    (record {
+      allowed = record { kept = c.requires.kept; passed = refl };
+      takes = (c.in-Ok.ensures.read, tt);
+    })
+    refl (λ risen. risen) c.in_err-now.ensures (record { keeper = refl; notes = refl }))
+
+pub returns-in_err-change-clause-runs : goal.returns-in_err-change-clause-runs
+returns-in_err-change-clause-runs g c around =
+    let p = err_from_is_err_and c.from_residual-in_err-change.result
+    c.from_residual-in_err-change.ensures.1 in
+    rw p.1 (out_of_memory _ _ _ _ p.2 (record { keeper = refl; notes = refl }))
+
+pub returns-in_err-save_resource-clause-runs : goal.returns-in_err-save_resource-clause-runs
+returns-in_err-save_resource-clause-runs g c around =
+    let p = err_from_is_err_and c.from_residual-in_err-save_resource.result
+    c.from_residual-in_err-save_resource.ensures.1 in
     let change = c.in_ok-change.change in
     rw p.1
-    (unacted _ _ _ (attach_work c.in_ok-now.id c.in-Ok.bytes change) c.in_err-commit.field-0.0 _ p.2
-    (attach_made c.args.name c.args.mime c.in-Ok.bytes _ _ c.in_ok-tables.tables c.in_ok-now.now
-    c.in_ok-now.id change c.in_ok-tables.ensures.0 c.in-Ok.ensures.read c.in_ok-now.ensures
+    (unacted _ _ _ (attach_work c.in_ok-now.id c.in-Ok.bytes change) c.in_err-save_resource.field-0.0 _ p.2
+    (attach_made c.args.name c.args.mime c.in-Ok.bytes _ _ c.args.tables.now c.in_ok-now.now
+    c.in_ok-now.id change c.requires.kept c.in-Ok.ensures.read c.in_ok-now.ensures
     (c.in_ok-change.ensures.change
     ∙ ap (λ (n : ℕ). new_resource c.in_ok-now.id c.args.name c.args.mime n c.in_ok-now.now) c.len.ensures))
-    (saved_then (SaveBlob (record { id = c.in_ok-now.id; bytes = c.in-Ok.bytes }))
-    (g.K.Keeper.state c.args.keeper.now) (g.K.Keeper.state c.read_tables.new.keeper)
-    (g.K.Keeper.state c.save_blob.new.keeper) (g.K.Keeper.state c.commit.new.keeper)
-    (notes c.args.made.now.changes c.args.diary.now.events)
-    (notes c.commit.new.made.changes c.commit.new.diary.events) change
-    (Err c.in_err-commit.field-0.0) c.in_ok-tables.ensures.1 c.in_ok-save_blob.ensures refl
-    c.in_err-commit.ensures.acts c.in_err-commit.ensures.notes))
+    c.in_err-save_resource.ensures)
 
 pub returns-clause-runs : goal.returns-clause-runs
 returns-clause-runs g c around =
     let change = c.in_ok-change.change in
     acted _ _ _ (attach_work c.in_ok-now.id c.in-Ok.bytes change)
-    (attach_made c.args.name c.args.mime c.in-Ok.bytes _ _ c.in_ok-tables.tables c.in_ok-now.now
-    c.in_ok-now.id change c.in_ok-tables.ensures.0 c.in-Ok.ensures.read c.in_ok-now.ensures
+    (attach_made c.args.name c.args.mime c.in-Ok.bytes _ _ c.args.tables.now c.in_ok-now.now
+    c.in_ok-now.id change c.requires.kept c.in-Ok.ensures.read c.in_ok-now.ensures
     (c.in_ok-change.ensures.change
     ∙ ap (λ (n : ℕ). new_resource c.in_ok-now.id c.args.name c.args.mime n c.in_ok-now.now) c.len.ensures))
-    (saved_then (SaveBlob (record { id = c.in_ok-now.id; bytes = c.in-Ok.bytes }))
-    (g.K.Keeper.state c.args.keeper.now) (g.K.Keeper.state c.read_tables.new.keeper)
-    (g.K.Keeper.state c.save_blob.new.keeper) (g.K.Keeper.state c.commit.new.keeper)
-    (notes c.args.made.now.changes c.args.diary.now.events)
-    (notes c.commit.new.made.changes c.commit.new.diary.events) change
-    (Ok tt) c.in_ok-tables.ensures.1 c.in_ok-save_blob.ensures refl
-    c.in_ok-commit.ensures.acts c.in_ok-commit.ensures.notes)
+    c.in_ok-save_resource.ensures

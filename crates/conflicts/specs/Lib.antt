@@ -1,0 +1,4 @@
+pub mod Rules
+pub mod Reports
+pub mod Errors
+pub mod Remotes

@@ -1,0 +1,26 @@
+use crate::drawn::Source;
+use crate::file::{clear, path};
+use crate::trouble::Trouble;
+use jop_base::Text;
+use record_keeper::MemRecords;
+
+/// Records in memory and in a file, to which the same is drawn.
+#[derive(Drop)]
+pub(crate) struct Work {
+    pub source: Source,
+    pub memory: MemRecords,
+    pub path: Text,
+}
+
+impl Work {
+    pub(crate) fn new(rt: &HostRuntime, seed: u64) -> Result<Work, Trouble> {
+        clear(rt)?;
+        let source = Source::new(rt.alloc(), seed)?;
+        let path = path(rt)?;
+        Ok(Work {
+            source,
+            memory: MemRecords::new(rt.alloc()),
+            path,
+        })
+    }
+}

@@ -1,0 +1,517 @@
+-- What a call comes to that a part of a session makes.
+use Rattle.std.specs.Prelude.{ℕ, ◌+◌, ◌≤◌, ◌≡◌, List, [], ◌∷◌, ◌++◌, length, option_map, All, Bool, true, false, ◌&&◌, ◌||◌, not, if◌then◌else◌, Option, Some, None, Result, Ok, Err, refl}
+use Rattle.std.specs.declared.alloc.AllocError.{AllocError}
+use Rattle.std.proofs.Common.{sym, ap, subst, ◌∙◌, arith, inl, inr, add-zero, append-nil}
+use Rattle.std.proofs.lemmas.Bool.{or_right}
+use Rattle.std.proofs.lemmas.List.{append_assoc, append_cancel_left}
+use Rattle.conflicts.specs.declared.error.StepErr.{StepErr}
+use Rattle.conflicts.specs.declared.report.SyncReport.{SyncReport}
+use Rattle.desk.specs.Desks.{DeskNow, IsSameDesk, IsTidy}
+use Rattle.jop_target.proofs.Runs.{continues_same, has_failed-append}
+use Rattle.jop_target.specs.Replies.{IsCallable, IsReplyTo}
+use Rattle.jop_target.specs.Runs.{Continues, has_failed}
+use Rattle.jop_target.specs.Trail.{EndsWith, IsUnheard, LineNow}
+use Rattle.jop_target.specs.Trail as trails
+use Rattle.jop_base.specs.declared.path.Path.TheVariants.{Info, OldVersion, Item, Blob, Lock, Temp}
+use Rattle.jop_target.specs.declared.call.Call.{Call}
+use Rattle.jop_target.specs.declared.call.Call.TheVariants.{Get}
+use Rattle.jop_target.specs.declared.event.Event.{Event}
+use Rattle.jop_target.specs.declared.event.Event.TheVariants.{Sent, Called}
+use Rattle.jop_target.specs.declared.reply.Reply.{Reply}
+use Rattle.jop_target.specs.declared.reply.Reply.TheVariants.{Failed}
+use Rattle.lease.proofs.Sessions.{goes_answered, goes_leased, goes_on, goes_unheard, session_from-append}
+use Rattle.lease.proofs.Works.{fresh_same, may_work}
+use Rattle.lease.specs.Calls.{GoesOn, IsLeaseCall, IsLeaseEvent, LeaseGoesOn, is_held}
+use Rattle.lease.specs.Discipline.{Session, outside, session_from, session_of}
+use Rattle.lease.specs.Idle.{is_idle_from, is_work, is_working}
+use Rattle.lease.specs.Phase.{role_of}
+use Rattle.lease.specs.Standing.{IsFresh, IsHeld, IsSameBut}
+use Rattle.lease.specs.Work.{HasCalled, HasCalledUnheard, HasWorked, Works}
+use Rattle.lease.specs.declared.error.LeaseErr.{LeaseErr}
+use Rattle.lease.specs.declared.error.LeaseErr.TheVariants.{Busy, Lost, TargetFault, NoMemory}
+use Rattle.lease.specs.declared.lease.Lease.{Lease}
+use Rattle.licences.proofs.Joins.{Each-append, view_from-append}
+use Rattle.licences.proofs.Told.{AreWork-append, calls-view_from, calls_from-append, changes_in-append, events_of-append}
+use Rattle.licences.specs.Deeds.{Deed, Asks, changes_in, events_of}
+use Rattle.licences.specs.Licences.{AreWork, Each, MayCall, MayDo}
+use Rattle.licences.specs.Trails.{calls_from, session_calls}
+use Rattle.licences.specs.Views.{Shown, View, is_about_locks, view_from, with_call}
+use Rattle.local_store.specs.Changing.{after_all}
+use Rattle.local_store.specs.Keepers.{IsOfKept, KeeperNow, Kept}
+use Rattle.local_store.specs.Sound.{IsSound}
+use Rattle.local_store.specs.declared.change.Change.{Change}
+use Rattle.local_store.specs.declared.tables.Tables.{Tables}
+use Rattle.session_steps.proofs.LockDeeds.{AreCalls, AreCalls-append, AreCalls-locks, AreLocks, AreWork-calls, ToldLocks, but_locks-locks, changes_in-calls, obeys-locks, reported-locks, told_locks, view_from-locks, works_by-idle}
+use Rattle.session_steps.proofs.NoFailed.{none_failed}
+use Rattle.session_steps.proofs.Seen.{but_locks-append, reported-append}
+use Rattle.session_steps.proofs.Sorted.{works_by-append}
+use Rattle.session_steps.specs.Asking as steps
+use Rattle.session_steps.specs.Asking.{IsHeardBy, step_of_lease}
+use Rattle.session_steps.specs.Doing.{Does, IsTold, Stops, Went, changed_all}
+use Rattle.session_steps.specs.Parts.{Any, Hears, but_locks}
+use Rattle.session_steps.specs.Reported.{after_call, reported}
+use Rattle.session_steps.specs.Steps.{IsStep, works_by}
+use Rattle.session_steps.specs.Work.{WorkNow, view_of, work}
+
+-- ---- small facts
+
+pub kept-same : (kept : Option Kept) (cs : List Change) → cs ≡ []
+    → kept ≡ option_map (changed_all cs) kept
+unfolding after_all
+kept-same None cs none = refl
+kept-same (Some k) cs none =
+    ap (λ (x : List Change). option_map (changed_all x) (Some k)) (sym none)
+
+-- a step of the lease's own
+pub step_of : (sort : Call → Bool) (client : List ℕ) (e : Event) → IsLeaseEvent client e
+    → IsStep sort client e
+step_of sort client (Sent call) own = inr own
+step_of sort client (Called call reply) own = inr own
+step_of sort client e own = absurd own
+
+-- the same part of a trail
+pub same_more : (old new xs ys : List Event) → new ≡ old ++ xs → new ≡ old ++ ys → xs ≡ ys
+same_more old new xs ys h k = append_cancel_left old xs ys (sym h ∙ k)
+
+-- ---- by calls
+
+-- what is done behind the lease's own calls
+pub record Last (sort : Call → Bool) (client : List ℕ) (old : DeskNow) (mid new : LineNow)
+    (last : List Deed) : Type 0 where
+  pub calls : AreCalls last
+  pub trail : new.trail ≡ mid.trail ++ events_of (length old.made) last
+  pub obeys : (shown : Option Shown) → Each MayDo (view_of shown old) last
+  pub goes : GoesOn (IsStep sort client) client mid new
+  pub sorted : works_by sort client (session_of client mid.trail)
+      (events_of (length old.made) last) ≡ true
+
+pub told_more : (client : List ℕ) (old : DeskNow) (mid : LineNow)
+    → (h : LeaseGoesOn client old.line mid)
+    → ToldLocks client (length old.made) h.line.more
+told_more client old mid h = told_locks client (length old.made) h.line.more h.line.each
+
+-- a session has gone on by calls of its lease, and then by these
+unfoldable pub went_by : (sort : Call → Bool) (old new : DeskNow) (mid : LineNow)
+    (before after : Lease) (r s : SyncReport) (last : List Deed)
+    → IsSameDesk old new → IsSameBut before after
+    → (h : LeaseGoesOn before.client old.line mid)
+    → (locks : ToldLocks before.client (length old.made) h.line.more)
+    → Last sort before.client old mid new.line last
+    → Went sort (work old before r) (work new after s)
+went_by sort old new mid before after r s last same but h locks l =
+    let n = length old.made in
+    let client = before.client in
+    let ds = locks.deeds in
+    let calls = AreCalls-append ds last (AreCalls-locks client ds locks.locks) l.calls in
+    let none : changes_in (ds ++ last) ≡ [] = changes_in-calls (ds ++ last) calls in
+    let nought : changes_in ds ≡ [] =
+    changes_in-calls ds (AreCalls-locks client ds locks.locks) in
+    let count : n + length (changes_in ds) ≡ n =
+    ap (λ (cs : List Change). n + length cs) nought ∙ add-zero n in
+    let both : events_of n (ds ++ last) ≡ events_of n ds ++ events_of n last =
+    events_of-append n ds last
+    (AreWork-calls ds (AreCalls-locks client ds locks.locks))
+    ∙ ap (λ (m : ℕ). events_of n ds ++ events_of m last) count in
+    let first : mid.trail ≡ old.line.trail ++ events_of n ds =
+    h.line.trail ∙ ap (λ (es : List Event). old.line.trail ++ es) (sym locks.told) in
+    let idle : is_idle_from client (session_of client old.line.trail) (events_of n ds) ≡ true =
+    subst (λ (es : List Event).
+    is_idle_from client (session_of client old.line.trail) es ≡ true)
+    (same_more old.line.trail mid.trail h.idle.more (events_of n ds) h.idle.trail first)
+    h.idle.idle in
+    let between : session_of client mid.trail
+    ≡ session_from client (session_of client old.line.trail) (events_of n ds) =
+    ap (session_of client) first
+    ∙ session_from-append client outside old.line.trail (events_of n ds) in
+    record {
+      deeds = ds ++ last;
+      trail =
+          l.trail
+          ∙ (ap (λ (t : List Event). t ++ events_of n last) first
+          ∙ (append_assoc old.line.trail (events_of n ds) (events_of n last)
+          ∙ ap (λ (t : List Event). old.line.trail ++ t) (sym both)));
+      made =
+          same.made
+          ∙ (sym (append-nil old.made) ∙ ap (λ (cs : List Change). old.made ++ cs) (sym none));
+      kept =
+          ap (λ (k : KeeperNow). k.kept) same.keeper ∙ kept-same old.keeper.kept (changes_in (ds ++ last)) none;
+      work = AreWork-calls (ds ++ last) calls;
+      obeys = λ shown.
+          let v = view_of shown old in
+          Each-append MayDo v ds last (obeys-locks client v ds tt locks.locks)
+          (subst (λ (w : View). Each MayDo w last) (sym (view_from-locks client v ds locks.locks))
+          (l.obeys shown));
+      goes = goes_on (IsStep sort client) client old.line mid new.line
+          (goes_leased (IsStep sort client) client old.line mid (step_of sort client) h) l.goes;
+      sorted = subst
+          (λ (es : List Event).
+          works_by sort client (session_of client old.line.trail) es ≡ true)
+          (sym both)
+          (works_by-append sort client (session_of client old.line.trail) (events_of n ds)
+          (events_of n last)
+          (works_by-idle sort client (session_of client old.line.trail) (events_of n ds) idle)
+          (subst (λ (x : Session). works_by sort client x (events_of n last) ≡ true) between
+          l.sorted));
+      later = let e = ap (λ (k : KeeperNow). k.faults) same.keeper in omega (arith, e);
+      same = but;
+    }
+
+-- ---- what is told
+
+tidy-same : (old new : DeskNow) → IsSameDesk old new → IsTidy old → IsTidy new
+tidy-same old new same tidy = record {
+  sound = subst IsSound (sym same.tables) tidy.sound;
+  told = subst (λ (k : KeeperNow). IsOfKept k.kept new.tables) (sym same.keeper)
+      (subst (λ (t : Tables). IsOfKept old.keeper.kept t) (sym same.tables) tidy.told);
+}
+
+pub tables-same : (t : Tables) (cs : List Change) → cs ≡ [] → t ≡ after_all t cs
+unfolding after_all
+tables-same t cs none = ap (λ (x : List Change). after_all t x) (sym none)
+
+reported_last : (client : List ℕ) (v : View) (r : SyncReport) (ds last : List Deed)
+    → (locks : AreLocks client ds) → reported v r (ds ++ last) ≡ reported v r last
+reported_last client v r ds last locks =
+    reported-append v r ds last
+    ∙ (ap (λ (w : View). reported w (reported v r ds) last) (view_from-locks client v ds locks)
+    ∙ ap (λ (x : SyncReport). reported v x last) (reported-locks client v r ds locks))
+
+-- behind calls tables are as they were, and the report notes what was heard
+pub told_by : (sort : Call → Bool) (old new : DeskNow) (mid : LineNow) (before after : Lease)
+    (r s : SyncReport) (last : List Deed)
+    → (same : IsSameDesk old new) → (but : IsSameBut before after)
+    → (h : LeaseGoesOn before.client old.line mid)
+    → (locks : ToldLocks before.client (length old.made) h.line.more)
+    → (l : Last sort before.client old mid new.line last)
+    → IsTidy old → ((shown : Option Shown) → s ≡ reported (view_of shown old) r last)
+    → IsTold (work old before r) (work new after s)
+    (went_by sort old new mid before after r s last same but h locks l).deeds
+unfolding went_by
+told_by sort old new mid before after r s last same but h locks l tidy noted =
+    let ds = locks.deeds in
+    let client = before.client in
+    let calls = AreCalls-append ds last (AreCalls-locks client ds locks.locks) l.calls in
+    record {
+      tidy = tidy-same old new same tidy;
+      tables =
+          same.tables
+          ∙ tables-same old.tables (changes_in (ds ++ last)) (changes_in-calls (ds ++ last) calls);
+      report = λ shown.
+          noted shown
+          ∙ sym (reported_last client (view_of shown old) r ds last locks.locks);
+    }
+
+-- ---- the lease's calls alone
+
+no_more : (sort : Call → Bool) (client : List ℕ) (old : DeskNow) (mid : LineNow)
+    → LeaseGoesOn client old.line mid → Last sort client old mid mid []
+unfolding AreCalls events_of Each works_by
+no_more sort client old mid h = record {
+  calls = tt;
+  trail = sym (append-nil mid.trail);
+  obeys = λ shown. tt;
+  goes = record {
+    running = h.running;
+    lawful = h.lawful;
+    line = continues_same (IsStep sort client) mid;
+  };
+  sorted = refl;
+}
+
+pub went_leased : (sort : Call → Bool) (old new : DeskNow) (before after : Lease)
+    (r s : SyncReport) → IsSameDesk old new → IsSameBut before after
+    → LeaseGoesOn before.client old.line new.line
+    → Went sort (work old before r) (work new after s)
+went_leased sort old new before after r s same but h =
+    went_by sort old new new.line before after r s [] same but h
+    (told_more before.client old new.line h) (no_more sort before.client old new.line h)
+
+pub stops_leased : (sort : Call → Bool) (old new : DeskNow) (before after : Lease)
+    (r : SyncReport) → IsSameDesk old new → IsSameBut before after
+    → LeaseGoesOn before.client old.line new.line → IsTidy old
+    → Stops sort (work old before r) (work new after r)
+unfolding reported
+stops_leased sort old new before after r same but h tidy =
+    let locks = told_more before.client old new.line h in
+    let last = no_more sort before.client old new.line h in
+    record {
+      went = went_by sort old new new.line before after r r [] same but h locks last;
+      told = told_by sort old new new.line before after r r [] same but h locks last tidy
+          (λ shown. refl);
+    }
+
+-- ---- the call
+
+worked : (a b : Bool) → b ≡ true → ((a || b) && true) ≡ true
+worked true b h = refl
+worked false b h = ap (λ (x : Bool). x && true) h
+
+-- the lease as it is renewed
+abbrev renewed : Lease → Lease → Lease
+renewed before after = record before { stamp = after.stamp }
+
+pub answered_last : (sort : Call → Bool) (old : DeskNow) (mid new : LineNow)
+    (before after : Lease) (call : Call) (blob bytes : List ℕ) (reply : Reply)
+    → IsSameBut before after → IsFresh after mid.trail
+    → is_working (role_of before.client call) ≡ true → IsCallable call blob
+    → ((shown : Option Shown) → MayCall (view_of shown old) call) → sort call ≡ true
+    → trails.IsAnswered mid call blob new bytes reply
+    → Last sort before.client old mid new (Asks call (Some reply) ∷ [])
+unfolding AreCalls events_of Each works_by
+answered_last sort old mid new before after call blob bytes reply but fresh working callable may
+    sorted h =
+    let client = before.client in
+    let now = renewed before after in
+    let leased = may_work now mid.trail call (fresh_same before after mid.trail but fresh) working in
+    record {
+      calls = tt;
+      trail = h.trail;
+      obeys = λ shown. ((tt, may shown), tt);
+      goes = goes_answered (IsStep sort client) client mid new call blob bytes reply leased
+          callable (inl sorted) h;
+      sorted = worked
+          (not (is_work (session_of client mid.trail).phase (role_of client call)))
+          (sort call) sorted;
+    }
+
+-- ---- the reply
+
+last_of : List Event → Option Event
+last_of [] = None
+last_of (e ∷ []) = Some e
+last_of (e ∷ f ∷ es) = last_of (f ∷ es)
+
+last_of-push : (es : List Event) (e : Event) → last_of (es ++ e ∷ []) ≡ Some e
+unfolding last_of
+last_of-push [] e = refl
+last_of-push (f ∷ []) e = refl
+last_of-push (f ∷ g ∷ es) e = last_of-push (g ∷ es) e
+
+-- a trail ends in one call, with one reply
+pub one_reply : (trail : List Event) (call other : Call) (reply answer : Reply)
+    → EndsWith trail call reply → EndsWith trail other answer → reply ≡ answer
+one_reply trail call other reply answer h k =
+    let one : last_of trail ≡ Some (Called call reply) =
+    ap last_of h.1 ∙ last_of-push h.0 (Called call reply) in
+    let two : last_of trail ≡ Some (Called other answer) =
+    ap last_of k.1 ∙ last_of-push k.0 (Called other answer) in
+    cc
+
+-- calls about locks are not remembered
+pub calls_locks : (client : List ℕ) (old : DeskNow) (mid : LineNow)
+    → LeaseGoesOn client old.line mid
+    → session_calls mid.trail ≡ session_calls old.line.trail
+calls_locks client old mid h =
+    let n = length old.made in
+    let locks = told_more client old mid h in
+    let v = view_of None old in
+    let events : mid.trail ≡ old.line.trail ++ events_of n locks.deeds =
+    h.line.trail ∙ ap (λ (es : List Event). old.line.trail ++ es) (sym locks.told) in
+    ap session_calls events
+    ∙ (calls_from-append [] old.line.trail (events_of n locks.deeds)
+    ∙ (sym (calls-view_from n v locks.deeds
+    (AreWork-calls locks.deeds (AreCalls-locks client locks.deeds locks.locks)))
+    ∙ ap (λ (w : View). w.calls) (view_from-locks client v locks.deeds locks.locks)))
+
+-- it is remembered
+pub calls_answered : (client : List ℕ) (old : DeskNow) (mid new : LineNow) (call : Call)
+    (reply : Reply)
+    → LeaseGoesOn client old.line mid → new.trail ≡ mid.trail ++ Called call reply ∷ []
+    → session_calls new.trail ≡ with_call call (Some reply) (session_calls old.line.trail)
+unfolding calls_from
+calls_answered client old mid new call reply h trail =
+    ap session_calls trail
+    ∙ (calls_from-append [] mid.trail (Called call reply ∷ [])
+    ∙ ap (with_call call (Some reply)) (calls_locks client old mid h))
+
+-- ---- each answer
+
+but_locks_one : (about : Bool) (call : Call) (reply : Reply) → about ≡ false
+    → (if about then [] else Asks call (Some reply) ∷ []) ≡ Asks call (Some reply) ∷ []
+but_locks_one true call reply h = absurd cc
+but_locks_one false call reply h = refl
+
+only_last : (client : List ℕ) (ds : List Deed) (call : Call) (reply : Reply)
+    → AreLocks client ds → is_about_locks call ≡ false
+    → but_locks (ds ++ Asks call (Some reply) ∷ []) ≡ Asks call (Some reply) ∷ []
+unfolding but_locks
+only_last client ds call reply locks about =
+    but_locks-append ds (Asks call (Some reply) ∷ [])
+    ∙ (ap (λ (x : List Deed). x ++ but_locks (Asks call (Some reply) ∷ []))
+    (but_locks-locks client ds locks)
+    ∙ but_locks_one (is_about_locks call) call reply about)
+
+-- while the lease is held nothing has failed
+none-failed : (old new : LineNow) (lease : Lease) (n : ℕ) (ds : List Deed) → AreCalls ds
+    → IsHeld lease new.trail → new.trail ≡ old.trail ++ events_of n ds
+    → has_failed (events_of n ds) ≡ false
+none-failed old new lease n ds calls held trail =
+    let client = lease.client in
+    let whole : session_of client new.trail
+    ≡ session_from client (session_of client old.trail) (events_of n ds) =
+    ap (session_of client) trail
+    ∙ session_from-append client outside old.trail (events_of n ds) in
+    none_failed client (session_of client old.trail) n ds calls
+    (ap (λ (s : Session). is_held s.phase) (sym whole) ∙ ap is_held held.stands.phase)
+
+pub asked_ok : (sort : Call → Bool) (old new : DeskNow) (before after : Lease) (call : Call)
+    (blob bytes : List ℕ)
+    → IsSameDesk old new → IsSameBut before after → IsTidy old
+    → is_working (role_of before.client call) ≡ true → is_about_locks call ≡ false
+    → IsCallable call blob → ((shown : Option Shown) → MayCall (view_of shown old) call)
+    → sort call ≡ true → HasWorked before after call blob old.line new.line bytes
+    → IsHeardBy sort call old before new after
+unfolding went_by reported view_from
+asked_ok sort old new before after call blob bytes same but tidy working about callable may sorted
+    h reply r s ends noted =
+    let client = before.client in
+    let mid = h.called.mid in
+    let ready = h.called.ready in
+    let told : h.reply ≡ reply =
+    one_reply new.line.trail call call h.reply reply (mid.trail, h.called.answered.trail) ends in
+    let answered = subst (λ (x : Reply). trails.IsAnswered mid call blob new.line bytes x) told
+    h.called.answered in
+    let locks = told_more client old mid ready.goes in
+    let l = answered_last sort old mid new.line before after call blob bytes reply but ready.fresh
+    working callable may sorted answered in
+    let went = went_by sort old new mid before after r s (Asks call (Some reply) ∷ []) same but
+    ready.goes locks l in
+    record {
+      went = went;
+      told = told_by sort old new mid before after r s (Asks call (Some reply) ∷ []) same but
+          ready.goes locks l tidy noted;
+      part = λ shown. only_last client locks.deeds call reply locks.locks about;
+      unfinished = λ shown.
+          let v = view_of shown old in
+          ap (λ (w : View). w.stage)
+          (view_from-append v locks.deeds (Asks call (Some reply) ∷ [])
+          ∙ ap (λ (w : View). view_from w (Asks call (Some reply) ∷ []))
+          (view_from-locks client v locks.deeds locks.locks));
+      heard =
+          let last : List Deed = Asks call (Some reply) ∷ [] in
+          none-failed old.line new.line after (length old.made) (locks.deeds ++ last)
+          (AreCalls-append locks.deeds last (AreCalls-locks client locks.deeds locks.locks) l.calls)
+          h.held went.trail;
+      well = ap (λ (k : KeeperNow). k.faults) same.keeper;
+      ready = record { tidy = tidy-same old new same tidy; held = h.held };
+    }
+
+pub is_answered : (old new : DeskNow) (before after : Lease) (call : Call) (blob bytes : List ℕ)
+    → HasWorked before after call blob old.line new.line bytes
+    → steps.IsAnswered call old new
+is_answered old new before after call blob bytes h = record {
+  reply = h.reply;
+  ends = (h.called.mid.trail, h.called.answered.trail);
+  shape = h.called.answered.shape;
+  heard = h.heard;
+  calls = calls_answered before.client old h.called.mid new.line call h.reply h.called.ready.goes
+      h.called.answered.trail;
+}
+
+-- ---- why it gave nothing
+
+silent_failed : (v : View) (r : SyncReport) (call : Call) → after_call v r call (Some Failed) ≡ r
+silent_failed v r (Get Info) = refl
+silent_failed v r (Get OldVersion) = refl
+silent_failed v r (Get (Item id)) = refl
+silent_failed v r (Get (Blob id)) = refl
+silent_failed v r (Get (Lock name)) = refl
+silent_failed v r (Get (Temp id)) = refl
+silent_failed v r call = refl
+
+-- the call was answered `Failed`
+pub stops_failed : (sort : Call → Bool) (old new : DeskNow) (before after : Lease) (call : Call)
+    (blob bytes : List ℕ) (r : SyncReport)
+    → IsSameDesk old new → IsSameBut before after → IsTidy old
+    → is_working (role_of before.client call) ≡ true
+    → IsCallable call blob → ((shown : Option Shown) → MayCall (view_of shown old) call)
+    → sort call ≡ true → HasCalled before after call blob old.line new.line bytes Failed
+    → Stops sort (work old before r) (work new after r)
+unfolding reported
+stops_failed sort old new before after call blob bytes r same but tidy working callable may sorted
+    h =
+    let client = before.client in
+    let locks = told_more client old h.mid h.ready.goes in
+    let l = answered_last sort old h.mid new.line before after call blob bytes Failed but
+    h.ready.fresh working callable may sorted h.answered in
+    record {
+      went = went_by sort old new h.mid before after r r (Asks call (Some Failed) ∷ []) same but
+          h.ready.goes locks l;
+      told = told_by sort old new h.mid before after r r (Asks call (Some Failed) ∷ []) same but
+          h.ready.goes locks l tidy (λ shown. sym (silent_failed (view_of shown old) r call));
+    }
+
+-- the call wasn't made, or its reply wasn't heard
+pub went_unheard : (sort : Call → Bool) (old new : DeskNow) (before after : Lease) (call : Call)
+    (blob bytes : List ℕ) (r : SyncReport)
+    → IsSameDesk old new → IsSameBut before after
+    → is_working (role_of before.client call) ≡ true
+    → IsCallable call blob → ((shown : Option Shown) → MayCall (view_of shown old) call)
+    → sort call ≡ true → HasCalledUnheard before after call blob old.line new.line bytes
+    → Went sort (work old before r) (work new after r)
+unfolding AreCalls events_of Each works_by
+went_unheard sort old new before after call blob bytes r same but working callable may sorted h =
+    let client = before.client in
+    let goes = h.ready.goes in
+    let locks = told_more client old h.mid goes in
+    elim h.unheard [
+      | inl none ↦
+          went_leased sort old new before after r r same but
+          (subst (λ (x : LineNow). LeaseGoesOn client old.line x) (sym none.0) goes)
+      | inr sent ↦
+          let now = renewed before after in
+          let leased = may_work now h.mid.trail call
+          (fresh_same before after h.mid.trail but h.ready.fresh) working in
+          went_by sort old new h.mid before after r r (Asks call None ∷ []) same but goes locks
+          (record {
+            calls = tt;
+            trail = sent.trail;
+            obeys = λ shown. ((tt, may shown), tt);
+            goes = goes_unheard (IsStep sort client) client h.mid new.line call blob bytes h.error
+                leased callable (inl sorted) (inr sent);
+            sorted = worked
+                (not (is_work (session_of client h.mid.trail).phase (role_of client call)))
+                (sort call) sorted;
+          })
+    ]
+
+-- each answer of the call
+pub asks_err : (sort : Call → Bool) (old new : DeskNow) (before after : Lease) (call : Call)
+    (blob bytes : List ℕ) (e : LeaseErr)
+    → IsSameDesk old new → IsSameBut before after → IsTidy old
+    → is_working (role_of before.client call) ≡ true
+    → IsCallable call blob → ((shown : Option Shown) → MayCall (view_of shown old) call)
+    → sort call ≡ true → Works before after call blob old.line new.line bytes (Err e)
+    → steps.Asks sort call old before (Err (step_of_lease e)) new after
+asks_err sort old new before after call blob bytes (Lost seen) same but tidy working callable may
+    sorted h r =
+    (stops_leased sort old new before after r same but h.0 tidy, (before.stamp, h.1))
+asks_err sort old new before after call blob bytes TargetFault same but tidy working callable may
+    sorted h r = (
+      elim h.1 [
+        | inl goes ↦ stops_leased sort old new before after r same but goes tidy
+        | inr called ↦
+            stops_failed sort old new before after call blob bytes r same but tidy working callable
+            may sorted called
+      ],
+      h.0,
+    )
+asks_err sort old new before after call blob bytes NoMemory same but tidy working callable may
+    sorted h r =
+    elim h.1 [
+      | inl goes ↦ went_leased sort old new before after r r same but goes
+      | inr called ↦
+          went_unheard sort old new before after call blob bytes r same but working callable may
+          sorted called
+    ]
+asks_err sort old new before after call blob bytes (Busy lock now) same but tidy working callable
+    may sorted h r = absurd h
+
+-- the same line, by another name
+pub works_at : (before after : Lease) (call : Call) (blob bytes : List ℕ) (old new s t : LineNow)
+    (result : Result (Unit {0}) LeaseErr) → old ≡ s → new ≡ t
+    → Works before after call blob s t bytes result
+    → Works before after call blob old new bytes result
+works_at before after call blob bytes old new s t result o n h =
+    subst (λ (x : LineNow). Works before after call blob x new bytes result) (sym o)
+    (subst (λ (x : LineNow). Works before after call blob s x bytes result) (sym n) h)

@@ -1,0 +1,216 @@
+-- What a change comes to that a part of a session makes.
+use Rattle.std.specs.Prelude.{ℕ, ◌≤◌, ◌≡◌, ◌⊎◌, List, [], ◌∷◌, ◌++◌, length, option_map, Bool, true, false, Option, Some, None, Result, Ok, Err, refl}
+use Rattle.std.proofs.Common.{sym, ap, subst, ◌∙◌, arith, append-nil, inl, inr}
+use Rattle.std.proofs.lemmas.List.Elements.{All-cons, All-nil}
+use Rattle.conflicts.specs.Reports.{counted}
+use Rattle.conflicts.specs.declared.report.SyncReport.{SyncReport}
+use Rattle.desk.specs.Desks.{DeskNow, IsChanged, IsMade, IsTidy, IsUnmade}
+use Rattle.jop_base.specs.Outside.{HasRisen}
+use Rattle.jop_target.proofs.Runs.{continues_same}
+use Rattle.jop_target.specs.Replies.{TargetNow}
+use Rattle.jop_target.specs.Runs.{Continues, LeadsTo, TellsRun, has_failed}
+use Rattle.jop_target.specs.Store.{Store}
+use Rattle.jop_target.specs.Trail.{LineNow}
+use Rattle.jop_target.specs.declared.call.Call.{Call}
+use Rattle.jop_target.specs.declared.event.Event.{Event}
+use Rattle.jop_target.specs.declared.event.Event.TheVariants.{Made}
+use Rattle.lease.proofs.Sessions.{session_from-last}
+use Rattle.lease.specs.Calls.{GoesOn}
+use Rattle.lease.specs.Discipline.{Session, outside, session_from, session_of}
+use Rattle.lease.specs.Standing.{IsHeld, StandsIn}
+use Rattle.lease.specs.declared.lease.Lease.{Lease}
+use Rattle.licences.proofs.Told.{calls_from-append}
+use Rattle.licences.specs.Deeds.{Deed, Makes, changes_in, events_of}
+use Rattle.licences.specs.Licences.{AreWork, Each, MayChange}
+use Rattle.licences.specs.Trails.{calls_from, session_calls}
+use Rattle.licences.specs.Views.{Shown, Working, stage_after, view_from}
+use Rattle.local_store.specs.Changing.{after, after_all}
+use Rattle.local_store.specs.Keepers.{KeeperNow, Kept, IsOfKept, changed}
+use Rattle.local_store.specs.Sound.{IsAllowed, IsSound}
+use Rattle.local_store.specs.declared.change.Change.{Change}
+use Rattle.local_store.specs.declared.tables.Tables.{Tables}
+use Rattle.session_steps.proofs.Asked.{kept-same, tables-same}
+use Rattle.session_steps.specs.Doing.{Does, Ends, IsTold, KeeperFails, Stops, Went, changed_all}
+use Rattle.session_steps.specs.Parts.{Any, Changes, but_locks}
+use Rattle.session_steps.specs.Reported.{reported}
+use Rattle.session_steps.specs.Steps.{IsStep, works_by}
+use Rattle.session_steps.specs.Work.{WorkNow, view_of, work}
+
+-- ---- the line
+
+pub store_made : (n : ℕ) (o : Option Store) → TellsRun o (Made n ∷ []) o
+unfolding LeadsTo
+store_made n None = refl
+store_made n (Some s) = (s, refl, refl)
+
+pub continues_made : (sort : Call → Bool) (client : List ℕ) (old new : LineNow) (n : ℕ)
+    → new ≡ record old { trail = old.trail ++ Made n ∷ [] }
+    → Continues (IsStep sort client) old new
+unfolding has_failed
+continues_made sort client old new n is =
+    let target : new.target ≡ old.target = ap (λ (l : LineNow). l.target) is in
+    let faults : new.target.faults ≡ old.target.faults =
+    ap (λ (t : TargetNow). t.faults) target in
+    record {
+      more = Made n ∷ [];
+      trail = ap (λ (l : LineNow). l.trail) is;
+      each = All-cons (IsStep sort client) (Made n) [] tt (All-nil (IsStep sort client));
+      later = omega (arith, faults);
+      fault = λ failed. absurd cc;
+      stays = λ none. faults;
+      store = subst (λ (t : TargetNow). TellsRun old.target.store (Made n ∷ []) t.store)
+          (sym target) (store_made n old.target.store);
+    }
+
+session_made : (client : List ℕ) (old new : List Event) (n : ℕ) → new ≡ old ++ Made n ∷ []
+    → session_of client new ≡ session_of client old
+session_made client old new n is =
+    ap (session_of client) is ∙ session_from-last client outside old (Made n)
+
+pub held_made : (lease : Lease) (old new : List Event) (n : ℕ) → new ≡ old ++ Made n ∷ []
+    → IsHeld lease old → IsHeld lease new
+held_made lease old new n is held =
+    let same = session_made lease.client old new n is in
+    record {
+      in_time = held.in_time;
+      stands = record {
+        running = ap (λ (s : Session). s.running) same ∙ held.stands.running;
+        lawful = ap (λ (s : Session). s.lawful) same ∙ held.stands.lawful;
+        phase = ap (λ (s : Session). s.phase) same ∙ held.stands.phase;
+      };
+    }
+
+pub calls_made : (old new : List Event) (n : ℕ) → new ≡ old ++ Made n ∷ []
+    → session_calls new ≡ session_calls old
+unfolding calls_from
+calls_made old new n is = ap session_calls is ∙ calls_from-append [] old (Made n ∷ [])
+
+-- ---- the change was made
+
+pub kept_changed : (kept : Option Kept) (change : Change)
+    → option_map (changed change) kept ≡ option_map (changed_all (change ∷ [])) kept
+unfolding after_all
+kept_changed None change = refl
+kept_changed (Some k) change = refl
+
+unfoldable pub went_made : (sort : Call → Bool) (old new : DeskNow) (lease : Lease)
+    (r s : SyncReport) (change : Change)
+    → IsMade change old new → old.keeper.faults ≤ new.keeper.faults → IsAllowed change
+    → ((shown : Option Shown) → MayChange (view_of shown old) change)
+    → IsHeld lease old.line.trail
+    → Went sort (work old lease r) (work new lease s)
+unfolding events_of changes_in AreWork Each works_by
+went_made sort old new lease r s change made later allowed may held =
+    let n = length old.made in
+    let trail : new.line.trail ≡ old.line.trail ++ Made n ∷ [] =
+    ap (λ (l : LineNow). l.trail) made.line in
+    let now = held_made lease old.line.trail new.line.trail n trail held in
+    record {
+      deeds = Makes change ∷ [];
+      trail = trail;
+      made = made.made;
+      kept = made.kept ∙ kept_changed old.keeper.kept change;
+      work = (allowed, tt);
+      obeys = λ shown. (may shown, tt);
+      goes = record {
+        running = now.stands.running;
+        lawful = now.stands.lawful;
+        line = continues_made sort lease.client old.line new.line n made.line;
+      };
+      sorted = refl;
+      later = later;
+      same = refl;
+    }
+
+pub does_made : (sort : Call → Bool) (old new : DeskNow) (lease : Lease) (r s : SyncReport)
+    (change : Change)
+    → IsChanged change old new → new.keeper.faults ≡ old.keeper.faults → IsAllowed change
+    → ((shown : Option Shown) → MayChange (view_of shown old) change)
+    → stage_after Working change ≡ Working → s ≡ counted r change
+    → IsHeld lease old.line.trail
+    → Does (Changes change) sort (work old lease r) (work new lease s)
+unfolding went_made events_of changes_in after_all reported but_locks view_from has_failed
+does_made sort old new lease r s change h well allowed may more count held =
+    let n = length old.made in
+    let trail : new.line.trail ≡ old.line.trail ++ Made n ∷ [] =
+    ap (λ (l : LineNow). l.trail) h.made.line in
+    record {
+      went = went_made sort old new lease r s change h.made (omega (arith, well)) allowed may held;
+      told = record { tidy = h.tidy; tables = h.tables; report = λ shown. count };
+      part = λ shown. refl;
+      unfinished = λ shown. more;
+      heard = refl;
+      well = well;
+      ready = record {
+        tidy = h.tidy;
+        held = held_made lease old.line.trail new.line.trail n trail held;
+      };
+    }
+
+-- ---- it wasn't
+
+unfoldable pub went_nowhere : (sort : Call → Bool) (old new : DeskNow) (lease : Lease)
+    (r s : SyncReport)
+    → IsUnmade old new → old.keeper.faults ≤ new.keeper.faults → IsHeld lease old.line.trail
+    → Went sort (work old lease r) (work new lease s)
+unfolding events_of changes_in AreWork Each works_by
+went_nowhere sort old new lease r s h later held =
+    let trail : new.line.trail ≡ old.line.trail = ap (λ (l : LineNow). l.trail) h.line in
+    let now = subst (λ (t : List Event). IsHeld lease t) (sym trail) held in
+    record {
+      deeds = [];
+      trail = trail ∙ sym (append-nil old.line.trail);
+      made = h.made ∙ sym (append-nil old.made);
+      kept = h.kept ∙ kept-same old.keeper.kept [] refl;
+      work = tt;
+      obeys = λ shown. tt;
+      goes = record {
+        running = now.stands.running;
+        lawful = now.stands.lawful;
+        line = subst (λ (l : LineNow). Continues (IsStep sort lease.client) old.line l) (sym h.line)
+            (continues_same (IsStep sort lease.client) old.line);
+      };
+      sorted = refl;
+      later = later;
+      same = refl;
+    }
+
+tidy_unmade : (old new : DeskNow) → IsUnmade old new → IsTidy old → IsTidy new
+tidy_unmade old new h tidy = record {
+  sound = subst IsSound (sym h.tables) tidy.sound;
+  told = subst (λ (k : Option Kept). IsOfKept k new.tables) (sym h.kept)
+      (subst (λ (t : Tables). IsOfKept old.keeper.kept t) (sym h.tables) tidy.told);
+}
+
+pub fails_unmade : (sort : Call → Bool) (old new : DeskNow) (lease : Lease) (r : SyncReport)
+    → IsUnmade old new → HasRisen old.keeper.faults new.keeper.faults
+    → old.keeper.faults ≤ new.keeper.faults → IsTidy old → IsHeld lease old.line.trail
+    → KeeperFails sort (work old lease r) (work new lease r)
+unfolding went_nowhere changes_in reported
+fails_unmade sort old new lease r h rose later tidy held =
+    let trail : new.line.trail ≡ old.line.trail = ap (λ (l : LineNow). l.trail) h.line in
+    record {
+      stops = record {
+        went = went_nowhere sort old new lease r r h later held;
+        told = record {
+          tidy = tidy_unmade old new h tidy;
+          tables = h.tables ∙ tables-same old.tables [] refl;
+          report = λ shown. refl;
+        };
+      };
+      ready = record {
+        tidy = tidy_unmade old new h tidy;
+        held = subst (λ (t : List Event). IsHeld lease t) (sym trail) held;
+      };
+      rose = rose;
+    }
+
+pub went_either : (sort : Call → Bool) (old new : DeskNow) (lease : Lease) (r : SyncReport)
+    (change : Change)
+    → IsUnmade old new ⊎ IsMade change old new → old.keeper.faults ≤ new.keeper.faults
+    → IsAllowed change → ((shown : Option Shown) → MayChange (view_of shown old) change)
+    → IsHeld lease old.line.trail → Went sort (work old lease r) (work new lease r)
+went_either sort old new lease r change h later allowed may held = elim h [
+  | inl none ↦ went_nowhere sort old new lease r r none later held
+  | inr made ↦ went_made sort old new lease r r change made later allowed may held
+]

@@ -1,0 +1,140 @@
+-- How a part of a session comes to an end behind another one.
+use Rattle.std.specs.Prelude.{ℕ, ◌≤◌, ◌≡◌, List, [], Bool, Option, Result, Ok, Err, refl}
+use Rattle.std.proofs.Common.{sym, ap, subst, arith, append-nil}
+use Rattle.conflicts.specs.declared.error.StepErr.{StepErr}
+use Rattle.conflicts.specs.declared.report.SyncReport.{SyncReport}
+use Rattle.desk.specs.Desks.{DeskNow}
+use Rattle.conflicts.specs.declared.error.StepErr.TheVariants.{Lost, TargetFault, KeeperFault, FailSafe, NoMemory}
+use Rattle.jop_base.specs.Outside.{HasRisen}
+use Rattle.jop_target.proofs.Runs.{continues_same}
+use Rattle.jop_target.specs.Runs.{has_failed}
+use Rattle.jop_target.specs.declared.call.Call.{Call}
+use Rattle.jop_target.specs.Trail.{LineNow}
+use Rattle.lease.specs.Calls.{EndsFailed, Fails}
+use Rattle.lease.specs.Standing.{IsSameBut}
+use Rattle.lease.specs.declared.error.Seen.{Seen}
+use Rattle.lease.specs.declared.lease.Lease.{Lease}
+use Rattle.licences.specs.Deeds.{Deed, changes_in, events_of}
+use Rattle.licences.specs.Licences.{AreWork, Each}
+use Rattle.licences.specs.Views.{Shown, view_from}
+use Rattle.local_store.specs.Changing.{after_all}
+use Rattle.session_steps.proofs.Joins.{client_is, does_then, told_on, went_on}
+use Rattle.session_steps.specs.Doing.{Does, Ends, GivesUp, HasLapsed, Stops, Went}
+use Rattle.session_steps.proofs.Asked.{kept-same}
+use Rattle.session_steps.specs.Parts.{Nothing, Part, Then, but_locks}
+use Rattle.session_steps.specs.Reported.{reported}
+use Rattle.session_steps.specs.Steps.{IsStep, works_by}
+use Rattle.session_steps.specs.Work.{IsReady, WorkNow, view_of, work}
+
+stops_on : (P : Part) (sort : Call → Bool) (a b c : WorkNow) → Does P sort a b
+    → Stops sort b c → Stops sort a c
+stops_on P sort a b c h k = record {
+  went = went_on P sort a b c h k.went;
+  told = told_on P sort a b c h k.went k.told;
+}
+
+lapsed_on : (a b : Lease) (c : WorkNow) (seen : Seen) → IsSameBut a b → HasLapsed b c seen
+    → HasLapsed a c seen
+lapsed_on a b c seen same h =
+    let of_a : record a { stamp = b.stamp } ≡ b = sym same in
+    subst (λ (l : Lease). HasLapsed l c seen) (sym of_a) h
+
+fails_on : (client other : List ℕ) (a b c : LineNow) → other ≡ client
+    → a.target.faults ≤ b.target.faults → Fails other b c → Fails client a c
+fails_on client other a b c same later h = record {
+  failed = subst (λ (x : List ℕ). EndsFailed x c.trail) same h.failed;
+  rose = let r = h.rose in omega arith;
+}
+
+-- behind a part that was done
+pub gives_up_behind : (P : Part) (sort : Call → Bool) (a b c : WorkNow) (e : StepErr)
+    → Does P sort a b → GivesUp sort b e c → GivesUp sort a e c
+gives_up_behind P sort a b c (Lost seen) h k =
+    (stops_on P sort a b c h k.0, lapsed_on a.lease b.lease c seen h.went.same k.1)
+gives_up_behind P sort a b c TargetFault h k = (
+  stops_on P sort a b c h k.0,
+  fails_on a.lease.client b.lease.client a.desk.line b.desk.line c.desk.line
+      (client_is a.lease b.lease h.went.same) h.went.goes.line.later k.1,
+)
+gives_up_behind P sort a b c KeeperFault h k = record {
+  stops = stops_on P sort a b c h k.stops;
+  ready = k.ready;
+  rose = let r = k.rose in let w = h.well in omega arith;
+}
+gives_up_behind P sort a b c (FailSafe count) h k = absurd k
+gives_up_behind P sort a b c NoMemory h k = went_on P sort a b c h k
+
+-- the answer of one part and then another, by that of the second
+pub ends_then : {R : Type 0} (P Q : Part) (sort : Call → Bool) (a b c : WorkNow)
+    (result : Result R StepErr) → Does P sort a b → Ends Q sort b result c
+    → Ends (Then P Q) sort a result c
+ends_then P Q sort a b c (Ok value) h k = does_then P Q sort a b c h k
+ends_then P Q sort a b c (Err e) h k = gives_up_behind P sort a b c e h k
+
+-- a part that may be told in other words
+pub does_as : (P Q : Part) (sort : Call → Bool) (a b : WorkNow)
+    → ((shown : Option Shown) (ds : List Deed)
+    → P (view_of shown a.desk) ds → Q (view_of shown a.desk) ds)
+    → Does P sort a b → Does Q sort a b
+does_as P Q sort a b also h = record {
+  went = h.went;
+  told = h.told;
+  part = λ shown. also shown (but_locks h.went.deeds) (h.part shown);
+  unfinished = h.unfinished;
+  heard = h.heard;
+  well = h.well;
+  ready = h.ready;
+}
+
+pub ends_as : {R : Type 0} (P Q : Part) (sort : Call → Bool) (a b : WorkNow)
+    (result : Result R StepErr)
+    → ((shown : Option Shown) (ds : List Deed)
+    → P (view_of shown a.desk) ds → Q (view_of shown a.desk) ds)
+    → Ends P sort a result b → Ends Q sort a result b
+ends_as P Q sort a b (Ok value) also h = does_as P Q sort a b also h
+ends_as P Q sort a b (Err e) also h = h
+
+-- nothing is done
+pub does_nothing : (sort : Call → Bool) (a : WorkNow) → IsReady a.desk a.lease
+    → Does Nothing sort a a
+unfolding events_of changes_in AreWork Each works_by after_all reported but_locks view_from has_failed
+does_nothing sort a ready = record {
+  went = record {
+    deeds = [];
+    trail = sym (append-nil a.desk.line.trail);
+    made = sym (append-nil a.desk.made);
+    kept = kept-same a.desk.keeper.kept [] refl;
+    work = tt;
+    obeys = λ shown. tt;
+    goes = record {
+      running = ready.held.stands.running;
+      lawful = ready.held.stands.lawful;
+      line = continues_same (IsStep sort a.lease.client) a.desk.line;
+    };
+    sorted = refl;
+    later = omega arith;
+    same = refl;
+  };
+  told = record { tidy = ready.tidy; tables = refl; report = λ shown. refl };
+  part = λ shown. refl;
+  unfinished = λ shown. refl;
+  heard = refl;
+  well = refl;
+  ready = ready;
+}
+
+-- what was done is the same, whatever is said of the report
+pub went_report : (sort : Call → Bool) (a : WorkNow) (d : DeskNow) (l : Lease) (r s : SyncReport)
+    → Went sort a (work d l r) → Went sort a (work d l s)
+went_report sort a d l r s h = record {
+  deeds = h.deeds;
+  trail = h.trail;
+  made = h.made;
+  kept = h.kept;
+  work = h.work;
+  obeys = h.obeys;
+  goes = h.goes;
+  sorted = h.sorted;
+  later = h.later;
+  same = h.same;
+}

@@ -1,0 +1,9 @@
+pub mod Sorted
+pub mod Seen
+pub mod Joins
+pub mod LockDeeds
+pub mod NoFailed
+pub mod Asked
+pub mod Committed
+pub mod Ending
+pub mod Repeating

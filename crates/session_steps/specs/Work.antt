@@ -1,0 +1,31 @@
+-- A session at work.
+use Rattle.std.specs.Prelude.{Option}
+use Rattle.conflicts.specs.declared.report.SyncReport.{SyncReport}
+use Rattle.desk.specs.Desks.{DeskNow, IsTidy}
+use Rattle.lease.specs.Standing.{IsHeld}
+use Rattle.lease.specs.declared.lease.Lease.{Lease}
+use Rattle.licences.specs.Trails.{session_calls}
+use Rattle.licences.specs.Views.{Shown, View, Working}
+
+-- the client at its desk, the lease under which it works, and what it has done so far
+pub record WorkNow : Type 0 where
+  pub desk : DeskNow
+  pub lease : Lease
+  pub report : SyncReport
+
+abbrev pub work : DeskNow → Lease → SyncReport → WorkNow
+work desk lease report = record { desk = desk; lease = lease; report = report }
+
+-- its tables are in order, and its trail's last session holds the lease
+pub record IsReady (d : DeskNow) (lease : Lease) : Type 0 where
+  pub tidy : IsTidy d
+  pub held : IsHeld lease d.line.trail
+
+-- what one sees of it, if its session was shown this, and has more to do
+abbrev pub view_of : Option Shown → DeskNow → View
+view_of shown d = record {
+  tables = d.tables;
+  calls = session_calls d.line.trail;
+  shown = shown;
+  stage = Working;
+}

@@ -1,0 +1,41 @@
+use crate::named::NOW;
+use crate::steps::{Step, change};
+use local_changes::StoreErr;
+use local_store::{Keeper, MemKeeper, Tables};
+use std::alloc::Global;
+use std::test::Fail;
+
+/// How many rows, rows that wait to be uploaded, deletions and conflict notes there are.
+fn counts(tables: &Tables) -> [usize; 4] {
+    let rows = tables.rows.as_slice();
+    [
+        rows.len(),
+        rows.iter().filter(|row| row.pending).count(),
+        tables.deletions.len(),
+        tables.conflicts.len(),
+    ]
+}
+
+/// Takes a step. Whether the keeper made its change.
+fn is_made(alloc: Global, keeper: &mut MemKeeper, step: Step) -> Result<bool, StoreErr> {
+    let change = change(alloc, keeper.tables(), step, NOW)?;
+    Ok(keeper.commit(alloc, &change) == Ok(()))
+}
+
+#[test]
+fn a_note_goes_its_way(rt: HostRuntime) -> Result<(), Fail> {
+    let alloc = rt.alloc();
+    let mut keeper = MemKeeper::new(alloc);
+    for (step, left) in [
+        (Step::MakeBook, [1, 1, 0, 0]),
+        (Step::MakeNote, [2, 2, 0, 0]),
+        (Step::Upload, [2, 1, 0, 0]),
+        (Step::Edit, [2, 2, 0, 0]),
+        (Step::Remove, [1, 1, 1, 0]),
+        (Step::Drop, [1, 1, 0, 0]),
+    ] {
+        assert!(rt; is_made(alloc, &mut keeper, step) == Ok(true));
+        assert!(rt; counts(keeper.tables()) == left);
+    }
+    Ok(())
+}

@@ -1,0 +1,10 @@
+pub mod Deleted
+pub mod Checked
+pub mod Loaded
+pub mod Waiting
+pub mod Tending
+pub mod Left
+pub mod Folders
+pub mod Moved
+pub mod Licensed
+pub mod Uploaded

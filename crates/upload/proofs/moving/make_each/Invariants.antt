@@ -1,0 +1,30 @@
+use Rattle.std.proofs.Common.{◌≡◌, Bool, Option, take, drop}
+use Rattle.desk.specs.Desks.{IsTidy}
+use Rattle.jop_target.specs.declared.call.Call.{Call}
+use Rattle.lease.specs.Standing.{IsHeld}
+use Rattle.lease.specs.declared.lease.Lease.{Lease}
+use Rattle.licences.specs.Trails.{session_calls}
+use Rattle.licences.specs.Views.{Shown}
+use Rattle.local_store.specs.Changing.{after_all}
+use Rattle.session_steps.specs.Doing.{Does}
+use Rattle.session_steps.specs.Parts.{Changes, ForEach}
+use Rattle.session_steps.specs.Work.{view_of, work}
+use Rattle.upload.specs.Moving.{MayMakeAll}
+use Rattle.upload.proofs.moving.make_each.Given as goal
+
+-- those before here are made, and those from here on may be
+abbrev pub invariant-loop-index : goal.invariant-loop-index
+invariant-loop-index g l =
+    let then = g.S.Desk.desk l.fn.site in
+    let now = g.S.Desk.desk l.site in
+    record {
+      tidy : IsTidy now;
+      tables : now.tables ≡ after_all then.tables (take l.index l.changes);
+      calls : session_calls now.line.trail ≡ session_calls then.line.trail;
+      held : (lease : Lease) → IsHeld lease then.line.trail → IsHeld lease now.line.trail;
+      may : (shown : Option Shown) → MayMakeAll (view_of shown now) (drop l.index l.changes);
+      does : (sort : Call → Bool) (lease : Lease) → IsHeld lease then.line.trail
+          → Does (ForEach Changes (take l.index l.changes)) sort (work then lease l.fn.report)
+          (work now lease l.report);
+      stays : g.S.Desk.stays l.fn.site l.site;
+    }

@@ -1,0 +1,28 @@
+-- What an upload asks of the client.
+use Rattle.std.specs.Prelude.{ℕ, ◌≡◌, ◌⊎◌, List, [], Bool, true, false, ◌&&◌, is_none, Option, Some, None}
+use Rattle.desk.specs.Desks.{DeskNow}
+use Rattle.licences.specs.Puts.{has_put}
+use Rattle.licences.specs.Trails.{session_calls}
+use Rattle.local_store.specs.Tables.{row_at}
+use Rattle.local_store.specs.declared.row.Row.{Row}
+use Rattle.local_store.specs.declared.tables.Tables.{Tables}
+use Rattle.upload.specs.Uploading.{pending_ids}
+
+-- Files are put as they are, as no key is known here; or none of these is to be put.
+abbrev pub CanPut : Tables → List (List ℕ) → Type 0
+CanPut t ids = (t.info.e2ee.value ≡ false) ⊎ (ids ≡ [])
+
+-- so it is for all rows that wait
+abbrev pub IsReadable : Tables → Type 0
+IsReadable t = CanPut t (pending_ids t)
+
+-- the row waits, and its file was never there
+abbrev pub is_new : Option Row → Bool
+is_new None = false
+is_new (Some r) = r.pending && is_none r.base
+
+-- no file of such a row was put in this session, so the bytes of a resource still come before it
+abbrev pub AreUnput : DeskNow → Type 0
+AreUnput d =
+    (id : List ℕ) → is_new (row_at d.tables id) ≡ true
+    → has_put id (session_calls d.line.trail) ≡ false

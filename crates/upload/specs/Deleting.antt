@@ -1,0 +1,39 @@
+-- The files of items that were removed here are deleted.
+use Rattle.std.specs.Prelude.{Bool, true, false}
+use Rattle.jop_base.specs.declared.path.Path.{Path}
+use Rattle.jop_base.specs.declared.path.Path.TheVariants.{Item, Blob}
+use Rattle.jop_target.specs.declared.call.Call.{Call}
+use Rattle.jop_target.specs.declared.call.Call.TheVariants.{Delete}
+use Rattle.jop_target.specs.declared.reply.Reply.{Reply}
+use Rattle.licences.specs.Deletions.{IsDeleted}
+use Rattle.local_store.specs.declared.change.Change.TheVariants.{Dropped}
+use Rattle.local_store.specs.declared.deletion.Deletion.{Deletion}
+use Rattle.session_steps.specs.Parts.{Changes, ForEach, Hears, Nothing, Part, Then}
+
+-- a delete of an item or of the bytes of a resource
+abbrev pub is_data : Path → Bool
+is_data (Item id) = true
+is_data (Blob id) = true
+is_data path = false
+
+abbrev pub is_deletion : Call → Bool
+is_deletion (Delete path) = is_data path
+is_deletion call = false
+
+-- the file is deleted, or wasn't there
+abbrev pub DeletesFile : Path → Part
+DeletesFile path v ds = (reply : Reply) × IsDeleted reply × Hears (Delete path) reply v ds
+
+-- and the bytes of a resource
+abbrev pub DeletesBytes : Deletion → Bool → Part
+DeletesBytes d true = DeletesFile (Blob d.id)
+DeletesBytes d false = Nothing
+
+-- a deletion is done, and then dropped
+abbrev pub DeletesOne : Deletion → Part
+DeletesOne d =
+    Then (DeletesFile (Item d.id)) (Then (DeletesBytes d d.resource) (Changes (Dropped d.id)))
+
+-- all deletions, in the order of their ids
+abbrev pub Deletes : Part
+Deletes v ds = ForEach DeletesOne v.tables.deletions v ds

@@ -1,0 +1,6 @@
+pub mod Deleting
+pub mod Uploading
+pub mod Settled
+pub mod Conditions
+pub mod Found
+pub mod Moving

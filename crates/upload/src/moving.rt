@@ -1,0 +1,144 @@
+ghost use Rattle.std.specs.Prelude.{◌≡◌, Bool, OnOk, Option, true};
+ghost use Rattle.desk.specs.Desks.{IsTidy};
+ghost use Rattle.jop_target.specs.declared.call.Call.{Call};
+ghost use Rattle.lease.specs.Standing.{IsHeld};
+ghost use Rattle.lease.specs.declared.lease.Lease.{Lease};
+ghost use Rattle.licences.specs.Items.{is_folder};
+ghost use Rattle.licences.specs.Trails.{session_calls};
+ghost use Rattle.licences.specs.Views.{Shown};
+ghost use Rattle.local_store.specs.Changing.{after, after_all};
+ghost use Rattle.local_store.specs.Rows.{item_of};
+ghost use Rattle.session_steps.specs.Doing.{Ends};
+ghost use Rattle.session_steps.specs.Parts.{Changes, ForEach};
+ghost use Rattle.session_steps.specs.Work.{view_of, work};
+ghost use Rattle.session_steps.specs.declared.finding.Finding.TheVariants.{Missing};
+ghost use Rattle.upload.specs.Found.{IsFound};
+ghost use Rattle.upload.specs.Moving.{MayMakeAll, MayMakeNow};
+ghost use Rattle.upload.specs.Uploading.{Clears, ClearsIf};
+
+use conflicts::{StepErr, SyncReport, folder_gone_changes};
+use desk::Desk;
+use item_kinds::Kind;
+use jop_base::Copied;
+use local_store::{Change, Row, has_kind};
+use session_steps::make;
+use std::alloc::Global;
+
+/// Makes a change that stays where it is.
+fn make_copy<S: Desk>(
+    alloc: Global,
+    site: &mut S,
+    report: &mut SyncReport,
+    change: &Change,
+) -> Result<(), StepErr>
+    requires tidy { IsTidy (S.desk site.old) }
+    requires may { (shown : Option Shown)
+        → MayMakeNow (view_of shown (S.desk site.old)) change.now }
+
+    ensures tidy { OnOk result (IsTidy (S.desk site.new)) }
+    ensures tables { OnOk result
+        ((S.desk site.new).tables ≡ after (S.desk site.old).tables change.now) }
+    ensures calls { OnOk result (session_calls (S.desk site.new).line.trail
+        ≡ session_calls (S.desk site.old).line.trail) }
+    ensures held { OnOk result ((lease : Lease) → IsHeld lease (S.desk site.old).line.trail
+        → IsHeld lease (S.desk site.new).line.trail) }
+    ensures makes { (sort : Call → Bool) (lease : Lease)
+        → IsHeld lease (S.desk site.old).line.trail
+        → Ends (Changes change.now) sort (work (S.desk site.old) lease report.old) result
+        (work (S.desk site.new) lease report.new) }
+    ensures stays { S.stays site.old site.new }
+{
+    let copy = change.copy(alloc)?;
+    make(alloc, site, report, copy)?;
+    Ok(())
+}
+
+/// Makes changes one after the other.
+fn make_each<S: Desk>(
+    alloc: Global,
+    site: &mut S,
+    report: &mut SyncReport,
+    changes: &[Change],
+) -> Result<(), StepErr>
+    requires tidy { IsTidy (S.desk site.old) }
+    requires may { (shown : Option Shown)
+        → MayMakeAll (view_of shown (S.desk site.old)) changes.now }
+
+    ensures tidy { OnOk result (IsTidy (S.desk site.new)) }
+    ensures tables { OnOk result
+        ((S.desk site.new).tables ≡ after_all (S.desk site.old).tables changes.now) }
+    ensures calls { OnOk result (session_calls (S.desk site.new).line.trail
+        ≡ session_calls (S.desk site.old).line.trail) }
+    ensures held { OnOk result ((lease : Lease) → IsHeld lease (S.desk site.old).line.trail
+        → IsHeld lease (S.desk site.new).line.trail) }
+    ensures makes { (sort : Call → Bool) (lease : Lease)
+        → IsHeld lease (S.desk site.old).line.trail
+        → Ends (ForEach Changes changes.now) sort
+        (work (S.desk site.old) lease report.old) result
+        (work (S.desk site.new) lease report.new) }
+    ensures stays { S.stays site.old site.new }
+{
+    for index in 0..changes.len() {
+        make_copy(alloc, site, report, &changes[index])?;
+    }
+    Ok(())
+}
+
+/// Moves the notes out of a folder whose file is gone.
+fn move_notes<S: Desk>(
+    alloc: Global,
+    site: &mut S,
+    report: &mut SyncReport,
+    row: &Row,
+) -> Result<(), StepErr>
+    requires tidy { IsTidy (S.desk site.old) }
+    requires found { IsFound row.now Missing (S.desk site.old) }
+    requires folder { is_folder (item_of row.now.content) ≡ true }
+
+    ensures tidy { OnOk result (IsTidy (S.desk site.new)) }
+    ensures found { OnOk result (IsFound row.now Missing (S.desk site.new)) }
+    ensures held { OnOk result ((lease : Lease) → IsHeld lease (S.desk site.old).line.trail
+        → IsHeld lease (S.desk site.new).line.trail) }
+    ensures makes { (sort : Call → Bool) (lease : Lease)
+        → IsHeld lease (S.desk site.old).line.trail
+        → Ends (ClearsIf row.now.id true) sort (work (S.desk site.old) lease report.old) result
+        (work (S.desk site.new) lease report.new) }
+    ensures stays { S.stays site.old site.new }
+{
+    let moves = folder_gone_changes(alloc, site.tables(), &row.id)?;
+    make_each(alloc, site, report, moves.as_slice())?;
+    Ok(())
+}
+
+fn is_folder(row: &Row) -> bool
+    ensures { result ≡ is_folder (item_of row.now.content) }
+{
+    has_kind(row.content.item(), Kind::FOLDER)
+}
+
+/// Moves the notes out of a row whose file is gone, if it is a folder.
+pub(crate) fn clear<S: Desk>(
+    alloc: Global,
+    site: &mut S,
+    report: &mut SyncReport,
+    row: &Row,
+) -> Result<(), StepErr>
+    requires tidy { IsTidy (S.desk site.old) }
+    requires found { IsFound row.now Missing (S.desk site.old) }
+
+    ensures tidy { OnOk result (IsTidy (S.desk site.new)) }
+    ensures found { OnOk result (IsFound row.now Missing (S.desk site.new)) }
+    ensures held { OnOk result ((lease : Lease) → IsHeld lease (S.desk site.old).line.trail
+        → IsHeld lease (S.desk site.new).line.trail) }
+    ensures makes { (sort : Call → Bool) (lease : Lease)
+        → IsHeld lease (S.desk site.old).line.trail
+        → Ends (Clears row.now) sort (work (S.desk site.old) lease report.old) result
+        (work (S.desk site.new) lease report.new) }
+    ensures stays { S.stays site.old site.new }
+{
+    if !is_folder(row) {
+        return Ok(());
+    }
+    move_notes(alloc, site, report, row)?;
+    Ok(())
+}
