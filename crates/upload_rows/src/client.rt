@@ -4,13 +4,14 @@ ghost use Rattle.jop_base.specs.Times.{last_time};
 ghost use Rattle.local_store.specs.Sound.{IsContentOf};
 ghost use Rattle.upload_rows.specs.Begun.{HasBegun};
 
+use crate::broken_off::BrokenOff;
 use conflicts::{SyncReport, content_in};
 use desk::{Desk, Site};
 use item_text::{Item, is_item, write_item};
 use jop_base::{Bytes, Id, LockKind, Path};
 use jop_target::{Content as Whole, Diary, MemTarget, Tree};
 use lease::acquire;
-use local_store::{Change, Changes, Content, MemKeeper, Tables};
+use local_store::{Change, Changes, Content, Keeper, MemKeeper, Tables};
 use std::alloc::{AllocError, Global};
 use std::test::Fail;
 use upload::upload_all;
@@ -18,20 +19,25 @@ use upload::upload_all;
 /// A text of an item, with its id.
 pub(crate) type Text = (&'static str, &'static str);
 
+/// The client that uploads.
+pub(crate) const OWN: &str = "11111111111111111111111111111111";
+
 /// What a client has, and what it has done.
 #[derive(Drop)]
 pub(crate) struct Client {
-    pub tables: Tables,
+    pub keeper: MemKeeper,
     pub report: SyncReport,
 }
 
-impl Client {
-    /// The text of the item of this id, and whether it waits to be uploaded.
-    pub(crate) fn row(&self, alloc: Global, id: &str) -> Result<Option<(Bytes, bool)>, Fail> {
-        match self.tables.rows.at(&id_of(id)?) {
-            Some(row) => Ok(Some((text_of(alloc, row.content.item())?, row.pending))),
-            None => Ok(None),
-        }
+/// The text of the item of this id, and whether it waits to be uploaded.
+pub(crate) fn row_of(
+    alloc: Global,
+    tables: &Tables,
+    id: &str,
+) -> Result<Option<(Bytes, bool)>, Fail> {
+    match tables.rows.at(&id_of(id)?) {
+        Some(row) => Ok(Some((text_of(alloc, row.content.item())?, row.pending))),
+        None => Ok(None),
     }
 }
 
@@ -135,16 +141,52 @@ fn save_each<S: Desk>(alloc: Global, site: &mut S, texts: &[Text]) -> Result<(),
 }
 
 /// Takes a lease in a session that has begun, and uploads.
-fn upload<S: Desk>(alloc: Global, site: &mut S) -> Result<SyncReport, Fail>
+fn upload<S: Desk>(alloc: Global, site: &mut S, client: &Id) -> Result<SyncReport, BrokenOff>
     requires tidy { IsTidy (S.desk site.old) }
     requires begun { HasBegun (S.desk site.old).line.trail }
     requires readable { (S.desk site.old).tables.info.e2ee.value ≡ false }
 {
-    let client = id_of("11111111111111111111111111111111")?;
-    let mut lease = acquire(alloc, site, LockKind::Sync, &client)?;
+    let mut lease = acquire(alloc, site, LockKind::Sync, client)?;
     let mut report = SyncReport::new(alloc);
     upload_all(alloc, site, &mut lease, &mut report)?;
     Ok(report)
+}
+
+/// A keeper of a client that has taken these files, and then saved those items.
+pub(crate) fn prepared(alloc: Global, taken: &[Text], saved: &[Text]) -> Result<MemKeeper, Fail> {
+    let mut keeper = MemKeeper::new(alloc);
+    let mut site = Site {
+        target: &mut MemTarget::new(alloc, 0, 0),
+        keeper: &mut keeper,
+        tables: &mut Tables::new(alloc),
+        diary: &mut Diary::new(alloc),
+        made: &mut Changes::new(alloc),
+    };
+    take_each(alloc, &mut site, taken)?;
+    save_each(alloc, &mut site, saved)?;
+    Ok(keeper)
+}
+
+/// A session that uploads what the keeper has. No item is sealed there.
+pub(crate) fn session(
+    alloc: Global,
+    client: &Id,
+    keeper: &mut MemKeeper,
+    target: &mut MemTarget,
+) -> Result<SyncReport, BrokenOff> {
+    let mut tables = keeper.read(alloc)?;
+    if tables.info.e2ee.value {
+        return Err(BrokenOff::Sealed);
+    }
+    let mut site = Site {
+        target,
+        keeper,
+        tables: &mut tables,
+        diary: &mut Diary::new(alloc),
+        made: &mut Changes::new(alloc),
+    };
+    site.diary.begin()?;
+    upload(alloc, &mut site, client)
 }
 
 /// A client that takes these files, then saves those items, and then uploads.
@@ -154,20 +196,7 @@ pub(crate) fn uploaded(
     saved: &[Text],
     target: &mut MemTarget,
 ) -> Result<Client, Fail> {
-    let mut keeper = MemKeeper::new(alloc);
-    let mut tables = Tables::new(alloc);
-    let mut diary = Diary::new(alloc);
-    let mut made = Changes::new(alloc);
-    let mut site = Site {
-        target,
-        keeper: &mut keeper,
-        tables: &mut tables,
-        diary: &mut diary,
-        made: &mut made,
-    };
-    take_each(alloc, &mut site, taken)?;
-    save_each(alloc, &mut site, saved)?;
-    site.diary.begin()?;
-    let report = upload(alloc, &mut site)?;
-    Ok(Client { tables, report })
+    let mut keeper = prepared(alloc, taken, saved)?;
+    let report = session(alloc, &id_of(OWN)?, &mut keeper, target)?;
+    Ok(Client { keeper, report })
 }

@@ -32,9 +32,9 @@ fn notes_leave_a_folder_that_is_gone(rt: HostRuntime) -> Result<(), Fail> {
     let taken: [Text; 3] = [(A, NOTE_A), (B, NOTE_B), (F, FOLDER)];
     let mut target = target_of(alloc, &[(A, NOTE_A), (B, NOTE_B)])?;
     let client = uploaded(alloc, &taken, &[(F, RENAMED)], &mut target)?;
-    assert_eq!(rt; client.tables.rows.len(), 0);
+    assert_eq!(rt; client.keeper.tables().rows.len(), 0);
     assert_eq!(rt; (client.report.put, client.report.conflicts), (0, 2));
-    assert_eq!(rt; client.tables.conflicts.len(), 2);
+    assert_eq!(rt; client.keeper.tables().conflicts.len(), 2);
     assert_eq!(rt; target.tree().files.len(), 3);
     Ok(())
 }
@@ -46,7 +46,7 @@ fn a_note_is_put_before_it_leaves_its_folder(rt: HostRuntime) -> Result<(), Fail
     let mut target = target_of(alloc, &[(A, NOTE_A)])?;
     let saved: [Text; 2] = [(A, EDITED_A), (F, RENAMED)];
     let client = uploaded(alloc, &taken, &saved, &mut target)?;
-    assert_eq!(rt; client.tables.rows.len(), 0);
+    assert_eq!(rt; client.keeper.tables().rows.len(), 0);
     assert_eq!(rt; (client.report.put, client.report.conflicts), (1, 1));
     Ok(())
 }

@@ -2,6 +2,10 @@
 #![tactic(auto)]
 
 #[cfg(test)]
+mod broken;
+#[cfg(test)]
+mod broken_off;
+#[cfg(test)]
 mod client;
 #[cfg(test)]
 mod folders;

@@ -1,4 +1,4 @@
-use crate::client::{Client, Text, holds, target_of, uploaded};
+use crate::client::{Client, Text, holds, row_of, target_of, uploaded};
 use jop_target::MemTarget;
 use std::alloc::Global;
 use std::test::Fail;
@@ -134,7 +134,7 @@ fn is_as_told(
     target: &MemTarget,
     row: Option<(&'static str, bool)>,
 ) -> Result<bool, Fail> {
-    match (client.row(alloc, A)?, row) {
+    match (row_of(alloc, client.keeper.tables(), A)?, row) {
         (Some((text, waits)), Some((own, waits_still))) => {
             let same = text.as_slice() == own.as_bytes() && waits == waits_still;
             Ok(same && holds(target.tree(), A, own.as_bytes())? != waits)
@@ -159,7 +159,10 @@ fn rows_that_wait_are_put_or_give_way(rt: HostRuntime) -> Result<(), Fail> {
             (case.name, case.conflicts)
         );
         assert_eq!(rt; (case.name, client.report.bad.len()), (case.name, case.bad));
-        assert_eq!(rt; client.tables.conflicts.len() as u64, case.conflicts);
+        assert_eq!(rt;
+            client.keeper.tables().conflicts.len() as u64,
+            case.conflicts
+        );
     }
     Ok(())
 }

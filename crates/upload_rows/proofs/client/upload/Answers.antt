@@ -11,9 +11,9 @@ use Rattle.upload_rows.proofs.client.upload.Goals as goal
 
 pub acquire-requires : goal.acquire-requires
 acquire-requires g c =
-    subst (λ (l : LineNow). StandsIn c.in_ok-client.client l.trail Free)
+    subst (λ (l : LineNow). StandsIn c.args.client.now l.trail Free)
     (g.met.S.Desk.same_line c.args.site.now)
-    (stands_begun c.in_ok-client.client (g.S.Desk.desk c.args.site.now).line.trail c.requires.begun)
+    (stands_begun c.args.client.now (g.S.Desk.desk c.args.site.now).line.trail c.requires.begun)
 
 pub upload_all-requires-clause-ready : goal.upload_all-requires-clause-ready
 upload_all-requires-clause-ready g c = record {
@@ -33,9 +33,9 @@ pub upload_all-requires-clause-first : goal.upload_all-requires-clause-first
 upload_all-requires-clause-first g c =
     let old = g.S.Desk.desk c.args.site.now in
     let new = g.S.Desk.desk c.acquire.new.line in
-    unput_begun c.in_ok-client.client old new c.requires.begun
-    (subst (λ (l : LineNow). LeaseGoesOn c.in_ok-client.client old.line l)
+    unput_begun c.args.client.now old new c.requires.begun
+    (subst (λ (l : LineNow). LeaseGoesOn c.args.client.now old.line l)
     (sym (g.met.S.Desk.same_line c.acquire.new.line))
-    (subst (λ (l : LineNow). LeaseGoesOn c.in_ok-client.client l
+    (subst (λ (l : LineNow). LeaseGoesOn c.args.client.now l
     (g.S.Line.state c.acquire.new.line)) (sym (g.met.S.Desk.same_line c.args.site.now))
     c.acquire.ensures.goes))

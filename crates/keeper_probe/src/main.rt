@@ -1,0 +1,35 @@
+//! `keeper_probe`, for `bench/keeper`: how long a keeper in a file takes.
+//!
+//! - `keeper_probe notes FILE COUNT` saves so many notes of 1 KiB, a change each, and prints the microseconds that the
+//!   changes took.
+//! - `keeper_probe read FILE` prints the microseconds of opening a file, which is made if it isn't there, and of reading
+//!   its tables, and how many rows they have.
+#![tactic(auto)]
+
+mod notes;
+mod timing;
+mod trouble;
+
+use crate::timing::{time_notes, time_reading};
+use crate::trouble::Trouble;
+use std::env;
+
+const USAGE: &str = "usage: keeper_probe notes FILE COUNT | read FILE";
+
+fn main(rt: HostRuntime) -> Result<(), Trouble> {
+    let mut words = env::args(&rt)?.skip(1);
+    let verb = words.next();
+    let file = words.next();
+    let count = words.next();
+    let file = file.as_deref().unwrap_or("");
+    match verb.as_deref() {
+        Some("notes") => time_notes(&rt, file, number(count.as_deref())),
+        Some("read") => time_reading(&rt, file),
+        _ => Ok(println!(rt; "{USAGE}")?),
+    }
+}
+
+/// The number that a word writes, or 0.
+fn number(word: Option<&str>) -> u64 {
+    word.unwrap_or("").parse::<u64>().unwrap_or(0)
+}

@@ -1,0 +1,39 @@
+use local_store::KeeperErr;
+use std::alloc::AllocError;
+use std::io;
+use stored_records::RecordErr;
+
+/// Why nothing was measured.
+#[derive(Clone, Copy, Debug, PartialEq, Eq)]
+pub(crate) enum Trouble {
+    Keeper,
+    /// No note of this kind can be made.
+    Note,
+    /// The words, the clock, or the output.
+    Outside,
+    NoMemory,
+}
+
+impl From<KeeperErr> for Trouble {
+    fn from(_error: KeeperErr) -> Trouble {
+        Trouble::Keeper
+    }
+}
+
+impl From<RecordErr> for Trouble {
+    fn from(_error: RecordErr) -> Trouble {
+        Trouble::Note
+    }
+}
+
+impl From<io::Error> for Trouble {
+    fn from(_error: io::Error) -> Trouble {
+        Trouble::Outside
+    }
+}
+
+impl From<AllocError> for Trouble {
+    fn from(_error: AllocError) -> Trouble {
+        Trouble::NoMemory
+    }
+}
