@@ -8,7 +8,7 @@ use Rattle.conflicts.specs.declared.error.StepErr.{StepErr}
 use Rattle.conflicts.specs.declared.report.SyncReport.{SyncReport}
 use Rattle.desk.specs.Desks.{DeskNow, IsSameDesk, IsTidy}
 use Rattle.jop_target.proofs.Runs.{continues_same, has_failed-append}
-use Rattle.jop_target.specs.Replies.{IsCallable, IsReplyTo}
+use Rattle.jop_target.specs.Replies.{IsCallable, IsReplyTo, KeepsBlob, contents_in}
 use Rattle.jop_target.specs.Runs.{Continues, has_failed}
 use Rattle.jop_target.specs.Trail.{EndsWith, IsUnheard, LineNow}
 use Rattle.jop_target.specs.Trail as trails
@@ -18,7 +18,7 @@ use Rattle.jop_target.specs.declared.call.Call.TheVariants.{Get}
 use Rattle.jop_target.specs.declared.event.Event.{Event}
 use Rattle.jop_target.specs.declared.event.Event.TheVariants.{Sent, Called}
 use Rattle.jop_target.specs.declared.reply.Reply.{Reply}
-use Rattle.jop_target.specs.declared.reply.Reply.TheVariants.{Failed}
+use Rattle.jop_target.specs.declared.reply.Reply.TheVariants.{Failed, GotBlob}
 use Rattle.lease.proofs.Sessions.{goes_answered, goes_leased, goes_on, goes_unheard, session_from-append}
 use Rattle.lease.proofs.Works.{fresh_same, may_work}
 use Rattle.lease.specs.Calls.{GoesOn, IsLeaseCall, IsLeaseEvent, LeaseGoesOn, is_held}
@@ -41,26 +41,28 @@ use Rattle.local_store.specs.Keepers.{IsOfKept, KeeperNow, Kept}
 use Rattle.local_store.specs.Sound.{IsSound}
 use Rattle.local_store.specs.declared.change.Change.{Change}
 use Rattle.local_store.specs.declared.tables.Tables.{Tables}
+use Rattle.session_steps.proofs.Saves.{blobs_got-append, blobs_got-locks}
 use Rattle.session_steps.proofs.LockDeeds.{AreCalls, AreCalls-append, AreCalls-locks, AreLocks, AreWork-calls, ToldLocks, but_locks-locks, changes_in-calls, obeys-locks, reported-locks, told_locks, view_from-locks, works_by-idle}
 use Rattle.session_steps.proofs.NoFailed.{none_failed}
 use Rattle.session_steps.proofs.Seen.{but_locks-append, reported-append}
 use Rattle.session_steps.proofs.Sorted.{works_by-append}
 use Rattle.session_steps.specs.Asking as steps
-use Rattle.session_steps.specs.Asking.{IsHeardBy, step_of_lease}
-use Rattle.session_steps.specs.Doing.{Does, IsTold, Stops, Went, changed_all}
+use Rattle.session_steps.specs.Asking.{AreBytesOf, IsHeardBy, step_of_lease}
+use Rattle.session_steps.specs.Doing.{DoesTo, IsTold, Stops, Went}
 use Rattle.session_steps.specs.Parts.{Any, Hears, but_locks}
 use Rattle.session_steps.specs.Reported.{after_call, reported}
+use Rattle.session_steps.specs.Saving.{Told, blobs_got, got_by, kept_after, saved_all}
 use Rattle.session_steps.specs.Steps.{IsStep, works_by}
 use Rattle.session_steps.specs.Work.{WorkNow, view_of, work}
 
 -- ---- small facts
 
 pub kept-same : (kept : Option Kept) (cs : List Change) → cs ≡ []
-    → kept ≡ option_map (changed_all cs) kept
-unfolding after_all
+    → kept ≡ option_map (kept_after cs []) kept
+unfolding after_all saved_all
 kept-same None cs none = refl
 kept-same (Some k) cs none =
-    ap (λ (x : List Change). option_map (changed_all x) (Some k)) (sym none)
+    ap (λ (x : List Change). option_map (kept_after x []) (Some k)) (sym none)
 
 -- a step of the lease's own
 pub step_of : (sort : Call → Bool) (client : List ℕ) (e : Event) → IsLeaseEvent client e
@@ -125,6 +127,8 @@ went_by sort old new mid before after r s last same but h locks l =
     ∙ session_from-append client outside old.line.trail (events_of n ds) in
     record {
       deeds = ds ++ last;
+      saves = [];
+      owed = blobs_got (ds ++ last);
       trail =
           l.trail
           ∙ (ap (λ (t : List Event). t ++ events_of n last) first
@@ -135,8 +139,9 @@ went_by sort old new mid before after r s last same but h locks l =
           ∙ (sym (append-nil old.made) ∙ ap (λ (cs : List Change). old.made ++ cs) (sym none));
       kept =
           ap (λ (k : KeeperNow). k.kept) same.keeper ∙ kept-same old.keeper.kept (changes_in (ds ++ last)) none;
+      got = refl;
       work = AreWork-calls (ds ++ last) calls;
-      obeys = λ shown.
+      obeys = λ shown fits.
           let v = view_of shown old in
           Each-append MayDo v ds last (obeys-locks client v ds tt locks.locks)
           (subst (λ (w : View). Each MayDo w last) (sym (view_from-locks client v ds locks.locks))
@@ -341,6 +346,16 @@ only_last client ds call reply locks about =
     (but_locks-locks client ds locks)
     ∙ but_locks_one (is_about_locks call) call reply about)
 
+-- only that call got bytes, if it did
+got-last : (client : List ℕ) (ds : List Deed) (call : Call) (reply : Reply) → AreLocks client ds
+    → blobs_got (ds ++ Asks call (Some reply) ∷ []) ≡ got_by call reply
+unfolding blobs_got
+got-last client ds call reply locks =
+    blobs_got-append ds (Asks call (Some reply) ∷ [])
+    ∙ (ap (λ (x : List Told). x ++ blobs_got (Asks call (Some reply) ∷ []))
+    (blobs_got-locks client ds locks)
+    ∙ append-nil (got_by call reply))
+
 -- while the lease is held nothing has failed
 none-failed : (old new : LineNow) (lease : Lease) (n : ℕ) (ds : List Deed) → AreCalls ds
     → IsHeld lease new.trail → new.trail ≡ old.trail ++ events_of n ds
@@ -381,12 +396,14 @@ asked_ok sort old new before after call blob bytes same but tidy working about c
       told = told_by sort old new mid before after r s (Asks call (Some reply) ∷ []) same but
           ready.goes locks l tidy noted;
       part = λ shown. only_last client locks.deeds call reply locks.locks about;
-      unfinished = λ shown.
+      stands = λ shown.
           let v = view_of shown old in
           ap (λ (w : View). w.stage)
           (view_from-append v locks.deeds (Asks call (Some reply) ∷ [])
           ∙ ap (λ (w : View). view_from w (Asks call (Some reply) ∷ []))
           (view_from-locks client v locks.deeds locks.locks));
+      sees = λ shown fits. tt;
+      owes = got-last client locks.deeds call reply locks.locks;
       heard =
           let last : List Deed = Asks call (Some reply) ∷ [] in
           none-failed old.line new.line after (length old.made) (locks.deeds ++ last)
@@ -395,6 +412,18 @@ asked_ok sort old new before after call blob bytes same but tidy working about c
       well = ap (λ (k : KeeperNow). k.faults) same.keeper;
       ready = record { tidy = tidy-same old new same tidy; held = h.held };
     }
+
+-- its bytes are as many as the reply tells
+pub are_bytes : (old new : DeskNow) (before after : Lease) (call : Call) (blob bytes : List ℕ)
+    → HasWorked before after call blob old.line new.line bytes
+    → AreBytesOf new.line.trail call bytes
+are_bytes old new before after call blob bytes h now len ends =
+    let mid = h.called.mid in
+    let told : h.reply ≡ GotBlob now len =
+    one_reply new.line.trail call call h.reply (GotBlob now len)
+    (mid.trail, h.called.answered.trail) ends in
+    (subst (λ (x : Reply). KeepsBlob (contents_in mid.target.store) call blob (Ok x) bytes) told
+    h.called.answered.blob).0
 
 pub is_answered : (old new : DeskNow) (before after : Lease) (call : Call) (blob bytes : List ℕ)
     → HasWorked before after call blob old.line new.line bytes

@@ -21,7 +21,7 @@ use Rattle.lease.specs.Standing.{IsHeld, StandsIn}
 use Rattle.lease.specs.declared.lease.Lease.{Lease}
 use Rattle.licences.proofs.Told.{calls_from-append}
 use Rattle.licences.specs.Deeds.{Deed, Makes, changes_in, events_of}
-use Rattle.licences.specs.Licences.{AreWork, Each, MayChange}
+use Rattle.licences.specs.Licences.{AreWork, Each}
 use Rattle.licences.specs.Trails.{calls_from, session_calls}
 use Rattle.licences.specs.Views.{Shown, Working, stage_after, view_from}
 use Rattle.local_store.specs.Changing.{after, after_all}
@@ -30,11 +30,13 @@ use Rattle.local_store.specs.Sound.{IsAllowed, IsSound}
 use Rattle.local_store.specs.declared.change.Change.{Change}
 use Rattle.local_store.specs.declared.tables.Tables.{Tables}
 use Rattle.session_steps.proofs.Asked.{kept-same, tables-same}
-use Rattle.session_steps.specs.Doing.{Does, Ends, IsTold, KeeperFails, Stops, Went, changed_all}
+use Rattle.session_steps.specs.Doing.{IsTold, KeeperFails, DoesTo, Stops, Went}
 use Rattle.session_steps.specs.Parts.{Any, Changes, but_locks}
 use Rattle.session_steps.specs.Reported.{reported}
 use Rattle.session_steps.specs.Steps.{IsStep, works_by}
-use Rattle.session_steps.specs.Work.{WorkNow, view_of, work}
+use Rattle.session_steps.specs.Making.{MayMakeBy}
+use Rattle.session_steps.specs.Saving.{blobs_got, kept_after, saved_all}
+use Rattle.session_steps.specs.Work.{WorkNow, view_of, work_by}
 
 -- ---- the line
 
@@ -88,30 +90,32 @@ calls_made old new n is = ap session_calls is ∙ calls_from-append [] old (Made
 -- ---- the change was made
 
 pub kept_changed : (kept : Option Kept) (change : Change)
-    → option_map (changed change) kept ≡ option_map (changed_all (change ∷ [])) kept
-unfolding after_all
+    → option_map (changed change) kept ≡ option_map (kept_after (change ∷ []) []) kept
+unfolding after_all saved_all
 kept_changed None change = refl
 kept_changed (Some k) change = refl
 
-unfoldable pub went_made : (sort : Call → Bool) (old new : DeskNow) (lease : Lease)
-    (r s : SyncReport) (change : Change)
+unfoldable pub went_made : (known : Option Shown) (sort : Call → Bool) (old new : DeskNow)
+    (lease : Lease) (r s : SyncReport) (change : Change)
     → IsMade change old new → old.keeper.faults ≤ new.keeper.faults → IsAllowed change
-    → ((shown : Option Shown) → MayChange (view_of shown old) change)
-    → IsHeld lease old.line.trail
-    → Went sort (work old lease r) (work new lease s)
-unfolding events_of changes_in AreWork Each works_by
-went_made sort old new lease r s change made later allowed may held =
+    → MayMakeBy known old change → IsHeld lease old.line.trail
+    → Went sort (work_by known old lease r) (work_by known new lease s)
+unfolding events_of changes_in AreWork Each works_by blobs_got view_from
+went_made known sort old new lease r s change made later allowed may held =
     let n = length old.made in
     let trail : new.line.trail ≡ old.line.trail ++ Made n ∷ [] =
     ap (λ (l : LineNow). l.trail) made.line in
     let now = held_made lease old.line.trail new.line.trail n trail held in
     record {
       deeds = Makes change ∷ [];
+      saves = [];
+      owed = [];
       trail = trail;
       made = made.made;
       kept = made.kept ∙ kept_changed old.keeper.kept change;
+      got = refl;
       work = (allowed, tt);
-      obeys = λ shown. (may shown, tt);
+      obeys = λ shown fits. (may shown fits, tt);
       goes = record {
         running = now.stands.running;
         lawful = now.stands.lawful;
@@ -122,23 +126,24 @@ went_made sort old new lease r s change made later allowed may held =
       same = refl;
     }
 
-pub does_made : (sort : Call → Bool) (old new : DeskNow) (lease : Lease) (r s : SyncReport)
-    (change : Change)
+pub does_made : (known : Option Shown) (sort : Call → Bool) (old new : DeskNow) (lease : Lease)
+    (r s : SyncReport) (change : Change)
     → IsChanged change old new → new.keeper.faults ≡ old.keeper.faults → IsAllowed change
-    → ((shown : Option Shown) → MayChange (view_of shown old) change)
-    → stage_after Working change ≡ Working → s ≡ counted r change
-    → IsHeld lease old.line.trail
-    → Does (Changes change) sort (work old lease r) (work new lease s)
+    → MayMakeBy known old change → s ≡ counted r change → IsHeld lease old.line.trail
+    → DoesTo (stage_after Working change) [] (Changes change) sort (work_by known old lease r)
+    (work_by known new lease s)
 unfolding went_made events_of changes_in after_all reported but_locks view_from has_failed
-does_made sort old new lease r s change h well allowed may more count held =
+does_made known sort old new lease r s change h well allowed may count held =
     let n = length old.made in
     let trail : new.line.trail ≡ old.line.trail ++ Made n ∷ [] =
     ap (λ (l : LineNow). l.trail) h.made.line in
     record {
-      went = went_made sort old new lease r s change h.made (omega (arith, well)) allowed may held;
+      went = went_made known sort old new lease r s change h.made (omega (arith, well)) allowed may held;
       told = record { tidy = h.tidy; tables = h.tables; report = λ shown. count };
       part = λ shown. refl;
-      unfinished = λ shown. more;
+      stands = λ shown. refl;
+      sees = λ shown fits. fits;
+      owes = refl;
       heard = refl;
       well = well;
       ready = record {
@@ -149,21 +154,24 @@ does_made sort old new lease r s change h well allowed may more count held =
 
 -- ---- it wasn't
 
-unfoldable pub went_nowhere : (sort : Call → Bool) (old new : DeskNow) (lease : Lease)
-    (r s : SyncReport)
+unfoldable pub went_nowhere : {known : Option Shown} (sort : Call → Bool) (old new : DeskNow)
+    (lease : Lease) (r s : SyncReport)
     → IsUnmade old new → old.keeper.faults ≤ new.keeper.faults → IsHeld lease old.line.trail
-    → Went sort (work old lease r) (work new lease s)
-unfolding events_of changes_in AreWork Each works_by
+    → Went sort (work_by known old lease r) (work_by known new lease s)
+unfolding events_of changes_in AreWork Each works_by blobs_got view_from
 went_nowhere sort old new lease r s h later held =
     let trail : new.line.trail ≡ old.line.trail = ap (λ (l : LineNow). l.trail) h.line in
     let now = subst (λ (t : List Event). IsHeld lease t) (sym trail) held in
     record {
       deeds = [];
+      saves = [];
+      owed = [];
       trail = trail ∙ sym (append-nil old.line.trail);
       made = h.made ∙ sym (append-nil old.made);
       kept = h.kept ∙ kept-same old.keeper.kept [] refl;
+      got = refl;
       work = tt;
-      obeys = λ shown. tt;
+      obeys = λ shown fits. tt;
       goes = record {
         running = now.stands.running;
         lawful = now.stands.lawful;
@@ -175,17 +183,18 @@ went_nowhere sort old new lease r s h later held =
       same = refl;
     }
 
-tidy_unmade : (old new : DeskNow) → IsUnmade old new → IsTidy old → IsTidy new
+pub tidy_unmade : (old new : DeskNow) → IsUnmade old new → IsTidy old → IsTidy new
 tidy_unmade old new h tidy = record {
   sound = subst IsSound (sym h.tables) tidy.sound;
   told = subst (λ (k : Option Kept). IsOfKept k new.tables) (sym h.kept)
       (subst (λ (t : Tables). IsOfKept old.keeper.kept t) (sym h.tables) tidy.told);
 }
 
-pub fails_unmade : (sort : Call → Bool) (old new : DeskNow) (lease : Lease) (r : SyncReport)
+pub fails_unmade : {known : Option Shown} (sort : Call → Bool) (old new : DeskNow) (lease : Lease)
+    (r : SyncReport)
     → IsUnmade old new → HasRisen old.keeper.faults new.keeper.faults
     → old.keeper.faults ≤ new.keeper.faults → IsTidy old → IsHeld lease old.line.trail
-    → KeeperFails sort (work old lease r) (work new lease r)
+    → KeeperFails sort (work_by known old lease r) (work_by known new lease r)
 unfolding went_nowhere changes_in reported
 fails_unmade sort old new lease r h rose later tidy held =
     let trail : new.line.trail ≡ old.line.trail = ap (λ (l : LineNow). l.trail) h.line in
@@ -205,12 +214,12 @@ fails_unmade sort old new lease r h rose later tidy held =
       rose = rose;
     }
 
-pub went_either : (sort : Call → Bool) (old new : DeskNow) (lease : Lease) (r : SyncReport)
-    (change : Change)
+pub went_either : (known : Option Shown) (sort : Call → Bool) (old new : DeskNow) (lease : Lease)
+    (r : SyncReport) (change : Change)
     → IsUnmade old new ⊎ IsMade change old new → old.keeper.faults ≤ new.keeper.faults
-    → IsAllowed change → ((shown : Option Shown) → MayChange (view_of shown old) change)
-    → IsHeld lease old.line.trail → Went sort (work old lease r) (work new lease r)
-went_either sort old new lease r change h later allowed may held = elim h [
+    → IsAllowed change → MayMakeBy known old change → IsHeld lease old.line.trail
+    → Went sort (work_by known old lease r) (work_by known new lease r)
+went_either known sort old new lease r change h later allowed may held = elim h [
   | inl none ↦ went_nowhere sort old new lease r r none later held
-  | inr made ↦ went_made sort old new lease r r change made later allowed may held
+  | inr made ↦ went_made known sort old new lease r r change made later allowed may held
 ]

@@ -16,13 +16,14 @@ use Rattle.lease.specs.declared.error.Seen.{Seen}
 use Rattle.lease.specs.declared.lease.Lease.{Lease}
 use Rattle.licences.specs.Deeds.{Deed, changes_in, events_of}
 use Rattle.licences.specs.Licences.{AreWork, Each}
-use Rattle.licences.specs.Views.{Shown, view_from}
+use Rattle.licences.specs.Views.{Shown, Stage, view_from}
 use Rattle.local_store.specs.Changing.{after_all}
 use Rattle.session_steps.proofs.Joins.{client_is, does_then, told_on, went_on}
-use Rattle.session_steps.specs.Doing.{Does, Ends, GivesUp, HasLapsed, Stops, Went}
+use Rattle.session_steps.specs.Doing.{Does, DoesTo, Ends, EndsAt, GivesUp, HasLapsed, Stops, Went}
 use Rattle.session_steps.proofs.Asked.{kept-same}
 use Rattle.session_steps.specs.Parts.{Nothing, Part, Then, but_locks}
 use Rattle.session_steps.specs.Reported.{reported}
+use Rattle.session_steps.specs.Saving.{Told, blobs_got}
 use Rattle.session_steps.specs.Steps.{IsStep, works_by}
 use Rattle.session_steps.specs.Work.{IsReady, WorkNow, view_of, work}
 
@@ -71,16 +72,25 @@ pub ends_then : {R : Type 0} (P Q : Part) (sort : Call → Bool) (a b c : WorkNo
 ends_then P Q sort a b c (Ok value) h k = does_then P Q sort a b c h k
 ends_then P Q sort a b c (Err e) h k = gives_up_behind P sort a b c e h k
 
+-- the same of whatever part, the session's last one too
+pub ends_at : {R : Type 0} (there : Stage) (P Q : Part) (sort : Call → Bool) (a b c : WorkNow)
+    (result : Result R StepErr) → Does P sort a b → EndsAt there Q sort b result c
+    → EndsAt there (Then P Q) sort a result c
+ends_at there P Q sort a b c (Ok value) h k = does_then P Q sort a b c h k
+ends_at there P Q sort a b c (Err e) h k = gives_up_behind P sort a b c e h k
+
 -- a part that may be told in other words
-pub does_as : (P Q : Part) (sort : Call → Bool) (a b : WorkNow)
+pub does_as : {there : Stage} {left : List Told} (P Q : Part) (sort : Call → Bool) (a b : WorkNow)
     → ((shown : Option Shown) (ds : List Deed)
     → P (view_of shown a.desk) ds → Q (view_of shown a.desk) ds)
-    → Does P sort a b → Does Q sort a b
+    → DoesTo there left P sort a b → DoesTo there left Q sort a b
 does_as P Q sort a b also h = record {
   went = h.went;
   told = h.told;
   part = λ shown. also shown (but_locks h.went.deeds) (h.part shown);
-  unfinished = h.unfinished;
+  stands = h.stands;
+  sees = h.sees;
+  owes = h.owes;
   heard = h.heard;
   well = h.well;
   ready = h.ready;
@@ -97,15 +107,18 @@ ends_as P Q sort a b (Err e) also h = h
 -- nothing is done
 pub does_nothing : (sort : Call → Bool) (a : WorkNow) → IsReady a.desk a.lease
     → Does Nothing sort a a
-unfolding events_of changes_in AreWork Each works_by after_all reported but_locks view_from has_failed
+unfolding events_of changes_in AreWork Each works_by after_all reported but_locks view_from has_failed blobs_got
 does_nothing sort a ready = record {
   went = record {
     deeds = [];
+    saves = [];
+    owed = [];
     trail = sym (append-nil a.desk.line.trail);
     made = sym (append-nil a.desk.made);
     kept = kept-same a.desk.keeper.kept [] refl;
+    got = refl;
     work = tt;
-    obeys = λ shown. tt;
+    obeys = λ shown fits. tt;
     goes = record {
       running = ready.held.stands.running;
       lawful = ready.held.stands.lawful;
@@ -117,7 +130,9 @@ does_nothing sort a ready = record {
   };
   told = record { tidy = ready.tidy; tables = refl; report = λ shown. refl };
   part = λ shown. refl;
-  unfinished = λ shown. refl;
+  stands = λ shown. refl;
+  sees = λ shown fits. fits;
+  owes = refl;
   heard = refl;
   well = refl;
   ready = ready;
@@ -128,9 +143,12 @@ pub went_report : (sort : Call → Bool) (a : WorkNow) (d : DeskNow) (l : Lease)
     → Went sort a (work d l r) → Went sort a (work d l s)
 went_report sort a d l r s h = record {
   deeds = h.deeds;
+  saves = h.saves;
+  owed = h.owed;
   trail = h.trail;
   made = h.made;
   kept = h.kept;
+  got = h.got;
   work = h.work;
   obeys = h.obeys;
   goes = h.goes;
@@ -138,3 +156,9 @@ went_report sort a d l r s h = record {
   later = h.later;
   same = h.same;
 }
+
+-- a session that stands there stands here, if that is the same
+pub does_there : {there here : Stage} {left : List Told} {P : Part} {sort : Call → Bool}
+    {a b : WorkNow} → there ≡ here → DoesTo there left P sort a b → DoesTo here left P sort a b
+does_there {there} {here} {left} {P} {sort} {a} {b} same h =
+    subst (λ (s : Stage). DoesTo s left P sort a b) same h

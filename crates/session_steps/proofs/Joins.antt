@@ -22,24 +22,34 @@ use Rattle.licences.specs.Views.{Heard, Shown, Stage, View, Working, view_from}
 use Rattle.local_store.proofs.Telling.{after_all-append}
 use Rattle.local_store.specs.Changing.{after_all}
 use Rattle.local_store.specs.Keepers.{Kept}
+use Rattle.local_store.specs.declared.blob.Blob.{Blob}
 use Rattle.local_store.specs.declared.change.Change.{Change}
 use Rattle.local_store.specs.declared.tables.Tables.{Tables}
+use Rattle.session_steps.proofs.Saves.{got_both, saved_all-append}
 use Rattle.session_steps.proofs.Seen.{but_locks-append, reported-append, view_from-but_locks}
 use Rattle.session_steps.proofs.Sorted.{works_by-append}
-use Rattle.session_steps.specs.Doing.{Does, IsTold, Went, changed_all}
+use Rattle.session_steps.specs.Doing.{Does, DoesTo, IsTold, Went}
 use Rattle.session_steps.specs.Parts.{Part, Then, but_locks}
 use Rattle.session_steps.specs.Reported.{reported}
 use Rattle.session_steps.specs.Steps.{IsStep, works_by}
-use Rattle.session_steps.specs.Work.{WorkNow, view_of}
+use Rattle.session_steps.specs.Saving.{Told, kept_after, saved_all}
+use Rattle.session_steps.specs.Work.{Fits, WorkNow, view_of}
 
 -- ---- small parts
 
-pub changed_all-append : (kept : Option Kept) (cs ds : List Change)
-    → option_map (changed_all ds) (option_map (changed_all cs) kept)
-    ≡ option_map (changed_all (cs ++ ds)) kept
-changed_all-append None cs ds = refl
-changed_all-append (Some k) cs ds =
-    ap (λ (t : Tables). Some (record k { tables = t })) (sym (after_all-append k.tables cs ds))
+kept_of : Tables → List Blob → Option Kept
+kept_of tables blobs = Some (record { tables = tables; blobs = blobs })
+
+pub kept_after-append : (kept : Option Kept) (cs ds : List Change) (xs ys : List Blob)
+    → option_map (kept_after ds ys) (option_map (kept_after cs xs) kept)
+    ≡ option_map (kept_after (cs ++ ds) (xs ++ ys)) kept
+unfolding kept_of
+kept_after-append None cs ds xs ys = refl
+kept_after-append (Some k) cs ds xs ys =
+    ap (λ (t : Tables). kept_of t (saved_all (saved_all k.blobs xs) ys))
+    (sym (after_all-append k.tables cs ds))
+    ∙ ap (λ (bs : List Blob). kept_of (after_all k.tables (cs ++ ds)) bs)
+    (sym (saved_all-append k.blobs xs ys))
 
 pub client_is : (a b : Lease) → IsSameBut a b → b.client ≡ a.client
 client_is a b same = ap (λ (l : Lease). l.client) same
@@ -109,6 +119,8 @@ went_on P sort a b c h k =
     ∙ session_from-append client outside a.desk.line.trail (events_of n ds) in
     record {
       deeds = ds ++ es;
+      saves = h.went.saves ++ k.saves;
+      owed = k.owed;
       trail = trail_is a.desk.line.trail b.desk.line.trail c.desk.line.trail n
           (length b.desk.made) ds es h.went.trail k.trail both;
       made =
@@ -116,16 +128,19 @@ went_on P sort a b c h k =
           ∙ (append_assoc a.desk.made (changes_in ds) (changes_in es)
           ∙ ap (λ (x : List Change). a.desk.made ++ x) (sym changes)));
       kept =
-          k.kept ∙ (ap (option_map (changed_all (changes_in es))) h.went.kept
-          ∙ (changed_all-append a.desk.keeper.kept (changes_in ds) (changes_in es)
-          ∙ ap (λ (x : List Change). option_map (changed_all x) a.desk.keeper.kept)
+          k.kept ∙ (ap (option_map (kept_after (changes_in es) k.saves)) h.went.kept
+          ∙ (kept_after-append a.desk.keeper.kept (changes_in ds) (changes_in es) h.went.saves
+          k.saves
+          ∙ ap (λ (x : List Change).
+          option_map (kept_after x (h.went.saves ++ k.saves)) a.desk.keeper.kept)
           (sym changes)));
+      got = got_both ds es h.went.saves k.saves h.went.owed k.owed h.went.got h.owes k.got;
       work = AreWork-append ds es h.went.work k.work;
-      obeys = λ shown.
-          Each-append MayDo (view_of shown a.desk) ds es (h.went.obeys shown)
+      obeys = λ shown fits.
+          Each-append MayDo (view_of shown a.desk) ds es (h.went.obeys shown fits)
           (subst (λ (v : View). Each MayDo v es)
-          (sym (view_at sort a b h.went h.told shown (h.unfinished shown)))
-          (k.obeys (view_from (view_of shown a.desk) ds).shown));
+          (sym (view_at sort a b h.went h.told shown (h.stands shown)))
+          (k.obeys (view_from (view_of shown a.desk) ds).shown (h.sees shown fits)));
       goes = goes_on (IsStep sort client) client a.desk.line b.desk.line c.desk.line
           h.went.goes
           (subst (λ (x : List ℕ). GoesOn (IsStep sort x) x b.desk.line c.desk.line) of_a k.goes);
@@ -161,7 +176,7 @@ told_on P sort a b c h k told =
           ∙ ap (λ (x : List Change). after_all a.desk.tables x) (sym (changes_in-append ds es))));
       report = λ shown.
           let v = view_of shown a.desk in
-          let at = view_at sort a b h.went h.told shown (h.unfinished shown) in
+          let at = view_at sort a b h.went h.told shown (h.stands shown) in
           told.report (view_from v ds).shown
           ∙ (ap (λ (r : SyncReport). reported (view_of (view_from v ds).shown b.desk) r es)
           (h.told.report shown)
@@ -174,8 +189,9 @@ neither true b h k = h
 neither false b h k = k
 
 -- one part, and then another
-unfoldable pub does_then : (P Q : Part) (sort : Call → Bool) (a b c : WorkNow)
-    → Does P sort a b → Does Q sort b c → Does (Then P Q) sort a c
+unfoldable pub does_then : {there : Stage} {left : List Told} (P Q : Part) (sort : Call → Bool)
+    (a b c : WorkNow) → Does P sort a b → DoesTo there left Q sort b c
+    → DoesTo there left (Then P Q) sort a c
 unfolding went_on
 does_then P Q sort a b c h k =
     let n = length a.desk.made in
@@ -192,7 +208,7 @@ does_then P Q sort a b c h k =
           let v = view_of shown a.desk in
           let at =
           view_from-but_locks v ds
-          ∙ view_at sort a b h.went h.told shown (h.unfinished shown) in
+          ∙ view_at sort a b h.went h.told shown (h.stands shown) in
           record {
             first = but_locks ds;
             second = but_locks es;
@@ -201,12 +217,19 @@ does_then P Q sort a b c h k =
             behind = subst (λ (w : View). Q w (but_locks es)) (sym at)
                 (k.part (view_from v ds).shown);
           };
-      unfinished = λ shown.
+      stands = λ shown.
           let v = view_of shown a.desk in
-          let at = view_at sort a b h.went h.told shown (h.unfinished shown) in
+          let at = view_at sort a b h.went h.told shown (h.stands shown) in
           ap (λ (w : View). w.stage) (view_from-append v ds es)
           ∙ (ap (λ (w : View). (view_from w es).stage) at
-          ∙ k.unfinished (view_from v ds).shown);
+          ∙ k.stands (view_from v ds).shown);
+      sees = λ shown fits.
+          let v = view_of shown a.desk in
+          let at = view_at sort a b h.went h.told shown (h.stands shown) in
+          subst (λ (w : View). Fits c.known w.shown)
+          (sym (view_from-append v ds es ∙ ap (λ (w : View). view_from w es) at))
+          (k.sees (view_from v ds).shown (h.sees shown fits));
+      owes = k.owes;
       heard =
           ap has_failed both
           ∙ (has_failed-append (events_of n ds) (events_of (length b.desk.made) es)

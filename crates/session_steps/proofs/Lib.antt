@@ -3,7 +3,13 @@ pub mod Seen
 pub mod Joins
 pub mod LockDeeds
 pub mod NoFailed
+pub mod Saves
 pub mod Asked
 pub mod Committed
 pub mod Ending
 pub mod Repeating
+pub mod Paid
+pub mod Known
+pub mod Turns
+pub mod Folders
+pub mod Found

@@ -1,5 +1,5 @@
 -- What a part of a session leaves, by each of its answers.
-use Rattle.std.specs.Prelude.{ℕ, ◌≤◌, ◌≡◌, List, ◌++◌, length, option_map, Bool, true, false, Option, Result, Ok, Err}
+use Rattle.std.specs.Prelude.{ℕ, ◌≤◌, ◌≡◌, List, [], ◌++◌, length, map, option_map, Bool, true, false, Option, Result, Ok, Err}
 use Rattle.conflicts.specs.declared.error.StepErr.{StepErr}
 use Rattle.conflicts.specs.declared.error.StepErr.TheVariants.{Lost, TargetFault, KeeperFault, FailSafe, NoMemory}
 use Rattle.desk.specs.Desks.{IsTidy}
@@ -15,30 +15,31 @@ use Rattle.lease.specs.declared.error.Seen.{Seen}
 use Rattle.lease.specs.declared.lease.Lease.{Lease}
 use Rattle.licences.specs.Deeds.{Deed, changes_in, events_of}
 use Rattle.licences.specs.Licences.{AreWork, ObeysData}
-use Rattle.licences.specs.Views.{Shown, Working, view_from}
+use Rattle.licences.specs.Views.{Finished, Shown, Stage, Working, view_from}
 use Rattle.local_store.specs.Changing.{after_all}
-use Rattle.local_store.specs.Keepers.{Kept}
-use Rattle.local_store.specs.declared.change.Change.{Change}
+use Rattle.local_store.specs.declared.blob.Blob.{Blob}
 use Rattle.session_steps.specs.Parts.{Part, but_locks}
 use Rattle.session_steps.specs.Reported.{reported}
+use Rattle.session_steps.specs.Saving.{Told, blobs_got, kept_after, tale_of}
 use Rattle.session_steps.specs.Steps.{IsStep, works_by}
-use Rattle.session_steps.specs.Work.{IsReady, WorkNow, view_of}
-
--- what is kept after these changes, the first one first
-abbrev pub changed_all : List Change → Kept → Kept
-changed_all changes k = record k { tables = after_all k.tables changes }
+use Rattle.session_steps.specs.Work.{Fits, IsReady, WorkNow, view_of}
 
 -- A session has gone on by these deeds: calls and changes, each with its licence. Its work is of this sort, and else
--- only its lease calls. The changes are kept, if the keeper tells.
+-- only its lease calls. The changes are kept, if the keeper tells, and the bytes of resources that were saved: those that
+-- were got, in that order, but for the last ones, which are still owed.
 pub record Went (sort : Call → Bool) (old new : WorkNow) : Type 0 where
   pub deeds : List Deed
+  pub saves : List Blob
+  pub owed : List Told
   pub trail : new.desk.line.trail
       ≡ old.desk.line.trail ++ events_of (length old.desk.made) deeds
   pub made : new.desk.made ≡ old.desk.made ++ changes_in deeds
   pub kept : new.desk.keeper.kept
-      ≡ option_map (changed_all (changes_in deeds)) old.desk.keeper.kept
+      ≡ option_map (kept_after (changes_in deeds) saves) old.desk.keeper.kept
+  pub got : blobs_got deeds ≡ map tale_of saves ++ owed
   pub work : AreWork deeds
-  pub obeys : (shown : Option Shown) → ObeysData (view_of shown old.desk) deeds
+  pub obeys : (shown : Option Shown) → Fits old.known shown
+      → ObeysData (view_of shown old.desk) deeds
   pub goes :
       GoesOn (IsStep sort old.lease.client) old.lease.client old.desk.line new.desk.line
   pub sorted : works_by sort old.lease.client
@@ -54,16 +55,29 @@ pub record IsTold (old new : WorkNow) (deeds : List Deed) : Type 0 where
   pub report : (shown : Option Shown)
       → new.report ≡ reported (view_of shown old.desk) old.report deeds
 
--- it was this part of a session, in which nothing failed, and more may be done
-pub record Does (P : Part) (sort : Call → Bool) (old new : WorkNow) : Type 0 where
+-- It was this part of a session, in which nothing failed. The session stands there now, and these bytes that it got are
+-- still to be saved.
+pub record DoesTo (there : Stage) (left : List Told) (P : Part) (sort : Call → Bool)
+    (old new : WorkNow) : Type 0 where
   pub went : Went sort old new
   pub told : IsTold old new went.deeds
   pub part : (shown : Option Shown) → P (view_of shown old.desk) (but_locks went.deeds)
-  pub unfinished : (shown : Option Shown)
-      → (view_from (view_of shown old.desk) went.deeds).stage ≡ Working
+  pub stands : (shown : Option Shown)
+      → (view_from (view_of shown old.desk) went.deeds).stage ≡ there
+  pub sees : (shown : Option Shown) → Fits old.known shown
+      → Fits new.known (view_from (view_of shown old.desk) went.deeds).shown
+  pub owes : went.owed ≡ left
   pub heard : has_failed (events_of (length old.desk.made) went.deeds) ≡ false
   pub well : new.desk.keeper.faults ≡ old.desk.keeper.faults
   pub ready : IsReady new.desk new.lease
+
+-- all that it got is saved, and more may be done
+abbrev pub Does : Part → (Call → Bool) → WorkNow → WorkNow → Type 0
+Does P sort old new = DoesTo Working [] P sort old new
+
+-- or it was the session's last part
+abbrev pub Finishes : Part → (Call → Bool) → WorkNow → WorkNow → Type 0
+Finishes P sort old new = DoesTo Finished [] P sort old new
 
 -- it went on and came to an end
 pub record Stops (sort : Call → Bool) (old new : WorkNow) : Type 0 where
@@ -91,7 +105,13 @@ GivesUp sort old KeeperFault new = KeeperFails sort old new
 GivesUp sort old (FailSafe count) new = ⊥
 GivesUp sort old NoMemory new = Went sort old new
 
--- it was this part of a session, or it gave nothing
+-- it was this part of a session, behind which the session stands there, or it gave nothing
+abbrev pub EndsAt : {R : Type 0} → Stage → Part → (Call → Bool) → WorkNow → Result R StepErr →
+    WorkNow → Type 0
+EndsAt there P sort old (Ok value) new = DoesTo there [] P sort old new
+EndsAt there P sort old (Err e) new = GivesUp sort old e new
+
+-- it was this part of a session, and more may be done, or it gave nothing
 abbrev pub Ends : {R : Type 0} → Part → (Call → Bool) → WorkNow → Result R StepErr → WorkNow →
     Type 0
 Ends P sort old (Ok value) new = Does P sort old new

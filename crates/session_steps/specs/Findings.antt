@@ -5,6 +5,7 @@ use Rattle.jop_target.specs.declared.reply.Reply.TheVariants.{Got, Absent}
 use Rattle.licences.specs.Items.{remote_in}
 use Rattle.local_store.specs.Sound.{IsContentOf}
 use Rattle.local_store.specs.declared.content.Content.{Content}
+use Rattle.local_store.specs.declared.row.Row.{Row}
 use Rattle.session_steps.specs.declared.finding.Finding.{Finding}
 use Rattle.session_steps.specs.declared.finding.Finding.TheVariants.{Same, Other, Missing, Unreadable}
 
@@ -29,6 +30,11 @@ finding_of id base (Got now bytes) =
     if is_base base bytes then Same else other_of (remote_in id bytes)
 finding_of id base (Absent now) = absent_of base
 finding_of id base reply = Unreadable
+
+-- the row, if it waits to be uploaded
+abbrev pub waiting : Option Row → Option Row
+waiting None = None
+waiting (Some row) = if row.pending then Some row else None
 
 abbrev pub is_unreadable : Finding → Bool
 is_unreadable Same = false

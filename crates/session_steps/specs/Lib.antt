@@ -3,5 +3,8 @@ pub mod Steps
 pub mod Findings
 pub mod Reported
 pub mod Parts
+pub mod Saving
+pub mod Kept
+pub mod Making
 pub mod Doing
 pub mod Asking

@@ -1,5 +1,5 @@
 -- A session at work.
-use Rattle.std.specs.Prelude.{Option}
+use Rattle.std.specs.Prelude.{◌≡◌, Option, Some, None}
 use Rattle.conflicts.specs.declared.report.SyncReport.{SyncReport}
 use Rattle.desk.specs.Desks.{DeskNow, IsTidy}
 use Rattle.lease.specs.Standing.{IsHeld}
@@ -7,14 +7,26 @@ use Rattle.lease.specs.declared.lease.Lease.{Lease}
 use Rattle.licences.specs.Trails.{session_calls}
 use Rattle.licences.specs.Views.{Shown, View, Working}
 
--- the client at its desk, the lease under which it works, and what it has done so far
+-- the client at its desk, the lease under which it works, what it has done so far, and what its session was shown, if that
+-- matters
 pub record WorkNow : Type 0 where
   pub desk : DeskNow
   pub lease : Lease
   pub report : SyncReport
+  pub known : Option Shown
 
+abbrev pub work_by : Option Shown → DeskNow → Lease → SyncReport → WorkNow
+work_by known desk lease report =
+    record { desk = desk; lease = lease; report = report; known = known }
+
+-- whatever it was shown
 abbrev pub work : DeskNow → Lease → SyncReport → WorkNow
-work desk lease report = record { desk = desk; lease = lease; report = report }
+work = work_by None
+
+-- the session may have been shown this
+abbrev pub Fits : Option Shown → Option Shown → Type 0
+Fits None shown = Unit {0}
+Fits (Some known) shown = shown ≡ Some known
 
 -- its tables are in order, and its trail's last session holds the lease
 pub record IsReady (d : DeskNow) (lease : Lease) : Type 0 where

@@ -7,7 +7,7 @@ ghost use Rattle.lease.specs.Phase.{role_of};
 ghost use Rattle.lease.specs.Standing.{IsSameBut};
 ghost use Rattle.licences.specs.Licences.{MayCall};
 ghost use Rattle.licences.specs.Views.{Shown, is_about_locks};
-ghost use Rattle.session_steps.specs.Asking.{Asks, IsAnswered};
+ghost use Rattle.session_steps.specs.Asking.{AreBytesOf, Asks, IsAnswered};
 ghost use Rattle.session_steps.specs.Work.{IsReady, view_of};
 
 use conflicts::StepErr;
@@ -33,6 +33,7 @@ pub fn ask<S: Desk>(
     requires may { (shown : Option Shown) → MayCall (view_of shown (S.desk site.old)) call }
 
     ensures answered { OnOk result (IsAnswered call (S.desk site.old) (S.desk site.new)) }
+    ensures blob { OnOk result (AreBytesOf (S.desk site.new).line.trail call blob.new) }
     ensures ready { OnOk result (IsReady (S.desk site.new) lease.new) }
     ensures same { IsSameDesk (S.desk site.old) (S.desk site.new) }
     ensures lease { IsSameBut lease.old lease.new }

@@ -7,8 +7,16 @@
 
 mod asking;
 mod finding;
+mod judging;
 mod making;
+mod saving;
+mod several;
+mod waiting;
 
 pub use asking::ask;
 pub use finding::{Finding, find};
-pub use making::make;
+pub use judging::judge;
+pub use making::{make, make_shown};
+pub use saving::save;
+pub use several::make_each;
+pub use waiting::waiting_row;

@@ -8,14 +8,54 @@ ghost use Rattle.licences.specs.Trails.{session_calls};
 ghost use Rattle.licences.specs.Views.{Shown, Working, stage_after};
 ghost use Rattle.local_store.specs.Changing.{after};
 ghost use Rattle.local_store.specs.Sound.{IsAllowed};
-ghost use Rattle.session_steps.specs.Doing.{Ends};
+ghost use Rattle.session_steps.specs.Doing.{Ends, EndsAt};
+ghost use Rattle.session_steps.specs.Making.{MayMakeBy};
 ghost use Rattle.session_steps.specs.Parts.{Changes};
-ghost use Rattle.session_steps.specs.Work.{view_of, work};
+ghost use Rattle.session_steps.specs.Work.{view_of, work, work_by};
 
 use conflicts::{StepErr, SyncReport, Tally};
 use desk::Desk;
 use local_store::{Change, KeeperErr};
 use std::alloc::Global;
+
+/// Makes a change of a part of a session, and counts it. It may be the session's last one.
+pub fn make_shown<S: Desk>(
+    alloc: Global,
+    site: &mut S,
+    report: &mut SyncReport,
+    change: Change,
+) -> Result<(), StepErr>
+    requires tidy { IsTidy (S.desk site.old) }
+    requires allowed { IsAllowed change }
+
+    ensures tidy { OnOk result (IsTidy (S.desk site.new)) }
+    ensures tables { OnOk result
+        ((S.desk site.new).tables ≡ after (S.desk site.old).tables change) }
+    ensures calls { OnOk result (session_calls (S.desk site.new).line.trail
+        ≡ session_calls (S.desk site.old).line.trail) }
+    ensures held { OnOk result ((lease : Lease) → IsHeld lease (S.desk site.old).line.trail
+        → IsHeld lease (S.desk site.new).line.trail) }
+
+    // Under whatever lease the session works, and whatever its calls are, if the change has its licence by what the
+    // session was shown.
+    ensures makes { (known : Option Shown) (sort : Call → Bool) (lease : Lease)
+        → MayMakeBy known (S.desk site.old) change
+        → IsHeld lease (S.desk site.old).line.trail
+        → EndsAt (stage_after Working change) (Changes change) sort
+        (work_by known (S.desk site.old) lease report.old) result
+        (work_by known (S.desk site.new) lease report.new) }
+    ensures stays { S.stays site.old site.new }
+{
+    let tally = Tally::of(&change);
+    match site.commit(alloc, change) {
+        Ok(()) => {
+            report.count(tally);
+            Ok(())
+        }
+        Err(KeeperErr::Fault) => Err(StepErr::KeeperFault),
+        Err(KeeperErr::NoMemory) => Err(StepErr::NoMemory),
+    }
+}
 
 /// Makes a change of a part of a session, and counts it. The change has its licence, whatever the session was shown, and
 /// isn't its last one.
@@ -45,13 +85,6 @@ pub fn make<S: Desk>(
         (work (S.desk site.new) lease report.new) }
     ensures stays { S.stays site.old site.new }
 {
-    let tally = Tally::of(&change);
-    match site.commit(alloc, change) {
-        Ok(()) => {
-            report.count(tally);
-            Ok(())
-        }
-        Err(KeeperErr::Fault) => Err(StepErr::KeeperFault),
-        Err(KeeperErr::NoMemory) => Err(StepErr::NoMemory),
-    }
+    make_shown(alloc, site, report, change)?;
+    Ok(())
 }

@@ -21,8 +21,10 @@ use Rattle.local_store.specs.declared.row.Row.{Row}
 use Rattle.local_store.specs.declared.tables.Tables.{Tables}
 use Rattle.session_steps.proofs.Ending.{does_as}
 use Rattle.session_steps.proofs.Joins.{view_at}
+use Rattle.session_steps.proofs.Saves.{saves_none}
 use Rattle.session_steps.proofs.Seen.{view_from-but_locks}
-use Rattle.session_steps.specs.Doing.{Does, changed_all}
+use Rattle.session_steps.specs.Doing.{Does}
+use Rattle.session_steps.specs.Saving.{kept_after, saved_all}
 use Rattle.session_steps.specs.Parts.{ForEach, Part, but_locks}
 use Rattle.session_steps.specs.Work.{WorkNow, view_of}
 use Rattle.upload.proofs.Tending.{IsTended, tended_one}
@@ -47,19 +49,25 @@ sees P sort a b h =
       shown = (view_from v h.went.deeds).shown;
       part = h.part None;
       is = view_from-but_locks v h.went.deeds
-          ∙ view_at sort a b h.went h.told None (h.unfinished None);
+          ∙ view_at sort a b h.went h.told None (h.stands None);
     }
 
 -- what was kept of resources is kept
 blobs_changed : (kept : Option Kept) (changes : List Change)
-    → blobs_of (option_map (changed_all changes) kept) ≡ blobs_of kept
+    → blobs_of (option_map (kept_after changes []) kept) ≡ blobs_of kept
+unfolding saved_all
 blobs_changed None changes = refl
 blobs_changed (Some k) changes = refl
 
-pub same_blobs : (P : Part) (sort : Call → Bool) (a b : WorkNow) → Does P sort a b
+pub same_blobs : (P : Part) (a b : WorkNow) → Does P is_upload a b
     → blobs_of b.desk.keeper.kept ≡ blobs_of a.desk.keeper.kept
-same_blobs P sort a b h =
-    ap blobs_of h.went.kept ∙ blobs_changed a.desk.keeper.kept (changes_in h.went.deeds)
+same_blobs P a b h =
+    let changes = changes_in h.went.deeds in
+    let none = saves_none is_upload a b h.went (λ id. refl) in
+    ap blobs_of h.went.kept
+    ∙ (ap (λ (bs : List Blob). blobs_of (option_map (kept_after changes bs) a.desk.keeper.kept))
+    none
+    ∙ blobs_changed a.desk.keeper.kept changes)
 
 -- ---- one row
 

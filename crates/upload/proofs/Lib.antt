@@ -5,6 +5,5 @@ pub mod Waiting
 pub mod Tending
 pub mod Left
 pub mod Folders
-pub mod Moved
 pub mod Licensed
 pub mod Uploaded

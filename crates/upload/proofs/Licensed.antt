@@ -36,7 +36,7 @@ use Rattle.session_steps.specs.Reported.{after_call, is_bad}
 use Rattle.session_steps.specs.Work.{IsReady, WorkNow, view_of, work}
 use Rattle.session_steps.specs.declared.finding.Finding.{Finding}
 use Rattle.session_steps.specs.declared.finding.Finding.TheVariants.{Same, Other}
-use Rattle.upload.proofs.Checked.{bad_is_unreadable, base_found, other_found}
+use Rattle.session_steps.proofs.Found.{bad_is_unreadable, base_found, other_found}
 use Rattle.upload.proofs.Loaded.{put_done}
 use Rattle.upload.specs.Found.{HasChecked, IsFound}
 use Rattle.upload.specs.Uploading.{PutsIfNew, PutsKept, PutsText, is_new_resource, is_upload}

@@ -22,14 +22,15 @@ use Rattle.local_store.specs.declared.blob.Blob.{Blob}
 use Rattle.local_store.specs.declared.change.Change.TheVariants.{Uploaded}
 use Rattle.local_store.specs.declared.content.Content.{Content}
 use Rattle.local_store.specs.declared.row.Row.{Row}
-use Rattle.session_steps.specs.Findings.{finding_of}
+use Rattle.session_steps.specs.Findings.{finding_of, waiting}
 use Rattle.session_steps.specs.Parts.{Changes, ForEach, Hears, Nothing, Part, Then}
 use Rattle.session_steps.specs.declared.finding.Finding.{Finding}
 use Rattle.session_steps.specs.declared.finding.Finding.TheVariants.{Same, Other, Missing, Unreadable}
 use Rattle.upload.proofs.Checked.{no_item}
 use Rattle.upload.proofs.Waiting.{Keeps, conflict_still, keeps_conflict, keeps_moved, keeps_on, keeps_same, keeps_uploaded, uploaded_still}
 use Rattle.upload.specs.Settled.{IsNoItem, WasUnreadable}
-use Rattle.upload.specs.Uploading.{Clears, ClearsIf, IsAnswer, Puts, PutsIfNew, PutsKept, PutsText, PutsThese, Settles, UploadsFound, UploadsOne, UploadsRow, Yields, bytes_of, is_new_resource, waiting}
+use Rattle.session_steps.specs.Asking.{IsAnswer}
+use Rattle.upload.specs.Uploading.{Clears, ClearsIf, Puts, PutsIfNew, PutsKept, PutsText, PutsThese, Settles, UploadsFound, UploadsOne, UploadsRow, Yields, bytes_of, is_new_resource}
 
 -- Rows that wait are kept, items of other ids aren't put, and what was heard isn't forgotten.
 pub record Tends (id : List ℕ) (v w : View) : Type 0 where

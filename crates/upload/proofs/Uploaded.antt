@@ -22,7 +22,8 @@ use Rattle.session_steps.specs.declared.finding.Finding.{Finding}
 use Rattle.session_steps.specs.declared.finding.Finding.TheVariants.{Unreadable}
 use Rattle.upload.specs.Conditions.{AreUnput, is_new}
 use Rattle.upload.specs.Found.{HasChecked}
-use Rattle.upload.specs.Uploading.{Settles, UploadsFound, UploadsOne, UploadsRow, is_upload, waiting}
+use Rattle.session_steps.specs.Findings.{waiting}
+use Rattle.upload.specs.Uploading.{Settles, UploadsFound, UploadsOne, UploadsRow, is_upload}
 
 -- the check, and then what is done
 pub uploads_row : (blobs own : Option (List Blob)) (row : Row) (finding : Finding)

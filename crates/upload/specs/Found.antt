@@ -10,12 +10,13 @@ use Rattle.licences.specs.Trails.{session_calls}
 use Rattle.licences.specs.Views.{Heard}
 use Rattle.local_store.specs.Tables.{row_at}
 use Rattle.local_store.specs.declared.row.Row.{Row}
+use Rattle.session_steps.specs.Asking.{IsAnswer}
 use Rattle.session_steps.specs.Doing.{Does, GivesUp}
 use Rattle.session_steps.specs.Findings.{finding_of}
 use Rattle.session_steps.specs.Parts.{Hears}
 use Rattle.session_steps.specs.Work.{WorkNow}
 use Rattle.session_steps.specs.declared.finding.Finding.{Finding}
-use Rattle.upload.specs.Uploading.{IsAnswer, is_upload}
+use Rattle.upload.specs.Uploading.{is_upload}
 
 -- a get of the row's file
 abbrev pub got : Row → Reply → Heard

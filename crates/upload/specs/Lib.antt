@@ -3,4 +3,3 @@ pub mod Uploading
 pub mod Settled
 pub mod Conditions
 pub mod Found
-pub mod Moving

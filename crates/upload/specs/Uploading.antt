@@ -4,11 +4,10 @@ use Rattle.conflicts.specs.Rules.{conflict_change, folder_gone_changes}
 use Rattle.item_text.specs.Grammar.{written}
 use Rattle.jop_base.specs.Keyed.{at}
 use Rattle.jop_base.specs.declared.path.Path.TheVariants.{Item}
-use Rattle.jop_target.specs.Replies.{IsReplyTo}
 use Rattle.jop_target.specs.declared.call.Call.{Call}
 use Rattle.jop_target.specs.declared.call.Call.TheVariants.{Get, Put, PutBlob}
 use Rattle.jop_target.specs.declared.reply.Reply.{Reply}
-use Rattle.jop_target.specs.declared.reply.Reply.TheVariants.{Done, Failed}
+use Rattle.jop_target.specs.declared.reply.Reply.TheVariants.{Done}
 use Rattle.licences.specs.Items.{is_folder, is_resource}
 use Rattle.local_store.specs.Keepers.{Kept}
 use Rattle.local_store.specs.Rows.{blob_id, item_of, row_id}
@@ -18,7 +17,8 @@ use Rattle.local_store.specs.declared.change.Change.TheVariants.{Uploaded}
 use Rattle.local_store.specs.declared.content.Content.{Content}
 use Rattle.local_store.specs.declared.row.Row.{Row}
 use Rattle.local_store.specs.declared.tables.Tables.{Tables}
-use Rattle.session_steps.specs.Findings.{finding_of}
+use Rattle.session_steps.specs.Asking.{IsAnswer}
+use Rattle.session_steps.specs.Findings.{finding_of, waiting}
 use Rattle.session_steps.specs.Parts.{Changes, ForEach, Hears, Nothing, Part, Then}
 use Rattle.session_steps.specs.declared.finding.Finding.{Finding}
 use Rattle.session_steps.specs.declared.finding.Finding.TheVariants.{Same, Other, Missing, Unreadable}
@@ -92,10 +92,6 @@ Settles blobs row (Other remote) = Yields row (Some remote)
 Settles blobs row Missing = Then (Clears row) (Yields row None)
 Settles blobs row Unreadable = Nothing
 
--- a reply that fits the call, and isn't that it failed
-abbrev pub IsAnswer : Call → Reply → Type 0
-IsAnswer call reply = IsReplyTo call reply × ¬ (reply ≡ Failed)
-
 -- the file is got, and then that is done
 abbrev pub UploadsRow : Option (List Blob) → Row → Part
 UploadsRow blobs row v ds =
@@ -105,11 +101,6 @@ UploadsRow blobs row v ds =
 abbrev pub UploadsFound : Option (List Blob) → Option Row → Part
 UploadsFound blobs None = Nothing
 UploadsFound blobs (Some row) = UploadsRow blobs row
-
--- the row, if it waits
-abbrev pub waiting : Option Row → Option Row
-waiting None = None
-waiting (Some row) = if row.pending then Some row else None
 
 -- the row of the id is uploaded, if it waits still
 abbrev pub UploadsOne : Option (List Blob) → List ℕ → Part

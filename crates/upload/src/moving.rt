@@ -1,88 +1,22 @@
-ghost use Rattle.std.specs.Prelude.{◌≡◌, Bool, OnOk, Option, true};
+ghost use Rattle.std.specs.Prelude.{◌≡◌, Bool, OnOk, true};
 ghost use Rattle.desk.specs.Desks.{IsTidy};
 ghost use Rattle.jop_target.specs.declared.call.Call.{Call};
 ghost use Rattle.lease.specs.Standing.{IsHeld};
 ghost use Rattle.lease.specs.declared.lease.Lease.{Lease};
 ghost use Rattle.licences.specs.Items.{is_folder};
-ghost use Rattle.licences.specs.Trails.{session_calls};
-ghost use Rattle.licences.specs.Views.{Shown};
-ghost use Rattle.local_store.specs.Changing.{after, after_all};
 ghost use Rattle.local_store.specs.Rows.{item_of};
 ghost use Rattle.session_steps.specs.Doing.{Ends};
-ghost use Rattle.session_steps.specs.Parts.{Changes, ForEach};
-ghost use Rattle.session_steps.specs.Work.{view_of, work};
+ghost use Rattle.session_steps.specs.Work.{work};
 ghost use Rattle.session_steps.specs.declared.finding.Finding.TheVariants.{Missing};
 ghost use Rattle.upload.specs.Found.{IsFound};
-ghost use Rattle.upload.specs.Moving.{MayMakeAll, MayMakeNow};
 ghost use Rattle.upload.specs.Uploading.{Clears, ClearsIf};
 
 use conflicts::{StepErr, SyncReport, folder_gone_changes};
 use desk::Desk;
 use item_kinds::Kind;
-use jop_base::Copied;
-use local_store::{Change, Row, has_kind};
-use session_steps::make;
+use local_store::{Row, has_kind};
+use session_steps::make_each;
 use std::alloc::Global;
-
-/// Makes a change that stays where it is.
-fn make_copy<S: Desk>(
-    alloc: Global,
-    site: &mut S,
-    report: &mut SyncReport,
-    change: &Change,
-) -> Result<(), StepErr>
-    requires tidy { IsTidy (S.desk site.old) }
-    requires may { (shown : Option Shown)
-        → MayMakeNow (view_of shown (S.desk site.old)) change.now }
-
-    ensures tidy { OnOk result (IsTidy (S.desk site.new)) }
-    ensures tables { OnOk result
-        ((S.desk site.new).tables ≡ after (S.desk site.old).tables change.now) }
-    ensures calls { OnOk result (session_calls (S.desk site.new).line.trail
-        ≡ session_calls (S.desk site.old).line.trail) }
-    ensures held { OnOk result ((lease : Lease) → IsHeld lease (S.desk site.old).line.trail
-        → IsHeld lease (S.desk site.new).line.trail) }
-    ensures makes { (sort : Call → Bool) (lease : Lease)
-        → IsHeld lease (S.desk site.old).line.trail
-        → Ends (Changes change.now) sort (work (S.desk site.old) lease report.old) result
-        (work (S.desk site.new) lease report.new) }
-    ensures stays { S.stays site.old site.new }
-{
-    let copy = change.copy(alloc)?;
-    make(alloc, site, report, copy)?;
-    Ok(())
-}
-
-/// Makes changes one after the other.
-fn make_each<S: Desk>(
-    alloc: Global,
-    site: &mut S,
-    report: &mut SyncReport,
-    changes: &[Change],
-) -> Result<(), StepErr>
-    requires tidy { IsTidy (S.desk site.old) }
-    requires may { (shown : Option Shown)
-        → MayMakeAll (view_of shown (S.desk site.old)) changes.now }
-
-    ensures tidy { OnOk result (IsTidy (S.desk site.new)) }
-    ensures tables { OnOk result
-        ((S.desk site.new).tables ≡ after_all (S.desk site.old).tables changes.now) }
-    ensures calls { OnOk result (session_calls (S.desk site.new).line.trail
-        ≡ session_calls (S.desk site.old).line.trail) }
-    ensures held { OnOk result ((lease : Lease) → IsHeld lease (S.desk site.old).line.trail
-        → IsHeld lease (S.desk site.new).line.trail) }
-    ensures makes { (sort : Call → Bool) (lease : Lease)
-        → IsHeld lease (S.desk site.old).line.trail
-        → Ends (ForEach Changes changes.now) sort
-        (work (S.desk site.old) lease report.old) result
-        (work (S.desk site.new) lease report.new) }
-    ensures stays { S.stays site.old site.new }
-{
-    for index in 0..changes.len() {
-        make_copy(alloc, site, report, &changes[index])?;
-    }
-    Ok(())
-}
 
 /// Moves the notes out of a folder whose file is gone.
 fn move_notes<S: Desk>(

@@ -4,13 +4,13 @@ ghost use Rattle.licences.specs.Puts.{has_put};
 ghost use Rattle.licences.specs.Trails.{session_calls};
 ghost use Rattle.local_store.specs.Tables.{row_at};
 ghost use Rattle.session_steps.specs.Doing.{Ends};
-ghost use Rattle.session_steps.specs.Findings.{IsSoundFinding};
+ghost use Rattle.session_steps.specs.Findings.{IsSoundFinding, waiting};
 ghost use Rattle.session_steps.specs.Parts.{ForEach};
 ghost use Rattle.session_steps.specs.Work.{IsReady, work};
 ghost use Rattle.upload.specs.Conditions.{AreUnput, CanPut, IsReadable};
 ghost use Rattle.upload.specs.Found.{IsFound};
 ghost use Rattle.upload.specs.Settled.{AreLeft, AreSettled};
-ghost use Rattle.upload.specs.Uploading.{Settles, Uploads, UploadsOne, UploadsRow, blobs_of, is_upload, pending_ids, waiting};
+ghost use Rattle.upload.specs.Uploading.{Settles, Uploads, UploadsOne, UploadsRow, blobs_of, is_upload, pending_ids};
 
 use crate::checking::check;
 use crate::putting::put_row;
@@ -20,7 +20,7 @@ use desk::Desk;
 use jop_base::{Copied, Id, Seq};
 use lease::Lease;
 use local_store::{Row, Tables};
-use session_steps::Finding;
+use session_steps::{Finding, waiting_row};
 use std::alloc::{AllocError, Global};
 
 /// Does with a row that waits what its file asks for.
@@ -79,16 +79,6 @@ fn upload_row<S: Desk>(
     let finding = check(alloc, site, lease, report, row)?;
     settle(alloc, site, lease, report, row, finding)?;
     Ok(())
-}
-
-/// The row of this id, if it waits.
-fn waiting_row(alloc: Global, tables: &Tables, id: &Id) -> Result<Option<Row>, AllocError>
-    ensures { IfOk result (λ row. row ≡ waiting (row_at tables.now id.now)) }
-{
-    match tables.rows.at(id) {
-        Some(row) if row.pending => Ok(Some(row.copy(alloc)?)),
-        _ => Ok(None),
-    }
 }
 
 /// Uploads the row of this id, if it still waits.

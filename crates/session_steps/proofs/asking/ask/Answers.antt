@@ -1,7 +1,7 @@
 use Rattle.std.specs.Prelude.{Ok, Err}
 use Rattle.std.proofs.Common.{subst}
 use Rattle.lease.specs.declared.error.LeaseErr.{LeaseErr}
-use Rattle.session_steps.proofs.Asked.{asked_ok, asks_err, is_answered, works_at}
+use Rattle.session_steps.proofs.Asked.{are_bytes, asked_ok, asks_err, is_answered, works_at}
 use Rattle.session_steps.specs.Asking.{Asks, step_of_lease}
 use Rattle.session_steps.proofs.asking.ask.Goals as goal
 
@@ -81,3 +81,14 @@ returns-in-Err-NoMemory-clause-asks g c =
     (works_at before after c.args.call c.args.blob.now c.call_held.new.blob old.line new.line _ _
     (Err c.in-Err-NoMemory.field-0) (g.met.S.Desk.same_line c.args.site.now)
     (g.met.S.Desk.same_line c.call_held.new.line) c.in-Err-NoMemory.ensures.gives))
+
+pub returns-in-Ok-clause-blob : goal.returns-in-Ok-clause-blob
+returns-in-Ok-clause-blob g c =
+    let old = g.S.Desk.desk c.args.site.now in
+    let new = g.S.Desk.desk c.call_held.new.line in
+    let before = c.args.lease.now in
+    let after = c.call_held.new.lease in
+    are_bytes old new before after c.args.call c.args.blob.now c.call_held.new.blob
+    (works_at before after c.args.call c.args.blob.now c.call_held.new.blob old.line new.line _ _
+    (Ok tt) (g.met.S.Desk.same_line c.args.site.now)
+    (g.met.S.Desk.same_line c.call_held.new.line) c.in-Ok.ensures.gives)

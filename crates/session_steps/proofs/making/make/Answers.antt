@@ -1,55 +1,15 @@
-use Rattle.std.specs.Prelude.{length, refl, Err}
-use Rattle.std.proofs.Common.{◌∙◌, ap, subst}
-use Rattle.conflicts.specs.Reports.{with_tally}
-use Rattle.desk.specs.Desks.{Commits}
-use Rattle.jop_target.specs.Trail.{LineNow}
-use Rattle.local_store.specs.Keepers.{HasCause}
-use Rattle.local_store.specs.declared.keeper_err.KeeperErr.{KeeperErr}
-use Rattle.session_steps.proofs.Committed.{calls_made, does_made, fails_unmade, held_made, went_either}
+use Rattle.std.specs.Prelude.{None, refl}
+use Rattle.std.proofs.lemmas.Result.{err_from_is_err_and}
+use Rattle.session_steps.proofs.Ending.{does_there}
 use Rattle.session_steps.proofs.making.make.Goals as goal
 
-pub returns-in-Ok-clause-calls : goal.returns-in-Ok-clause-calls
-returns-in-Ok-clause-calls g c =
-    let old = g.S.Desk.desk c.args.site.now in
-    calls_made old.line.trail _ (length old.made)
-    (ap (λ (l : LineNow). l.trail) c.in-Ok.ensures.commits.made.line)
+pub returns-clause-makes : goal.returns-clause-makes
+returns-clause-makes g c = λ sort lease held.
+    does_there c.requires.more
+    (c.in_ok-make_shown.ensures.makes None sort lease (λ shown fits. c.requires.may shown) held)
 
-pub returns-in-Ok-clause-held : goal.returns-in-Ok-clause-held
-returns-in-Ok-clause-held g c =
-    let old = g.S.Desk.desk c.args.site.now in
-    λ lease held.
-    held_made lease old.line.trail _ (length old.made)
-    (ap (λ (l : LineNow). l.trail) c.in-Ok.ensures.commits.made.line) held
-
-pub returns-in-Ok-clause-makes : goal.returns-in-Ok-clause-makes
-returns-in-Ok-clause-makes g c =
-    let old = g.S.Desk.desk c.args.site.now in
-    let new = g.S.Desk.desk c.commit.new.self in
-    λ sort lease held.
-    does_made sort old new lease c.args.report.now c.count.new.self c.args.change
-    c.in-Ok.ensures.commits (c.in-Ok.ensures.cause.stays (λ e. cc)) c.requires.allowed
-    c.requires.may c.requires.more
-    (c.count.ensures ∙ ap (with_tally c.args.report.now) c.of-tally.ensures) held
-
-pub returns-in-Err-Fault-clause-makes : goal.returns-in-Err-Fault-clause-makes
-returns-in-Err-Fault-clause-makes g c =
-    let old = g.S.Desk.desk c.args.site.now in
-    let new = g.S.Desk.desk c.commit.new.self in
-    let none = subst (λ (e : KeeperErr). Commits c.args.change old (Err e) new)
-    c.in-Err-Fault.field-0-is c.in-Err-Fault.ensures.commits in
-    let cause = subst
-    (λ (e : KeeperErr). HasCause {T = Unit {0}} old.keeper.faults (Err e) new.keeper.faults)
-    c.in-Err-Fault.field-0-is c.in-Err-Fault.ensures.cause in
-    λ sort lease held.
-    fails_unmade sort old new lease c.args.report.now none (cause.failed refl) cause.later
-    c.requires.tidy held
-
-pub returns-in-Err-NoMemory-clause-makes : goal.returns-in-Err-NoMemory-clause-makes
-returns-in-Err-NoMemory-clause-makes g c =
-    let old = g.S.Desk.desk c.args.site.now in
-    let new = g.S.Desk.desk c.commit.new.self in
-    let either = subst (λ (e : KeeperErr). Commits c.args.change old (Err e) new)
-    c.in-Err-NoMemory.field-0-is c.in-Err-NoMemory.ensures.commits in
-    λ sort lease held.
-    went_either sort old new lease c.args.report.now c.args.change either
-    c.in-Err-NoMemory.ensures.cause.later c.requires.allowed c.requires.may held
+pub returns-in_err-make_shown-clause-makes : goal.returns-in_err-make_shown-clause-makes
+returns-in_err-make_shown-clause-makes g c = λ sort lease held.
+    let p = err_from_is_err_and c.from_residual.result c.from_residual.ensures.1 in
+    rw (p.1, p.2)
+    (c.in_err-make_shown.ensures.makes None sort lease (λ shown fits. c.requires.may shown) held)

@@ -6,7 +6,8 @@ use Rattle.local_store.specs.declared.tables.Tables.{Tables}
 use Rattle.session_steps.proofs.Ending.{does_nothing}
 use Rattle.session_steps.specs.Work.{work}
 use Rattle.upload.proofs.Uploaded.{unput_at, uploads_found, waits}
-use Rattle.upload.specs.Uploading.{blobs_of, is_upload, waiting}
+use Rattle.session_steps.specs.Findings.{waiting}
+use Rattle.upload.specs.Uploading.{blobs_of, is_upload}
 use Rattle.upload.proofs.uploading.upload_one.Goals as goal
 
 pub returns-in_err-waiting-clause-uploads : goal.returns-in_err-waiting-clause-uploads

@@ -7,10 +7,10 @@ use Rattle.licences.specs.Trails.{session_calls}
 use Rattle.licences.specs.Views.{Shown}
 use Rattle.local_store.specs.Changing.{after_all}
 use Rattle.session_steps.specs.Doing.{Does}
+use Rattle.session_steps.specs.Making.{MayMakeAllBy}
 use Rattle.session_steps.specs.Parts.{Changes, ForEach}
-use Rattle.session_steps.specs.Work.{view_of, work}
-use Rattle.upload.specs.Moving.{MayMakeAll}
-use Rattle.upload.proofs.moving.make_each.Given as goal
+use Rattle.session_steps.specs.Work.{work_by}
+use Rattle.session_steps.proofs.several.make_each.Given as goal
 
 -- those before here are made, and those from here on may be
 abbrev pub invariant-loop-index : goal.invariant-loop-index
@@ -22,9 +22,11 @@ invariant-loop-index g l =
       tables : now.tables ≡ after_all then.tables (take l.index l.changes);
       calls : session_calls now.line.trail ≡ session_calls then.line.trail;
       held : (lease : Lease) → IsHeld lease then.line.trail → IsHeld lease now.line.trail;
-      may : (shown : Option Shown) → MayMakeAll (view_of shown now) (drop l.index l.changes);
-      does : (sort : Call → Bool) (lease : Lease) → IsHeld lease then.line.trail
-          → Does (ForEach Changes (take l.index l.changes)) sort (work then lease l.fn.report)
-          (work now lease l.report);
+      may : (known : Option Shown) → MayMakeAllBy known then l.changes
+          → MayMakeAllBy known now (drop l.index l.changes);
+      does : (known : Option Shown) (sort : Call → Bool) (lease : Lease)
+          → MayMakeAllBy known then l.changes → IsHeld lease then.line.trail
+          → Does (ForEach Changes (take l.index l.changes)) sort
+          (work_by known then lease l.fn.report) (work_by known now lease l.report);
       stays : g.S.Desk.stays l.fn.site l.site;
     }

@@ -1,0 +1,2 @@
+pub mod Downloading
+pub mod Reading
