@@ -1,0 +1,3 @@
+pub mod Wider
+pub mod Merging
+pub mod Telling

@@ -1,0 +1,157 @@
+-- What is told of a client, put together.
+use Rattle.std.specs.Prelude.{ℕ, ◌≡◌, List, [], ◌∷◌, ◌++◌, All, Bool, length, Option, option_map, refl}
+use Rattle.std.proofs.Common.{sym, ◌∙◌, ap, subst, append-nil, append_assoc}
+use Rattle.desk.specs.Desks.{DeskNow, IsSameDesk}
+use Rattle.jop_target.specs.declared.call.Call.{Call}
+use Rattle.jop_target.specs.declared.event.Event.{Event}
+use Rattle.jop_target.specs.declared.event.Event.TheVariants.{Began, Ended}
+use Rattle.jop_target.specs.Trail.{LineNow}
+use Rattle.lease.specs.Calls.{IsLeaseEvent, LeaseGoesOn}
+use Rattle.licences.proofs.Joins.{Each-append, view_from-append}
+use Rattle.licences.proofs.Settled.{stays_inside}
+use Rattle.licences.proofs.Told.{AreWork-append, changes_in-append, events_of-append}
+use Rattle.licences.specs.Deeds.{Deed, Begins, Asks, Makes, MakesUntold, Ends, Stops, changes_in, events_of}
+use Rattle.licences.specs.Licences.{AreWork, Each, IsInside, MayDo, MayMerge, MergesInfo, ObeysData}
+use Rattle.licences.specs.Views.{Shown, Stage, View, seen, view_from}
+use Rattle.local_store.specs.Changing.{after_all}
+use Rattle.local_store.specs.Keepers.{Kept, KeeperNow}
+use Rattle.local_store.specs.declared.blob.Blob.{Blob}
+use Rattle.local_store.specs.declared.change.Change.{Change}
+use Rattle.session_steps.proofs.Asked.{kept-same}
+use Rattle.session_steps.proofs.Joins.{count_is, kept_after-append, trail_is}
+use Rattle.session_steps.proofs.LockDeeds.{AreCalls-locks, AreLocks, AreWork-calls, changes_in-calls, obeys-locks, told_locks, view_from-locks}
+use Rattle.session_steps.specs.Doing.{Went}
+use Rattle.session_steps.specs.Saving.{kept_after}
+use Rattle.session_steps.specs.Work.{Fits, WorkNow, view_of}
+use Rattle.sync_session.proofs.Merging.{merges_own}
+use Rattle.sync_session.specs.Telling.{Tells, TellsWork}
+
+-- ---- inside
+
+pub inside-work : (v : View) (ds : List Deed) → IsInside v.stage → AreWork ds
+    → IsInside (view_from v ds).stage
+unfolding AreWork view_from
+inside-work v [] inside work = inside
+inside-work v (Asks call reply ∷ ds) inside work =
+    inside-work (seen v (Asks call reply)) ds inside work
+inside-work v (Makes change ∷ ds) inside work =
+    inside-work (seen v (Makes change)) ds (stays_inside v.stage change inside) work.1
+inside-work v (Begins ∷ ds) inside work = absurd work
+inside-work v (MakesUntold ∷ ds) inside work = absurd work
+inside-work v (Ends ∷ ds) inside work = absurd work
+inside-work v (Stops ∷ ds) inside work = absurd work
+
+-- ---- a part of a session
+
+pub tells_went : (sort : Call → Bool) (a b : WorkNow) (shown : Option Shown) (w : Went sort a b)
+    → Fits a.known shown → MergesInfo (view_of shown a.desk) w.deeds
+    → TellsWork (view_of shown a.desk) a.desk b.desk
+tells_went sort a b shown w fits merges = record {
+  tells = record {
+    deeds = w.deeds;
+    saves = w.saves;
+    trail = w.trail;
+    made = w.made;
+    kept = w.kept;
+    obeys = w.obeys shown fits;
+    merges = merges;
+  };
+  work = w.work;
+}
+
+-- ---- one behind the other
+
+pub tells_on : (v : View) (a b c : DeskNow) (h : TellsWork v a b)
+    → TellsWork (view_from v h.tells.deeds) b c → TellsWork v a c
+tells_on v a b c h k =
+    let n = length a.made in
+    let m = length b.made in
+    let ds = h.tells.deeds in
+    let es = k.tells.deeds in
+    let changes = changes_in-append ds es in
+    let both : events_of n (ds ++ es) ≡ events_of n ds ++ events_of m es =
+    events_of-append n ds es h.work
+    ∙ ap (λ (i : ℕ). events_of n ds ++ events_of i es) (count_is a.made b.made ds h.tells.made) in
+    record {
+      tells = record {
+        deeds = ds ++ es;
+        saves = h.tells.saves ++ k.tells.saves;
+        trail = trail_is a.line.trail b.line.trail c.line.trail n m ds es h.tells.trail
+            k.tells.trail both;
+        made =
+            k.tells.made ∙ (ap (λ (x : List Change). x ++ changes_in es) h.tells.made
+            ∙ (append_assoc a.made (changes_in ds) (changes_in es)
+            ∙ ap (λ (x : List Change). a.made ++ x) (sym changes)));
+        kept =
+            k.tells.kept
+            ∙ (ap (option_map (kept_after (changes_in es) k.tells.saves)) h.tells.kept
+            ∙ (kept_after-append a.keeper.kept (changes_in ds) (changes_in es) h.tells.saves
+            k.tells.saves
+            ∙ ap (λ (x : List Change).
+            option_map (kept_after x (h.tells.saves ++ k.tells.saves)) a.keeper.kept)
+            (sym changes)));
+        obeys = Each-append MayDo v ds es h.tells.obeys k.tells.obeys;
+        merges = Each-append MayMerge v ds es h.tells.merges k.tells.merges;
+      };
+      work = AreWork-append ds es h.work k.work;
+    }
+
+-- ---- calls of a lease
+
+nothing_put : (v : View) (ds : List Deed) (client : List ℕ) → AreLocks client ds → MergesInfo v ds
+unfolding AreLocks Each
+nothing_put v [] client h = tt
+nothing_put v (Asks call reply ∷ ds) client h =
+    (merges_own client v call reply h.0, nothing_put (seen v (Asks call reply)) ds client h.1)
+nothing_put v (Begins ∷ ds) client h = absurd h
+nothing_put v (Makes c ∷ ds) client h = absurd h
+nothing_put v (MakesUntold ∷ ds) client h = absurd h
+nothing_put v (Ends ∷ ds) client h = absurd h
+nothing_put v (Stops ∷ ds) client h = absurd h
+
+-- what a lease called, while nothing else was done
+pub record TellsLocks (client : List ℕ) (v : View) (a b : DeskNow) : Type 0 where
+  pub work : TellsWork v a b
+  pub same : view_from v work.tells.deeds ≡ v
+
+pub tells_locks : (client : List ℕ) (v : View) (a b : DeskNow) → IsInside v.stage
+    → IsSameDesk a b → LeaseGoesOn client a.line b.line → TellsLocks client v a b
+tells_locks client v a b inside same goes =
+    let n = length a.made in
+    let told = told_locks client n goes.line.more goes.line.each in
+    let none = changes_in-calls told.deeds (AreCalls-locks client told.deeds told.locks) in
+    record {
+      work = record {
+        tells = record {
+          deeds = told.deeds;
+          saves = [];
+          trail = goes.line.trail ∙ ap (λ (es : List Event). a.line.trail ++ es) (sym told.told);
+          made =
+              same.made ∙ (sym (append-nil a.made)
+              ∙ ap (λ (cs : List Change). a.made ++ cs) (sym none));
+          kept =
+              ap (λ (k : KeeperNow). k.kept) same.keeper
+              ∙ kept-same a.keeper.kept (changes_in told.deeds) none;
+          obeys = obeys-locks client v told.deeds inside told.locks;
+          merges = nothing_put v told.deeds client told.locks;
+        };
+        work = AreWork-calls told.deeds (AreCalls-locks client told.deeds told.locks);
+      };
+      same = view_from-locks client v told.deeds told.locks;
+    }
+
+-- behind work of the session
+pub tells_left : (client : List ℕ) (v : View) (a b c : DeskNow) → IsInside v.stage
+    → TellsWork v a b → IsSameDesk b c → LeaseGoesOn client b.line c.line → TellsWork v a c
+tells_left client v a b c inside h same goes =
+    tells_on v a b c h
+    (tells_locks client (view_from v h.tells.deeds) b c
+    (inside-work v h.tells.deeds inside h.work) same goes).work
+
+-- or before it
+pub tells_had : (client : List ℕ) (v : View) (a b c : DeskNow) → IsInside v.stage
+    → IsSameDesk a b → LeaseGoesOn client a.line b.line → TellsWork v b c → TellsWork v a c
+tells_had client v a b c inside same goes k =
+    let locks = tells_locks client v a b inside same goes in
+    tells_on v a b c locks.work
+    (subst (λ (w : View). TellsWork w b c) (sym locks.same) k)

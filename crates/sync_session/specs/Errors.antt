@@ -1,0 +1,34 @@
+-- What the errors of its parts are for a sync.
+use Rattle.conflicts.specs.declared.error.StepErr.{StepErr}
+use Rattle.conflicts.specs.declared.error.StepErr.TheVariants as step_errors
+use Rattle.lease.specs.declared.error.LeaseErr.{LeaseErr}
+use Rattle.lease.specs.declared.error.LeaseErr.TheVariants as lease_errors
+use Rattle.local_store.specs.declared.keeper_err.KeeperErr.{KeeperErr}
+use Rattle.local_store.specs.declared.keeper_err.KeeperErr.TheVariants as keeper_errors
+use Rattle.opening.specs.declared.open_err.OpenErr.{OpenErr}
+use Rattle.opening.specs.declared.open_err.OpenErr.TheVariants as open_errors
+use Rattle.sync_session.specs.declared.sync_err.SyncErr.{SyncErr}
+use Rattle.sync_session.specs.declared.sync_err.SyncErr.TheVariants.{Busy, LeaseLost, TargetOlder, TargetNewer, BadInfo, FailSafe, TargetFault, KeeperFault, NoMemory}
+
+abbrev pub of_keeper : KeeperErr → SyncErr
+of_keeper keeper_errors.Fault = KeeperFault
+of_keeper keeper_errors.NoMemory = NoMemory
+
+abbrev pub of_lease : LeaseErr → SyncErr
+of_lease (lease_errors.Busy lock now) = Busy lock now
+of_lease (lease_errors.Lost seen) = LeaseLost seen
+of_lease lease_errors.TargetFault = TargetFault
+of_lease lease_errors.NoMemory = NoMemory
+
+abbrev pub of_step : StepErr → SyncErr
+of_step (step_errors.Lost seen) = LeaseLost seen
+of_step step_errors.TargetFault = TargetFault
+of_step step_errors.KeeperFault = KeeperFault
+of_step (step_errors.FailSafe count) = FailSafe count
+of_step step_errors.NoMemory = NoMemory
+
+abbrev pub of_opening : OpenErr → SyncErr
+of_opening (open_errors.Older version) = TargetOlder version
+of_opening (open_errors.Newer version) = TargetNewer version
+of_opening open_errors.BadInfo = BadInfo
+of_opening (open_errors.Step e) = of_step e

@@ -1,0 +1,6 @@
+pub mod Errors
+pub mod Keys
+pub mod Working
+pub mod Leaving
+pub mod Telling
+pub mod Syncing
