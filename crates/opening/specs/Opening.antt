@@ -1,0 +1,177 @@
+-- A session reads the info of its target, and makes one of it and the client's own.
+use Rattle.std.specs.Prelude.{ℕ, ◌≡◌, ◌⊎◌, ◌<◌, ◌++◌, List, Bool, true, false, Option, Some, None, Result, Ok, Err}
+use Rattle.conflicts.specs.declared.error.StepErr.{StepErr}
+use Rattle.conflicts.specs.declared.error.StepErr.TheVariants.{NoMemory}
+use Rattle.desk.specs.Desks.{DeskNow}
+use Rattle.jop_base.specs.declared.path.Path.TheVariants.{Info as InfoFile, OldVersion}
+use Rattle.jop_target.specs.declared.call.Call.{Call}
+use Rattle.jop_target.specs.declared.call.Call.TheVariants.{Get, Put}
+use Rattle.jop_target.specs.declared.event.Event.{Event}
+use Rattle.jop_target.specs.declared.reply.Reply.{Reply}
+use Rattle.jop_target.specs.declared.reply.Reply.TheVariants.{Got, Absent, Done, TooLarge}
+use Rattle.lease.specs.declared.lease.Lease.{Lease}
+use Rattle.licences.specs.Deeds.{deeds_of}
+use Rattle.licences.specs.Licences.{MergesInfo}
+use Rattle.licences.specs.Puts.{has_put}
+use Rattle.licences.specs.Trails.{session_calls}
+use Rattle.licences.specs.Views.{Shown}
+use Rattle.local_store.specs.declared.change.Change.{Change}
+use Rattle.local_store.specs.declared.change.Change.TheVariants.{InfoIs}
+use Rattle.opening.specs.declared.refusal.OpenErr.{OpenErr}
+use Rattle.opening.specs.declared.refusal.OpenErr.TheVariants.{Older, Newer, BadInfo, Step}
+use Rattle.session_steps.specs.Doing.{Does, GivesUp}
+use Rattle.session_steps.specs.Parts.{Part, Then, Nothing, Hears, Changes}
+use Rattle.session_steps.specs.Work.{WorkNow, view_of}
+use Rattle.sync_info.specs.Info.{IsInfo}
+use Rattle.sync_info.specs.Json.{info_text}
+use Rattle.sync_info.specs.Merge.{merged}
+use Rattle.sync_info.specs.Read.{info_in}
+use Rattle.sync_info.specs.declared.info.Info.{Info}
+use Rattle.target_upgrade.specs.Course.{course_of, is_current}
+use Rattle.target_upgrade.specs.Reading.{Gives, IsBadReply}
+use Rattle.target_upgrade.specs.Steps.{SUPPORTED}
+
+-- an opening gets the info and the old version's file, and puts an info of the supported version
+abbrev pub is_opening : Call → Bool
+is_opening (Get InfoFile) = true
+is_opening (Get OldVersion) = true
+is_opening (Put InfoFile content) = is_current content
+is_opening call = false
+
+-- ---- what is read
+
+-- the target's info is got, and is this one
+abbrev pub ReadsInfo : Info → Part
+ReadsInfo info v ds =
+    (now : ℕ) × ((content : List ℕ)
+    × ((info_in content ≡ Some info) × Hears (Get InfoFile) (Got now content) v ds))
+
+-- it is too large, or is no info
+abbrev pub ReadsBadInfo : Part
+ReadsBadInfo v ds =
+    (reply : Reply) × (IsBadReply reply × Hears (Get InfoFile) reply v ds)
+
+-- the version that the reply to the get of the old version's file tells: 1 if that is there in any form, and else 0
+abbrev pub IsOldVersion : ℕ → Reply → Type 0
+IsOldVersion version (Got now content) = version ≡ 1
+IsOldVersion version (TooLarge len) = version ≡ 1
+IsOldVersion version (Absent now) = version ≡ 0
+IsOldVersion version reply = ⊥
+
+-- the old version's file is got, and tells this version
+abbrev pub ReadsOldFile : ℕ → Part
+ReadsOldFile version v ds =
+    (reply : Reply) × (IsOldVersion version reply × Hears (Get OldVersion) reply v ds)
+
+-- there is no info, and so the old version's file tells the version
+abbrev pub ReadsOld : ℕ → Part
+ReadsOld version v ds =
+    (now : ℕ) × Then (Hears (Get InfoFile) (Absent now)) (ReadsOldFile version) v ds
+
+-- an info of this version is read
+abbrev pub ReadsInfoAt : ℕ → Part
+ReadsInfoAt version v ds = (info : Info) × ((info.version ≡ version) × ReadsInfo info v ds)
+
+-- the target is found to have this version
+abbrev pub ReadsVersion : ℕ → Part
+ReadsVersion version v ds = ReadsInfoAt version v ds ⊎ ReadsOld version v ds
+
+-- ---- what is made of it
+
+-- the info is put if it isn't the one that was read
+abbrev pub PutsInfo : Info → Info → Part
+PutsInfo info remote v ds =
+    ((info ≡ remote) × Nothing v ds)
+    ⊎ ((¬ (info ≡ remote))
+    × ((now : ℕ) × Hears (Put InfoFile (info_text info)) (Done now) v ds))
+
+-- it becomes the client's own if it isn't that already
+abbrev pub SetsInfo : Info → Part
+SetsInfo info v ds =
+    ((info ≡ v.tables.info) × Nothing v ds)
+    ⊎ ((¬ (info ≡ v.tables.info)) × Changes (InfoIs info) v ds)
+
+-- the one that was read and the client's own become one: on the target first, and then here
+abbrev pub Joins : Info → Part
+Joins remote v ds =
+    let info = merged v.tables.info remote in
+    Then (PutsInfo info remote) (SetsInfo info) v ds
+
+-- the info of a target of the supported version is read, and it and the client's own become one
+abbrev pub Opens : Part
+Opens v ds =
+    (remote : Info)
+    × ((remote.version ≡ SUPPORTED) × Then (ReadsInfo remote) (Joins remote) v ds)
+
+-- ---- the answers
+
+-- why a session isn't opened: by what was read of its target, or as a step gave nothing
+abbrev pub Refuses : (Call → Bool) → WorkNow → OpenErr → WorkNow → Type 0
+Refuses sort old (Older version) new =
+    (version < SUPPORTED) × Does (ReadsVersion version) sort old new
+Refuses sort old (Newer version) new =
+    (SUPPORTED < version) × Does (ReadsVersion version) sort old new
+Refuses sort old BadInfo new = Does ReadsBadInfo sort old new
+Refuses sort old (Step e) new = GivesUp sort old e new
+
+-- each answer, by its cause
+abbrev pub OpensOr : WorkNow → Result (Unit {0}) OpenErr → WorkNow → Type 0
+OpensOr old (Ok done) new = Does Opens is_opening old new
+OpensOr old (Err e) new = Refuses is_opening old e new
+
+-- an info was read, or none of the supported version
+abbrev pub ReadsOr : (Call → Bool) → WorkNow → Result Info OpenErr → WorkNow → Type 0
+ReadsOr sort old (Ok info) new = Does (ReadsInfo info) sort old new
+ReadsOr sort old (Err e) new = Refuses sort old e new
+
+-- the old version's file told the version of an old target
+abbrev pub ReadsOldOr : (Call → Bool) → WorkNow → Result ℕ StepErr → WorkNow → Type 0
+ReadsOldOr sort old (Ok version) new =
+    (version < SUPPORTED) × Does (ReadsOldFile version) sort old new
+ReadsOldOr sort old (Err e) new = GivesUp sort old e new
+
+-- what the reply to the get of the info tells: the info, or none if it isn't there
+abbrev pub Tells : Reply → Result (Option Info) OpenErr → Type 0
+Tells reply (Ok None) = (now : ℕ) × (reply ≡ Absent now)
+Tells reply (Ok (Some info)) = IsInfo info × Gives info reply
+Tells reply (Err BadInfo) = IsBadReply reply
+Tells reply (Err (Step e)) = e ≡ NoMemory
+Tells reply (Err e) = ⊥
+
+-- an info is taken exactly if its version is the supported one
+abbrev pub IsTaken : Info → Result Info OpenErr → Type 0
+IsTaken info (Ok same) = (same ≡ info) × (info.version ≡ SUPPORTED)
+IsTaken info (Err (Older version)) = (version ≡ info.version) × (version < SUPPORTED)
+IsTaken info (Err (Newer version)) = (version ≡ info.version) × (SUPPORTED < version)
+IsTaken info (Err e) = ⊥
+
+-- no step gave nothing, so that more may be done
+abbrev pub IsUnstopped : {R : Type 0} → Result R OpenErr → Type 0
+IsUnstopped (Ok value) = Unit {0}
+IsUnstopped (Err (Older version)) = Unit {0}
+IsUnstopped (Err (Newer version)) = Unit {0}
+IsUnstopped (Err BadInfo) = Unit {0}
+IsUnstopped (Err (Step e)) = ⊥
+
+-- ---- what lasts
+
+-- each put of the info that was made between has its licence, whatever the session was shown
+abbrev pub MergesBetween : DeskNow → DeskNow → Type 0
+MergesBetween old new =
+    (more : List Event) (changes : List Change) (shown : Option Shown)
+    → new.line.trail ≡ old.line.trail ++ more → new.made ≡ old.made ++ changes
+    → MergesInfo (view_of shown old) (deeds_of more changes)
+
+-- no item's file was put between, as far as the last session's calls tell
+abbrev pub PutsNoItem : DeskNow → DeskNow → Type 0
+PutsNoItem old new =
+    (id : List ℕ)
+    → has_put id (session_calls new.line.trail) ≡ has_put id (session_calls old.line.trail)
+
+-- the last session has done under its lease what it may
+abbrev pub IsLawful : Lease → DeskNow → Type 0
+IsLawful lease d = (course_of lease.client d.line.trail).lawful ≡ true
+
+-- it was told that the target has the supported version
+abbrev pub IsTold : Lease → DeskNow → Type 0
+IsTold lease d = (course_of lease.client d.line.trail).told ≡ true
