@@ -5,8 +5,8 @@ use Rattle.lease.specs.declared.error.LeaseErr.{LeaseErr}
 use Rattle.lease.specs.declared.error.LeaseErr.TheVariants as lease_errors
 use Rattle.local_store.specs.declared.keeper_err.KeeperErr.{KeeperErr}
 use Rattle.local_store.specs.declared.keeper_err.KeeperErr.TheVariants as keeper_errors
-use Rattle.opening.specs.declared.open_err.OpenErr.{OpenErr}
-use Rattle.opening.specs.declared.open_err.OpenErr.TheVariants as open_errors
+use Rattle.opening.specs.declared.refusal.OpenErr.{OpenErr}
+use Rattle.opening.specs.declared.refusal.OpenErr.TheVariants as open_errors
 use Rattle.sync_session.specs.declared.sync_err.SyncErr.{SyncErr}
 use Rattle.sync_session.specs.declared.sync_err.SyncErr.TheVariants.{Busy, LeaseLost, TargetOlder, TargetNewer, BadInfo, FailSafe, TargetFault, KeeperFault, NoMemory}
 

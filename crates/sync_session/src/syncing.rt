@@ -14,9 +14,10 @@ ghost use Rattle.licences.specs.Trails.{session_calls};
 ghost use Rattle.licences.specs.Views.{at_rest};
 ghost use Rattle.local_store.specs.Keepers.{Kept};
 ghost use Rattle.local_store.specs.declared.change.Change.{Change};
+ghost use Rattle.opening.specs.Opening.{IsLawful};
 ghost use Rattle.session_steps.specs.Steps.{IsStep};
 ghost use Rattle.session_steps.specs.Work.{IsReady, view_of};
-ghost use Rattle.target_upgrade.specs.Course.{ObeysLease, course_of};
+ghost use Rattle.target_upgrade.specs.Course.{ObeysLease};
 ghost use Rattle.sync_run.specs.Sessions.{IsMarkOr};
 ghost use Rattle.sync_session.specs.Syncing.{AddsFrom, AddsSync, EndsWork, HasBegunSync, IsSyncReleased, SyncGoesOn, begun_view, desk_at, sync_now};
 ghost use Rattle.sync_session.specs.Telling.{TellsWork};
@@ -192,7 +193,7 @@ fn sync_held<S: Desk>(
 ) -> Result<(), SyncErr>
     requires ready { IsReady (S.desk site.old) lease }
     requires sync { lease.kind ≡ LockKind.Sync }
-    requires lawful { (course_of lease.client (S.desk site.old).line.trail).lawful ≡ true }
+    requires lawful { IsLawful lease (S.desk site.old) }
     requires first { session_calls (S.desk site.old).line.trail ≡ [] }
 
     ensures ends { EndsWork lease (S.desk site.old) report.old result (S.desk site.new) report.new }

@@ -3,7 +3,7 @@ ghost use Rattle.jop_base.specs.declared.lock_name.LockKind.{LockKind};
 ghost use Rattle.lease.specs.Standing.{IsSameBut};
 ghost use Rattle.licences.specs.Trails.{session_calls};
 ghost use Rattle.session_steps.specs.Work.{IsReady, view_of, work};
-ghost use Rattle.target_upgrade.specs.Course.{course_of};
+ghost use Rattle.opening.specs.Opening.{IsLawful};
 ghost use Rattle.sync_session.specs.Telling.{TellsWork};
 ghost use Rattle.sync_session.specs.Working.{Works};
 
@@ -25,14 +25,14 @@ pub(crate) fn work<S: Desk>(
 ) -> Result<(), SyncErr>
     requires ready { IsReady (S.desk site.old) lease.old }
     requires sync { lease.old.kind ≡ LockKind.Sync }
-    requires lawful { (course_of lease.old.client (S.desk site.old).line.trail).lawful ≡ true }
+    requires lawful { IsLawful lease.old (S.desk site.old) }
     requires first { session_calls (S.desk site.old).line.trail ≡ [] }
 
     ensures lease { IsSameBut lease.old lease.new }
     ensures works { Works (work (S.desk site.old) lease.old report.old) result
         (work (S.desk site.new) lease.new report.new) }
     ensures tells { TellsWork (view_of None (S.desk site.old)) (S.desk site.old) (S.desk site.new) }
-    ensures lawful { (course_of lease.new.client (S.desk site.new).line.trail).lawful ≡ true }
+    ensures lawful { IsLawful lease.new (S.desk site.new) }
     ensures stays { S.stays site.old site.new }
 {
     open(alloc, site, lease, report)?;
