@@ -5,3 +5,4 @@ pub mod Exchanged
 pub mod Worked
 pub mod Left
 pub mod Whole
+pub mod Promised

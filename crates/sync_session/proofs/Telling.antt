@@ -9,7 +9,7 @@ use Rattle.jop_target.specs.Trail.{LineNow}
 use Rattle.lease.specs.Calls.{IsLeaseEvent, LeaseGoesOn}
 use Rattle.licences.proofs.Joins.{Each-append, view_from-append}
 use Rattle.licences.proofs.Settled.{stays_inside}
-use Rattle.licences.proofs.Told.{AreWork-append, changes_in-append, events_of-append}
+use Rattle.licences.proofs.Told.{AreWork-append, changes_in-append, deeds_of-events_of, events_of-append}
 use Rattle.licences.specs.Deeds.{Deed, Begins, Asks, Makes, MakesUntold, Ends, Stops, changes_in, events_of}
 use Rattle.licences.specs.Licences.{AreWork, Each, IsInside, MayDo, MayMerge, MergesInfo, ObeysData}
 use Rattle.licences.specs.Views.{Shown, Stage, View, seen, view_from}
@@ -17,6 +17,8 @@ use Rattle.local_store.specs.Changing.{after_all}
 use Rattle.local_store.specs.Keepers.{Kept, KeeperNow}
 use Rattle.local_store.specs.declared.blob.Blob.{Blob}
 use Rattle.local_store.specs.declared.change.Change.{Change}
+use Rattle.opening.proofs.Merging.{merges_of}
+use Rattle.opening.specs.Opening.{MergesBetween}
 use Rattle.session_steps.proofs.Asked.{kept-same}
 use Rattle.session_steps.proofs.Joins.{count_is, kept_after-append, trail_is}
 use Rattle.session_steps.proofs.LockDeeds.{AreCalls-locks, AreLocks, AreWork-calls, changes_in-calls, obeys-locks, told_locks, view_from-locks}
@@ -43,18 +45,19 @@ inside-work v (Stops ∷ ds) inside work = absurd work
 
 -- ---- a part of a session
 
-pub tells_went : (sort : Call → Bool) (a b : WorkNow) (shown : Option Shown) (w : Went sort a b)
-    → Fits a.known shown → MergesInfo (view_of shown a.desk) w.deeds
+pub tells_went : (sort : Call → Bool) (a b : WorkNow) (shown : Option Shown)
+    → Fits a.known shown → Went sort a b → MergesBetween a.desk b.desk
     → TellsWork (view_of shown a.desk) a.desk b.desk
-tells_went sort a b shown w fits merges = record {
+tells_went sort a b shown fits w merges = record {
   tells = record {
     deeds = w.deeds;
     saves = w.saves;
     trail = w.trail;
     made = w.made;
     kept = w.kept;
+    told = deeds_of-events_of (length a.desk.made) w.deeds w.work;
     obeys = w.obeys shown fits;
-    merges = merges;
+    merges = merges_of sort a b merges w shown;
   };
   work = w.work;
 }
@@ -72,6 +75,7 @@ tells_on v a b c h k =
     let both : events_of n (ds ++ es) ≡ events_of n ds ++ events_of m es =
     events_of-append n ds es h.work
     ∙ ap (λ (i : ℕ). events_of n ds ++ events_of i es) (count_is a.made b.made ds h.tells.made) in
+    let work = AreWork-append ds es h.work k.work in
     record {
       tells = record {
         deeds = ds ++ es;
@@ -90,10 +94,11 @@ tells_on v a b c h k =
             ∙ ap (λ (x : List Change).
             option_map (kept_after x (h.tells.saves ++ k.tells.saves)) a.keeper.kept)
             (sym changes)));
+        told = deeds_of-events_of n (ds ++ es) work;
         obeys = Each-append MayDo v ds es h.tells.obeys k.tells.obeys;
         merges = Each-append MayMerge v ds es h.tells.merges k.tells.merges;
       };
-      work = AreWork-append ds es h.work k.work;
+      work = work;
     }
 
 -- ---- calls of a lease
@@ -119,7 +124,8 @@ pub tells_locks : (client : List ℕ) (v : View) (a b : DeskNow) → IsInside v.
 tells_locks client v a b inside same goes =
     let n = length a.made in
     let told = told_locks client n goes.line.more goes.line.each in
-    let none = changes_in-calls told.deeds (AreCalls-locks client told.deeds told.locks) in
+    let calls = AreCalls-locks client told.deeds told.locks in
+    let none = changes_in-calls told.deeds calls in
     record {
       work = record {
         tells = record {
@@ -132,10 +138,11 @@ tells_locks client v a b inside same goes =
           kept =
               ap (λ (k : KeeperNow). k.kept) same.keeper
               ∙ kept-same a.keeper.kept (changes_in told.deeds) none;
+          told = deeds_of-events_of n told.deeds (AreWork-calls told.deeds calls);
           obeys = obeys-locks client v told.deeds inside told.locks;
           merges = nothing_put v told.deeds client told.locks;
         };
-        work = AreWork-calls told.deeds (AreCalls-locks client told.deeds told.locks);
+        work = AreWork-calls told.deeds calls;
       };
       same = view_from-locks client v told.deeds told.locks;
     }

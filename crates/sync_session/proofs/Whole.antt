@@ -1,5 +1,5 @@
 -- A sync from its begin to its end.
-use Rattle.std.specs.Prelude.{ℕ, ◌≡◌, ◌+◌, List, [], ◌∷◌, ◌++◌, All, length, Bool, true, false, Option, option_map, Result, Ok, Err, refl}
+use Rattle.std.specs.Prelude.{ℕ, ◌≡◌, ◌+◌, List, [], ◌∷◌, ◌++◌, All, length, Bool, true, false, Option, Some, None, option_map, Result, Ok, Err, refl}
 use Rattle.std.proofs.Common.{sym, ◌∙◌, ap, subst, inl, inr, append-nil, append_assoc}
 use Rattle.std.proofs.lemmas.List.{append_cancel_left}
 use Rattle.conflicts.specs.declared.report.SyncReport.{SyncReport}
@@ -12,8 +12,8 @@ use Rattle.lease.specs.Discipline.{ends_released, phase_of}
 use Rattle.lease.specs.WholeSession.{IsInner}
 use Rattle.licences.proofs.Joins.{Each-append}
 use Rattle.licences.proofs.Told.{changes_in-append, events_of-append}
-use Rattle.licences.specs.Deeds.{Deed, Begins, Ends, changes_in, events_of}
-use Rattle.licences.specs.Licences.{Each, MayDo, MayMerge}
+use Rattle.licences.specs.Deeds.{Deed, Begins, Asks, Makes, MakesUntold, Ends, Stops, changes_in, deeds_of, events_of}
+use Rattle.licences.specs.Licences.{AreWork, Each, MayDo, MayMerge}
 use Rattle.licences.specs.Views.{View, at_rest}
 use Rattle.local_store.specs.Keepers.{Kept}
 use Rattle.local_store.specs.declared.change.Change.{Change}
@@ -35,13 +35,14 @@ use Rattle.sync_session.specs.declared.sync_err.SyncErr.TheVariants.{Busy, Lease
 -- nothing was done
 pub tells_nothing : (v : View) (d e : DeskNow) → e.line.trail ≡ d.line.trail → e.made ≡ d.made
     → e.keeper.kept ≡ d.keeper.kept → Tells v d e
-unfolding events_of changes_in Each
+unfolding events_of changes_in deeds_of Each
 tells_nothing v d e trail made kept = record {
   deeds = [];
   saves = [];
   trail = trail ∙ sym (append-nil d.line.trail);
   made = made ∙ sym (append-nil d.made);
   kept = kept ∙ kept-same d.keeper.kept [] refl;
+  told = refl;
   obeys = tt;
   merges = tt;
 }
@@ -49,7 +50,7 @@ tells_nothing v d e trail made kept = record {
 -- the session has begun, and goes on
 pub tells_begun : (t : Tables) (old : SyncNow) (now : DeskNow)
     → TellsWork (begun_view t) (begun_at t old) now → Tells (at_rest t) (desk_at t old) now
-unfolding events_of changes_in Each
+unfolding events_of changes_in deeds_of Each
 tells_begun t old now h = record {
   deeds = Begins ∷ h.tells.deeds;
   saves = h.tells.saves;
@@ -58,15 +59,31 @@ tells_begun t old now h = record {
       ∙ append_assoc old.line.trail (Began ∷ []) (events_of (length old.made) h.tells.deeds);
   made = h.tells.made;
   kept = h.tells.kept;
+  told = ap (λ (ds : List Deed). Begins ∷ ds) h.tells.told;
   obeys = (tt, h.tells.obeys);
   merges = (tt, h.tells.merges);
 }
+
+deeds_ended : (n : ℕ) (ds : List Deed) → AreWork ds
+    → deeds_of (events_of n ds ++ Ended ∷ []) (changes_in ds) ≡ ds ++ Ends ∷ []
+unfolding AreWork events_of changes_in deeds_of
+deeds_ended n [] work = refl
+deeds_ended n (Asks call None ∷ ds) work =
+    ap (λ (es : List Deed). Asks call None ∷ es) (deeds_ended n ds work)
+deeds_ended n (Asks call (Some reply) ∷ ds) work =
+    ap (λ (es : List Deed). Asks call (Some reply) ∷ es) (deeds_ended n ds work)
+deeds_ended n (Makes c ∷ ds) work =
+    ap (λ (es : List Deed). Makes c ∷ es) (deeds_ended (n + 1) ds work.1)
+deeds_ended n (Begins ∷ ds) work = absurd work
+deeds_ended n (MakesUntold ∷ ds) work = absurd work
+deeds_ended n (Ends ∷ ds) work = absurd work
+deeds_ended n (Stops ∷ ds) work = absurd work
 
 -- and has ended
 pub tells_ended : (t u : Tables) (old mid : SyncNow)
     → TellsWork (begun_view t) (begun_at t old) (desk_at u mid)
     → Tells (at_rest t) (desk_at t old) (desk_at t (ended_at (desk_at u mid)))
-unfolding events_of changes_in Each
+unfolding events_of changes_in deeds_of Each
 tells_ended t u old mid h =
     let n = length old.made in
     let ds = h.tells.deeds in
@@ -89,6 +106,10 @@ tells_ended t u old mid h =
           h.tells.kept
           ∙ ap (λ (cs : List Change).
           option_map (kept_after cs h.tells.saves) old.keeper.kept) (sym changes);
+      told =
+          ap (λ (es : List Event). Begins ∷ deeds_of es (changes_in (ds ++ Ends ∷ []))) events
+          ∙ (ap (λ (cs : List Change). Begins ∷ deeds_of (events_of n ds ++ Ended ∷ []) cs) changes
+          ∙ ap (λ (es : List Deed). Begins ∷ es) (deeds_ended n ds h.work));
       obeys = (tt, Each-append MayDo v ds (Ends ∷ []) h.tells.obeys (tt, tt));
       merges = (tt, Each-append MayMerge v ds (Ends ∷ []) h.tells.merges (tt, tt));
     }
@@ -156,6 +177,7 @@ told_at t u old v mid h = record {
     trail = h.tells.trail;
     made = h.tells.made;
     kept = h.tells.kept;
+    told = h.tells.told;
     obeys = h.tells.obeys;
     merges = h.tells.merges;
   };

@@ -1,32 +1,46 @@
 -- What is done behind the opening is done behind it for the whole.
-use Rattle.std.specs.Prelude.{ℕ, ◌≡◌, List, Bool, true, ◌||◌, Option, Some, None, Result, Ok, Err, refl}
-use Rattle.std.proofs.Common.{sym, ap, subst}
+use Rattle.std.specs.Prelude.{ℕ, ◌≡◌, List, [], ◌∷◌, map, filter, Bool, true, false, ◌||◌, Option, Some, None, Result, Ok, Err, refl}
+use Rattle.std.proofs.Common.{sym, ◌∙◌, ap, subst, inl, inr}
 use Rattle.std.proofs.lemmas.Bool.{or_left, or_right}
 use Rattle.conflicts.specs.declared.error.StepErr.{StepErr}
 use Rattle.conflicts.specs.declared.error.StepErr.TheVariants.{Lost, TargetFault, KeeperFault, FailSafe, NoMemory}
+use Rattle.desk.specs.Desks.{DeskNow}
 use Rattle.download.specs.Downloading.{Downloads}
 use Rattle.jop_base.specs.declared.dir.Dir.TheVariants.{Root}
+use Rattle.jop_base.specs.declared.lock_name.LockKind.TheVariants.{Sync}
+use Rattle.jop_base.specs.declared.path.Path.TheVariants.{Info as InfoFile, OldVersion}
 use Rattle.jop_target.specs.declared.call.Call.{Call}
-use Rattle.jop_target.specs.declared.call.Call.TheVariants.{List as ListDir}
+use Rattle.jop_target.specs.declared.call.Call.TheVariants.{List as ListDir, Put, Delete, MakeDir}
 use Rattle.jop_target.specs.declared.reply.Listing.{Listing}
 use Rattle.jop_target.specs.declared.reply.Reply.TheVariants.{Listed}
+use Rattle.lease.specs.Standing.{IsHeld}
 use Rattle.licences.specs.Deeds.{Deed}
-use Rattle.licences.specs.Views.{View}
+use Rattle.licences.specs.Puts.{has_put}
+use Rattle.licences.specs.Trails.{session_calls}
+use Rattle.licences.specs.Views.{Heard, View}
 use Rattle.local_store.specs.Keepers.{Kept}
+use Rattle.local_store.specs.Rows.{row_id}
 use Rattle.local_store.specs.declared.blob.Blob.{Blob}
-use Rattle.opening.specs.Opening.{Opens, Refuses, is_opening}
+use Rattle.local_store.specs.declared.row.Row.{Row}
+use Rattle.local_store.specs.declared.tables.Tables.{Tables}
+use Rattle.opening.proofs.Merging.{merges_none, merges_on}
+use Rattle.opening.proofs.Versions.{stays_lawful}
+use Rattle.opening.specs.Opening.{IsLawful, KnowsVersion, MergesBetween, Opens, PutsNoItem, Refuses, is_opening}
 use Rattle.opening.specs.declared.refusal.OpenErr.{OpenErr}
 use Rattle.opening.specs.declared.refusal.OpenErr.TheVariants as open_errors
 use Rattle.session_steps.proofs.Ending.{does_as, gives_up_behind}
 use Rattle.session_steps.proofs.Joins.{does_then}
-use Rattle.session_steps.specs.Doing.{Does, GivesUp}
+use Rattle.session_steps.specs.Doing.{Does, GivesUp, Went}
 use Rattle.session_steps.specs.Parts.{ForEach, Hears, Part, Then}
 use Rattle.session_steps.specs.Work.{WorkNow}
+use Rattle.target_upgrade.specs.Course.{keeps_version}
 use Rattle.upload.proofs.Left.{same_blobs}
+use Rattle.upload.specs.Conditions.{AreUnput, IsReadable}
 use Rattle.upload.specs.Deleting.{Deletes}
 use Rattle.upload.specs.Uploading.{Uploads, UploadsOne, blobs_of, pending_ids}
-use Rattle.sync_session.proofs.Wider.{IsWithin, does_within, gives_up_within}
+use Rattle.sync_session.proofs.Wider.{IsWithin, does_within, gives_up_within, went_within}
 use Rattle.sync_session.specs.Errors.{of_opening, of_step}
+use Rattle.sync_session.specs.Keys.{has_waiting, needs_key}
 use Rattle.sync_session.specs.declared.sync_err.SyncErr.{SyncErr}
 use Rattle.sync_session.specs.Working.{Exchanges, ExchangesOr, ListsBehind, Sends, Syncs, Works, is_exchange, is_sync}
 
@@ -131,3 +145,67 @@ works_behind a b c (Err KeeperFault) h k =
     stopped_behind a b c KeeperFault (does_within is_opening is_sync a b opening_within h) k
 works_behind a b c (Err NoMemory) h k =
     stopped_behind a b c NoMemory (does_within is_opening is_sync a b opening_within h) k
+
+-- ---- what it keeps
+
+pub went_exchanged : (a b : WorkNow) (result : Result (Unit {0}) StepErr) → ExchangesOr a result b
+    → Went is_exchange a b
+went_exchanged a b (Ok done) h = h.went
+went_exchanged a b (Err (FailSafe count)) h = h.listed.went
+went_exchanged a b (Err (Lost seen)) h = h.0.went
+went_exchanged a b (Err TargetFault) h = h.0.went
+went_exchanged a b (Err KeeperFault) h = h.stops.went
+went_exchanged a b (Err NoMemory) h = h
+
+-- a client that was told the version may do all that comes behind the opening
+exchange_keeps : (call : Call) → is_exchange call ≡ true → keeps_version true call ≡ true
+exchange_keeps (Put InfoFile content) is = absurd cc
+exchange_keeps (Put OldVersion content) is = absurd cc
+exchange_keeps (Delete InfoFile) is = absurd cc
+exchange_keeps (Delete OldVersion) is = absurd cc
+exchange_keeps (MakeDir dir) is = absurd cc
+exchange_keeps call is = refl
+
+pub lawful_behind : (a b : WorkNow) (result : Result (Unit {0}) StepErr)
+    → IsHeld a.lease a.desk.line.trail → a.lease.kind ≡ Sync → IsLawful a.lease a.desk
+    → KnowsVersion a.lease a.desk → ExchangesOr a result b → IsLawful b.lease b.desk
+lawful_behind a b result held sync lawful told h =
+    (stays_lawful is_exchange true a b exchange_keeps held sync lawful (λ yes. told)
+    (went_exchanged a b result h)).lawful
+
+-- no info is put behind the opening
+pub merges_behind : (a b c : WorkNow) (result : Result (Unit {0}) StepErr)
+    → Does Opens is_opening a b → ExchangesOr b result c → MergesBetween a.desk b.desk
+    → MergesBetween a.desk c.desk
+merges_behind a b c result h k merges =
+    let went = went_exchanged b c result k in
+    merges_on Opens is_sync a b c (does_within is_opening is_sync a b opening_within h)
+    (went_within is_exchange is_sync b c exchange_within went) merges
+    (merges_none is_exchange b c (λ content. refl) went)
+
+-- ---- what it asks for
+
+none_waiting : (rs : List Row) → has_waiting rs ≡ false → filter (λ (r : Row). r.pending) rs ≡ []
+unfolding has_waiting
+none_waiting [] none = refl
+none_waiting (r ∷ rs) none = by r.pending refl where
+  by : (waits : Bool) → r.pending ≡ waits → filter (λ (x : Row). x.pending) (r ∷ rs) ≡ []
+  by true is = let no = none in absurd cc
+  by false is =
+      let rest : has_waiting rs ≡ false = cc in rw is (none_waiting rs rest)
+
+-- nothing is to be sealed, or nothing waits
+pub can_put : (t : Tables) → needs_key t ≡ false → IsReadable t
+can_put t none = by t.info.e2ee.value refl where
+  by : (seals : Bool) → t.info.e2ee.value ≡ seals → IsReadable t
+  by false is = inl is
+  by true is =
+      let rest : has_waiting t.rows ≡ false = cc in
+      inr (ap (map row_id) (none_waiting t.rows rest))
+
+-- the session has put no item yet
+pub unput_opened : (old new : DeskNow) → session_calls old.line.trail ≡ [] → PutsNoItem old new
+    → AreUnput new
+unfolding has_put
+unput_opened old new none same = λ id new_row.
+    same id ∙ ap (λ (hs : List Heard). has_put id hs) none

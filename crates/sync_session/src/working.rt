@@ -1,10 +1,9 @@
-ghost use Rattle.std.specs.Prelude.{◌≡◌, [], None, true};
+ghost use Rattle.std.specs.Prelude.{◌≡◌, []};
 ghost use Rattle.jop_base.specs.declared.lock_name.LockKind.{LockKind};
 ghost use Rattle.lease.specs.Standing.{IsSameBut};
 ghost use Rattle.licences.specs.Trails.{session_calls};
-ghost use Rattle.session_steps.specs.Work.{IsReady, view_of, work};
-ghost use Rattle.opening.specs.Opening.{IsLawful};
-ghost use Rattle.sync_session.specs.Telling.{TellsWork};
+ghost use Rattle.session_steps.specs.Work.{IsReady, work};
+ghost use Rattle.opening.specs.Opening.{IsLawful, MergesBetween};
 ghost use Rattle.sync_session.specs.Working.{Works};
 
 use crate::exchanging::exchange;
@@ -31,7 +30,7 @@ pub(crate) fn work<S: Desk>(
     ensures lease { IsSameBut lease.old lease.new }
     ensures works { Works (work (S.desk site.old) lease.old report.old) result
         (work (S.desk site.new) lease.new report.new) }
-    ensures tells { TellsWork (view_of None (S.desk site.old)) (S.desk site.old) (S.desk site.new) }
+    ensures merges { MergesBetween (S.desk site.old) (S.desk site.new) }
     ensures lawful { IsLawful lease.new (S.desk site.new) }
     ensures stays { S.stays site.old site.new }
 {

@@ -1,0 +1,171 @@
+-- What a sync promises by what it added.
+use Rattle.std.specs.Prelude.{ℕ, ◌≡◌, List, [], ◌∷◌, ◌++◌, length, Option, Some, Result, Ok, Err, refl}
+use Rattle.std.proofs.Common.{sym, ◌∙◌, ap, subst, inl, inr, append-nil}
+use Rattle.std.proofs.lemmas.List.{append_cancel_left}
+use Rattle.std.proofs.lemmas.Option.{same_Some}
+use Rattle.conflicts.specs.declared.report.SyncReport.{SyncReport}
+use Rattle.jop_base.specs.declared.lock_name.LockKind.TheVariants.{Sync}
+use Rattle.jop_target.specs.Trail.{LineNow}
+use Rattle.jop_target.specs.declared.event.Event.{Event}
+use Rattle.jop_target.specs.declared.event.Event.TheVariants.{Began, Ended}
+use Rattle.lease.proofs.WholeSessions.{obeys_none}
+use Rattle.lease.specs.Blocked.{NamesALiveLock}
+use Rattle.lease.specs.Outcomes.{IsBlocked}
+use Rattle.lease.specs.declared.lock.Lock.{Lock}
+use Rattle.licences.specs.Deeds.{Deed, changes_in, deeds_of, events_of}
+use Rattle.licences.specs.Licences.{Each, MergesInfo, ObeysData}
+use Rattle.licences.specs.Views.{at_rest}
+use Rattle.local_store.specs.Keepers.{IsOfKept, Kept}
+use Rattle.local_store.specs.declared.change.Change.{Change}
+use Rattle.local_store.specs.declared.tables.Tables.{Tables}
+use Rattle.session_steps.specs.Steps.{IsStep}
+use Rattle.sync_run.proofs.Whole.{NamesBlocked, before_end, names_added}
+use Rattle.target_upgrade.proofs.Whole.{keeps_none}
+use Rattle.target_upgrade.specs.Course.{ObeysLease}
+use Rattle.sync_session.specs.Syncing.{AddsFrom, AddsSync, IsOpenSync, IsUnread, IsWholeSync, SyncNow, desk_at}
+use Rattle.sync_session.specs.Telling.{Tells}
+use Rattle.sync_session.specs.Working.{is_sync}
+use Rattle.sync_session.specs.declared.sync_err.SyncErr.{SyncErr}
+use Rattle.sync_session.specs.declared.sync_err.SyncErr.TheVariants.{Busy, LeaseLost, TargetOlder, TargetNewer, BadInfo, FailSafe, NoKey, TargetFault, KeeperFault, NoMemory}
+
+-- ---- its discipline
+
+-- nothing was added
+unread_same : (old new : SyncNow) (result : Result SyncReport SyncErr) → IsUnread old result new
+    → (new.line ≡ old.line) × (new.made ≡ old.made)
+unread_same old new (Err KeeperFault) h = (h.0.line, h.0.made)
+unread_same old new (Err NoMemory) h = (h.line, h.made)
+unread_same old new (Err (Busy lock now)) h = absurd h
+unread_same old new (Err (LeaseLost seen)) h = absurd h
+unread_same old new (Err (TargetOlder version)) h = absurd h
+unread_same old new (Err (TargetNewer version)) h = absurd h
+unread_same old new (Err BadInfo) h = absurd h
+unread_same old new (Err (FailSafe count)) h = absurd h
+unread_same old new (Err (NoKey key)) h = absurd h
+unread_same old new (Err TargetFault) h = absurd h
+unread_same old new (Ok report) h = absurd h
+
+none_more : {T : Type 0} (old new added : List T) → new ≡ old → new ≡ old ++ added → added ≡ []
+none_more old new added same is =
+    append_cancel_left old added [] (sym is ∙ (same ∙ sym (append-nil old)))
+
+obeys_whole : (client : List ℕ) (t : Tables) (old new : SyncNow)
+    (result : Result SyncReport SyncErr) (added : List Event)
+    → IsWholeSync client t old result new → new.line.trail ≡ old.line.trail ++ added
+    → ObeysLease client added
+obeys_whole client t old new result added h is =
+    subst (ObeysLease client)
+    (append_cancel_left old.line.trail _ added (sym h.whole.trail ∙ is))
+    (record { locks = h.whole.obeys; work = h.versions })
+
+obeys_from : (client : List ℕ) (t : Tables) (old new : SyncNow)
+    (result : Result SyncReport SyncErr) (added : List Event)
+    → AddsFrom client t old result new → new.line.trail ≡ old.line.trail ++ added
+    → ObeysLease client added
+obeys_from client t old new (Err NoMemory) added h is =
+    subst (ObeysLease client)
+    (append_cancel_left old.line.trail _ added (sym h.begun.trail ∙ is))
+    (record { locks = h.begun.obeys; work = h.versions })
+obeys_from client t old new (Ok report) added h is = obeys_whole client t old new _ added h is
+obeys_from client t old new (Err (Busy lock now)) added h is =
+    obeys_whole client t old new _ added h is
+obeys_from client t old new (Err (LeaseLost seen)) added h is =
+    obeys_whole client t old new _ added h is
+obeys_from client t old new (Err (TargetOlder version)) added h is =
+    obeys_whole client t old new _ added h is
+obeys_from client t old new (Err (TargetNewer version)) added h is =
+    obeys_whole client t old new _ added h is
+obeys_from client t old new (Err BadInfo) added h is = obeys_whole client t old new _ added h is
+obeys_from client t old new (Err (FailSafe count)) added h is =
+    obeys_whole client t old new _ added h is
+obeys_from client t old new (Err (NoKey key)) added h is =
+    obeys_whole client t old new _ added h is
+obeys_from client t old new (Err TargetFault) added h is = obeys_whole client t old new _ added h is
+obeys_from client t old new (Err KeeperFault) added h is = obeys_whole client t old new _ added h is
+
+pub obeys_sync : (client : List ℕ) (old new : SyncNow) (result : Result SyncReport SyncErr)
+    (added : List Event) → AddsSync client old result new
+    → new.line.trail ≡ old.line.trail ++ added → ObeysLease client added
+obeys_sync client old new result added (inl unread) is =
+    let same = (unread_same old new result unread).0 in
+    let none = none_more old.line.trail new.line.trail added
+    (ap (λ (l : LineNow). l.trail) same) is in
+    subst (ObeysLease client) (sym none)
+    (record { locks = obeys_none client; work = keeps_none client })
+obeys_sync client old new result added (inr adds) is =
+    obeys_from client adds.0 old new result added adds.2 is
+
+-- ---- the lock for which it gave up
+
+pub names_sync : (client : List ℕ) (old new : SyncNow) (added : List Event) (lock : Lock) (now : ℕ)
+    → NamesBlocked → AddsSync client old (Err (Busy lock now)) new
+    → new.line.trail ≡ old.line.trail ++ added → NamesALiveLock Sync client added lock now
+names_sync client old new added lock now law (inl unread) is = absurd unread
+names_sync client old new added lock now law (inr adds) is =
+    let h = adds.2 in
+    let at = before_end old.line.trail h.whole.middle h.last.line.trail new.line.trail
+    (ap (λ (s : SyncNow). s.line.trail) h.ended) h.whole.trail in
+    names_added (IsStep is_sync client) Sync client old.line.trail new.line.trail added lock now
+    h.whole law
+    (subst (λ (es : List Event). IsBlocked Sync client es lock now) at h.answers.0) is
+
+-- ---- its licences
+
+abbrev IsLicensed : Tables → List Event → List Change → Type 0
+IsLicensed t added changes =
+    ObeysData (at_rest t) (deeds_of added changes) × MergesInfo (at_rest t) (deeds_of added changes)
+
+licensed_told : (t : Tables) (old new : SyncNow) (added : List Event) (changes : List Change)
+    → Tells (at_rest t) (desk_at t old) (desk_at t new)
+    → new.line.trail ≡ old.line.trail ++ added → new.made ≡ old.made ++ changes
+    → IsLicensed t added changes
+licensed_told t old new added changes h trail made =
+    let n = length old.made in
+    let events : events_of n h.deeds ≡ added =
+    append_cancel_left old.line.trail (events_of n h.deeds) added (sym h.trail ∙ trail) in
+    let same : changes_in h.deeds ≡ changes =
+    append_cancel_left old.made (changes_in h.deeds) changes (sym h.made ∙ made) in
+    let told : h.deeds ≡ deeds_of added changes =
+    sym h.told
+    ∙ (ap (λ (es : List Event). deeds_of es (changes_in h.deeds)) events
+    ∙ ap (λ (cs : List Change). deeds_of added cs) same) in
+    (subst (ObeysData (at_rest t)) told h.obeys, subst (MergesInfo (at_rest t)) told h.merges)
+
+tells_from : (client : List ℕ) (t : Tables) (old new : SyncNow)
+    (result : Result SyncReport SyncErr) → AddsFrom client t old result new
+    → Tells (at_rest t) (desk_at t old) (desk_at t new)
+tells_from client t old new (Err NoMemory) h = h.tells
+tells_from client t old new (Ok report) h = h.tells
+tells_from client t old new (Err (Busy lock now)) h = h.tells
+tells_from client t old new (Err (LeaseLost seen)) h = h.tells
+tells_from client t old new (Err (TargetOlder version)) h = h.tells
+tells_from client t old new (Err (TargetNewer version)) h = h.tells
+tells_from client t old new (Err BadInfo) h = h.tells
+tells_from client t old new (Err (FailSafe count)) h = h.tells
+tells_from client t old new (Err (NoKey key)) h = h.tells
+tells_from client t old new (Err TargetFault) h = h.tells
+tells_from client t old new (Err KeeperFault) h = h.tells
+
+told_tables : (kept : Option Kept) (k : Kept) (t : Tables) → IsOfKept kept t → kept ≡ Some k
+    → t ≡ k.tables
+told_tables None k t told is = absurd cc
+told_tables (Some other) k t told is =
+    told ∙ ap (λ (x : Kept). x.tables) (same_Some other k is)
+
+pub licensed_sync : (client : List ℕ) (old new : SyncNow) (result : Result SyncReport SyncErr)
+    (k : Kept) (added : List Event) (changes : List Change) → AddsSync client old result new
+    → old.keeper.kept ≡ Some k → new.line.trail ≡ old.line.trail ++ added
+    → new.made ≡ old.made ++ changes → IsLicensed k.tables added changes
+unfolding deeds_of Each
+licensed_sync client old new result k added changes (inl unread) told trail made =
+    let same = unread_same old new result unread in
+    let none = none_more old.line.trail new.line.trail added
+    (ap (λ (l : LineNow). l.trail) same.0) trail in
+    let calm = none_more old.made new.made changes same.1 made in
+    subst (λ (es : List Event). IsLicensed k.tables es changes) (sym none)
+    (subst (λ (cs : List Change). IsLicensed k.tables [] cs) (sym calm) (tt, tt))
+licensed_sync client old new result k added changes (inr adds) told trail made =
+    let t = adds.0 in
+    subst (λ (u : Tables). IsLicensed u added changes)
+    (told_tables old.keeper.kept k t adds.1.told told)
+    (licensed_told t old new added changes (tells_from client t old new result adds.2) trail made)
