@@ -1,0 +1,32 @@
+-- What a part of an opening leaves, whatever it answers: the session has gone on.
+use Rattle.std.specs.Prelude.{Bool, Result, Ok, Err}
+use Rattle.conflicts.specs.declared.error.StepErr.{StepErr}
+use Rattle.conflicts.specs.declared.error.StepErr.TheVariants.{Lost, TargetFault, KeeperFault, FailSafe, NoMemory}
+use Rattle.jop_target.specs.declared.call.Call.{Call}
+use Rattle.opening.specs.Opening.{ReadsOr, Refuses}
+use Rattle.opening.specs.declared.refusal.OpenErr.{OpenErr}
+use Rattle.opening.specs.declared.refusal.OpenErr.TheVariants.{Older, Newer, BadInfo, Step}
+use Rattle.session_steps.specs.Doing.{Ends, GivesUp, Went}
+use Rattle.session_steps.specs.Parts.{Part}
+use Rattle.session_steps.specs.Work.{WorkNow}
+use Rattle.sync_info.specs.declared.info.Info.{Info}
+
+pub went_up : (sort : Call → Bool) (a b : WorkNow) (e : StepErr) → GivesUp sort a e b
+    → Went sort a b
+went_up sort a b (Lost seen) h = h.0.went
+went_up sort a b TargetFault h = h.0.went
+went_up sort a b KeeperFault h = h.stops.went
+went_up sort a b (FailSafe count) h = absurd h
+went_up sort a b NoMemory h = h
+
+pub went_ends : {R : Type 0} (P : Part) (sort : Call → Bool) (a b : WorkNow)
+    (result : Result R StepErr) → Ends P sort a result b → Went sort a b
+went_ends P sort a b (Ok value) h = h.went
+went_ends P sort a b (Err e) h = went_up sort a b e h
+
+pub went_refused : (sort : Call → Bool) (a b : WorkNow) (e : OpenErr) → Refuses sort a e b
+    → Went sort a b
+went_refused sort a b (Older version) h = h.1.went
+went_refused sort a b (Newer version) h = h.1.went
+went_refused sort a b BadInfo h = h.went
+went_refused sort a b (Step e) h = went_up sort a b e h
