@@ -52,7 +52,7 @@ merges_by sort a b w each = λ more changes shown trail made.
     subst (MergesInfo (view_of shown a.desk)) (sym (deeds_are sort a b w more changes trail made))
     (each shown)
 
-merges_of : (sort : Call → Bool) (a b : WorkNow) → MergesBetween a.desk b.desk
+pub merges_of : (sort : Call → Bool) (a b : WorkNow) → MergesBetween a.desk b.desk
     → (w : Went sort a b) (shown : Option Shown) → MergesInfo (view_of shown a.desk) w.deeds
 merges_of sort a b h w shown =
     let n = length a.desk.made in
