@@ -234,17 +234,21 @@ given_up client lease old held late new e f (Ok done) taken works gives same res
     (left
     (has_left client lease (Err f) old held late new gives.reply taken works same gives.trail)
     (over_late client lease old held late new (Err f) taken works gives.over))
-given_up client lease old held late new e f (Err lease_errors.TargetFault) taken works gives same result ended is left =
+given_up client lease old held late new e f (Err lease_errors.TargetFault) taken works gives same
+    result ended is left =
     let it : f ≡ e = cc in
     subst (λ (x : SyncErr). IsSyncReleased client old (Err x) new) it
     (left (has_left client lease (Err f) old held late new Failed taken works same gives.trail)
     (over_late client lease old held late new (Err f) taken works gives.fails.failed.over))
-given_up client lease old held late new e f (Err lease_errors.NoMemory) taken works gives same result ended is left =
+given_up client lease old held late new e f (Err lease_errors.NoMemory) taken works gives same
+    result ended is left =
     let it : NoMemory ≡ e = cc in
     subst (λ (x : SyncErr). IsSyncReleased client old (Err x) new) it tt
-given_up client lease old held late new e f (Err (lease_errors.Busy lock now)) taken works gives same result ended is left =
+given_up client lease old held late new e f (Err (lease_errors.Busy lock now)) taken works gives
+    same result ended is left =
     absurd gives
-given_up client lease old held late new e f (Err (lease_errors.Lost seen)) taken works gives same result ended is left =
+given_up client lease old held late new e f (Err (lease_errors.Lost seen)) taken works gives same
+    result ended is left =
     absurd gives
 
 -- only a release that failed is a fault then
@@ -257,7 +261,8 @@ done_then_failed : (client : List ℕ) (lease : Lease) (old held : DeskNow) (lat
     → IsSyncReleased client old (Err e) new
 done_then_failed client lease old held late new e (Ok done) taken works gives result ended is =
     absurd cc
-done_then_failed client lease old held late new e (Err lease_errors.TargetFault) taken works gives result ended is =
+done_then_failed client lease old held late new e (Err lease_errors.TargetFault) taken works gives
+    result ended is =
     let it : TargetFault ≡ e = cc in
     let went = works.went in
     let fails = fails_as client late.lease.client old.line late.desk.line new.line
@@ -265,12 +270,15 @@ done_then_failed client lease old held late new e (Err lease_errors.TargetFault)
     (omega (arith, taken.goes.line.later, went.goes.line.later)) gives.fails in
     subst (λ (x : SyncErr). IsSyncReleased client old (Err x) new) it
     (fails, over_released client new.line.trail fails.failed.over)
-done_then_failed client lease old held late new e (Err lease_errors.NoMemory) taken works gives result ended is =
+done_then_failed client lease old held late new e (Err lease_errors.NoMemory) taken works gives
+    result ended is =
     let it : NoMemory ≡ e = cc in
     subst (λ (x : SyncErr). IsSyncReleased client old (Err x) new) it tt
-done_then_failed client lease old held late new e (Err (lease_errors.Busy lock now)) taken works gives result ended is =
+done_then_failed client lease old held late new e (Err (lease_errors.Busy lock now)) taken works
+    gives result ended is =
     absurd gives
-done_then_failed client lease old held late new e (Err (lease_errors.Lost seen)) taken works gives result ended is =
+done_then_failed client lease old held late new e (Err (lease_errors.Lost seen)) taken works gives
+    result ended is =
     absurd gives
 
 keeper_rose : (client : List ℕ) (lease : Lease) (old held : DeskNow) (late : WorkNow)
@@ -294,7 +302,8 @@ released_by client lease old held late new e (Ok done) result ended taken works 
     result ended leaves.is
 released_by client lease old held late new e (Err (Busy lock now)) result ended taken works leaves =
     absurd works
-released_by client lease old held late new e (Err (LeaseLost seen)) result ended taken works leaves =
+released_by client lease old held late new e (Err (LeaseLost seen)) result ended taken works leaves
+    =
     let missed = missed_as client lease old held late.desk.line.trail works.1.0 seen taken works.1.1
     in
     refused_as client old late new e (LeaseLost seen) (Err (LeaseLost seen)) result refl ended leaves
@@ -311,16 +320,19 @@ released_by client lease old held late new e (Err KeeperFault) result ended take
     leaves.same result ended leaves.is
     (λ left released.
     ((left, keeper_rose client lease old held late new taken works leaves.same), released))
-released_by client lease old held late new e (Err (TargetOlder version)) result ended taken works leaves =
+released_by client lease old held late new e (Err (TargetOlder version)) result ended taken works
+    leaves =
     given_up client lease old held late new e (TargetOlder version) leaves.released taken works
     leaves.gives leaves.same result ended leaves.is (λ left released. (left, released))
-released_by client lease old held late new e (Err (TargetNewer version)) result ended taken works leaves =
+released_by client lease old held late new e (Err (TargetNewer version)) result ended taken works
+    leaves =
     given_up client lease old held late new e (TargetNewer version) leaves.released taken works
     leaves.gives leaves.same result ended leaves.is (λ left released. (left, released))
 released_by client lease old held late new e (Err BadInfo) result ended taken works leaves =
     given_up client lease old held late new e BadInfo leaves.released taken works
     leaves.gives leaves.same result ended leaves.is (λ left released. (left, released))
-released_by client lease old held late new e (Err (FailSafe count)) result ended taken works leaves =
+released_by client lease old held late new e (Err (FailSafe count)) result ended taken works leaves
+    =
     given_up client lease old held late new e (FailSafe count) leaves.released taken works
     leaves.gives leaves.same result ended leaves.is (λ left released. (left, released))
 released_by client lease old held late new e (Err (NoKey key)) result ended taken works leaves =
@@ -352,13 +364,17 @@ given_back client lease old held late new report (Ok done) taken works gives sam
   },
   over_late client lease old held late new (Ok tt) taken works gives.over,
 )
-given_back client lease old held late new report (Err lease_errors.TargetFault) taken works gives same result ended is reports =
+given_back client lease old held late new report (Err lease_errors.TargetFault) taken works gives
+    same result ended is reports =
     absurd cc
-given_back client lease old held late new report (Err lease_errors.NoMemory) taken works gives same result ended is reports =
+given_back client lease old held late new report (Err lease_errors.NoMemory) taken works gives same
+    result ended is reports =
     absurd cc
-given_back client lease old held late new report (Err (lease_errors.Busy lock now)) taken works gives same result ended is reports =
+given_back client lease old held late new report (Err (lease_errors.Busy lock now)) taken works
+    gives same result ended is reports =
     absurd gives
-given_back client lease old held late new report (Err (lease_errors.Lost seen)) taken works gives same result ended is reports =
+given_back client lease old held late new report (Err (lease_errors.Lost seen)) taken works gives
+    same result ended is reports =
     absurd gives
 
 -- a session whose work was refused doesn't go well
@@ -381,25 +397,35 @@ synced_by : (client : List ℕ) (lease : Lease) (old held : DeskNow) (late : Wor
 synced_by client lease old held late new report (Ok done) result ended taken works leaves reports =
     given_back client lease old held late new report leaves.released taken works leaves.gives
     leaves.same result ended leaves.is reports
-synced_by client lease old held late new report (Err (Busy lock now)) result ended taken works leaves reports =
+synced_by client lease old held late new report (Err (Busy lock now)) result ended taken works
+    leaves reports =
     absurd works
-synced_by client lease old held late new report (Err (LeaseLost seen)) result ended taken works leaves reports =
+synced_by client lease old held late new report (Err (LeaseLost seen)) result ended taken works
+    leaves reports =
     let is = leaves.0 in absurd cc
-synced_by client lease old held late new report (Err TargetFault) result ended taken works leaves reports =
+synced_by client lease old held late new report (Err TargetFault) result ended taken works leaves
+    reports =
     let is = leaves.0 in absurd cc
-synced_by client lease old held late new report (Err NoMemory) result ended taken works leaves reports =
+synced_by client lease old held late new report (Err NoMemory) result ended taken works leaves
+    reports =
     let is = leaves.0 in absurd cc
-synced_by client lease old held late new report (Err KeeperFault) result ended taken works leaves reports =
+synced_by client lease old held late new report (Err KeeperFault) result ended taken works leaves
+    reports =
     never_well KeeperFault leaves.released result ended leaves.is
-synced_by client lease old held late new report (Err (TargetOlder version)) result ended taken works leaves reports =
+synced_by client lease old held late new report (Err (TargetOlder version)) result ended taken
+    works leaves reports =
     never_well (TargetOlder version) leaves.released result ended leaves.is
-synced_by client lease old held late new report (Err (TargetNewer version)) result ended taken works leaves reports =
+synced_by client lease old held late new report (Err (TargetNewer version)) result ended taken
+    works leaves reports =
     never_well (TargetNewer version) leaves.released result ended leaves.is
-synced_by client lease old held late new report (Err BadInfo) result ended taken works leaves reports =
+synced_by client lease old held late new report (Err BadInfo) result ended taken works leaves
+    reports =
     never_well BadInfo leaves.released result ended leaves.is
-synced_by client lease old held late new report (Err (FailSafe count)) result ended taken works leaves reports =
+synced_by client lease old held late new report (Err (FailSafe count)) result ended taken works
+    leaves reports =
     never_well (FailSafe count) leaves.released result ended leaves.is
-synced_by client lease old held late new report (Err (NoKey key)) result ended taken works leaves reports =
+synced_by client lease old held late new report (Err (NoKey key)) result ended taken works leaves
+    reports =
     never_well (NoKey key) leaves.released result ended leaves.is
 
 -- giving the lease up changes no tables
