@@ -1,6 +1,6 @@
 -- What the gets of an opening come to.
-use Rattle.std.specs.Prelude.{ℕ, ◌≡◌, ◌⊎◌, ◌<◌, List, Bool, true, false, Option, Some, None, Result, Ok, Err, IfOk, OnOk, refl}
-use Rattle.std.proofs.Common.{◌∙◌, sym, ap, subst, arith, inl, inr}
+use Rattle.std.specs.Prelude.{ℕ, ◌≡◌, ◌<◌, List, Bool, Option, Some, None, Result, Ok, Err, IfOk, OnOk, refl}
+use Rattle.std.proofs.Common.{◌∙◌, sym, ap, subst, inl, inr}
 use Rattle.conflicts.specs.declared.error.StepErr.{StepErr}
 use Rattle.conflicts.specs.declared.report.SyncReport.{SyncReport}
 use Rattle.desk.specs.Desks.{DeskNow}
@@ -16,8 +16,8 @@ use Rattle.licences.specs.Deeds.{Deed}
 use Rattle.licences.specs.Infos.{info_by, info_read, or_before}
 use Rattle.licences.specs.Puts.{has_put}
 use Rattle.licences.specs.Trails.{session_calls}
-use Rattle.licences.specs.Views.{Heard, Shown, View}
-use Rattle.opening.specs.Opening.{IsOldVersion, IsTaken, PutsNoItem, ReadsBadInfo, ReadsInfo, ReadsOld, ReadsOldFile, ReadsOldOr, ReadsOr, ReadsVersion, Refuses, Tells}
+use Rattle.licences.specs.Views.{Heard, View}
+use Rattle.opening.specs.Opening.{IsOldVersion, IsTaken, PutsNoItem, ReadsBadInfo, ReadsInfo, ReadsOldFile, ReadsOldOr, ReadsOr, ReadsVersion, Refuses, Tells}
 use Rattle.opening.specs.declared.refusal.OpenErr.{OpenErr}
 use Rattle.opening.specs.declared.refusal.OpenErr.TheVariants.{Older, Newer, BadInfo, Step}
 use Rattle.session_steps.proofs.Ending.{does_as, gives_up_behind}

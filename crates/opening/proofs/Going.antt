@@ -3,13 +3,12 @@ use Rattle.std.specs.Prelude.{Bool, Result, Ok, Err}
 use Rattle.conflicts.specs.declared.error.StepErr.{StepErr}
 use Rattle.conflicts.specs.declared.error.StepErr.TheVariants.{Lost, TargetFault, KeeperFault, FailSafe, NoMemory}
 use Rattle.jop_target.specs.declared.call.Call.{Call}
-use Rattle.opening.specs.Opening.{ReadsOr, Refuses}
+use Rattle.opening.specs.Opening.{Refuses}
 use Rattle.opening.specs.declared.refusal.OpenErr.{OpenErr}
 use Rattle.opening.specs.declared.refusal.OpenErr.TheVariants.{Older, Newer, BadInfo, Step}
 use Rattle.session_steps.specs.Doing.{Ends, GivesUp, Went}
 use Rattle.session_steps.specs.Parts.{Part}
 use Rattle.session_steps.specs.Work.{WorkNow}
-use Rattle.sync_info.specs.declared.info.Info.{Info}
 
 pub went_up : (sort : Call → Bool) (a b : WorkNow) (e : StepErr) → GivesUp sort a e b
     → Went sort a b

@@ -1,17 +1,15 @@
 -- A session that has got an info of the supported version is told of it.
 use Rattle.std.specs.Prelude.{ℕ, ◌≡◌, ◌||◌, List, Bool, true, false, if◌then◌else◌, Option, Some, nat_eq, option_map, refl}
-use Rattle.std.proofs.Common.{◌∙◌, sym, ap, subst}
+use Rattle.std.proofs.Common.{◌∙◌, sym, ap}
 use Rattle.desk.specs.Desks.{DeskNow}
 use Rattle.jop_base.specs.declared.lock_name.LockKind.{LockKind}
 use Rattle.jop_base.specs.declared.lock_name.LockKind.TheVariants.{Sync}
 use Rattle.jop_base.specs.declared.path.Path.TheVariants.{Info as InfoFile}
-use Rattle.jop_target.specs.Trail.{EndsWith}
 use Rattle.jop_target.specs.declared.call.Call.TheVariants.{Get}
-use Rattle.jop_target.specs.declared.event.Event.{Event}
 use Rattle.jop_target.specs.declared.event.Event.TheVariants.{Called}
 use Rattle.jop_target.specs.declared.reply.Reply.{Reply}
 use Rattle.jop_target.specs.declared.reply.Reply.TheVariants.{Listed, Got, GotBlob, Absent, Done, Failed, TooLarge}
-use Rattle.lease.specs.Discipline.{Session, session_after, session_of}
+use Rattle.lease.specs.Discipline.{Session}
 use Rattle.lease.specs.Phase.{Phase, Held, Broken, Plain, allows, heard}
 use Rattle.lease.specs.Standing.{IsHeld}
 use Rattle.lease.specs.declared.lease.Lease.{Lease}
@@ -20,7 +18,7 @@ use Rattle.session_steps.specs.Asking.{IsAnswered}
 use Rattle.sync_info.specs.Read.{info_in}
 use Rattle.sync_info.specs.declared.info.Info.{Info}
 use Rattle.target_upgrade.proofs.Courses.{course_from-last, lease-is}
-use Rattle.target_upgrade.specs.Course.{Course, course_after, course_of, is_current, is_supported, outside_course, told_by}
+use Rattle.target_upgrade.specs.Course.{Course, course_after, course_of, is_current, is_supported, outside_course}
 use Rattle.target_upgrade.specs.Reading.{Gives}
 use Rattle.target_upgrade.specs.Steps.{SUPPORTED}
 

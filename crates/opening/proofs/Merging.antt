@@ -1,10 +1,9 @@
 -- Each put of the info has its licence, over the parts of a session.
-use Rattle.std.specs.Prelude.{ℕ, ◌≡◌, ◌⊎◌, ◌+◌, List, [], ◌∷◌, ◌++◌, All, Bool, true, false, Option, Some, None, bytes_eq, length, refl}
+use Rattle.std.specs.Prelude.{ℕ, ◌≡◌, ◌⊎◌, ◌+◌, List, [], ◌∷◌, ◌++◌, All, Bool, true, false, Option, Some, None, bytes_eq, length}
 use Rattle.std.proofs.Common.{◌∙◌, sym, ap, subst, append-nil, inl, inr}
 use Rattle.std.proofs.lemmas.List.{append_cancel_left}
 use Rattle.std.proofs.lemmas.List.Elements.{All-head, All-tail}
 use Rattle.jop_base.proofs.KeyedLaws.{same_text}
-use Rattle.jop_base.specs.declared.path.Path.{Path}
 use Rattle.jop_base.specs.declared.path.Path.TheVariants.{Info as InfoFile}
 use Rattle.jop_target.specs.declared.call.Call.{Call}
 use Rattle.jop_target.specs.declared.call.Call.TheVariants.{Put}

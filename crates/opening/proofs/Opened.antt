@@ -11,7 +11,7 @@ use Rattle.lease.specs.declared.lease.Lease.{Lease}
 use Rattle.opening.proofs.Going.{went_ends}
 use Rattle.opening.proofs.Merging.{merges_none, merges_on}
 use Rattle.opening.proofs.Versions.{StaysLawful, stays_lawful}
-use Rattle.opening.specs.Opening.{IsLawful, Joins, KnowsVersion, MergesBetween, Opens, PutsNoItem, ReadsInfo, is_opening}
+use Rattle.opening.specs.Opening.{IsLawful, Joins, KnowsVersion, MergesBetween, Opens, ReadsInfo, is_opening}
 use Rattle.session_steps.proofs.Ending.{does_as}
 use Rattle.session_steps.proofs.Joins.{does_then}
 use Rattle.session_steps.specs.Doing.{Does, Ends, Went}

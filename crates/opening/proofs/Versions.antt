@@ -1,5 +1,5 @@
 -- The course of a session under a sync lease, over parts all of whose calls a synchroniser may make.
-use Rattle.std.specs.Prelude.{ℕ, ◌≡◌, List, [], ◌∷◌, ◌++◌, Bool, true, false, ◌&&◌, ◌||◌, not, if◌then◌else◌, length, Option, Some, None, refl}
+use Rattle.std.specs.Prelude.{ℕ, ◌≡◌, List, [], ◌∷◌, Bool, true, false, ◌||◌, not, if◌then◌else◌, length, Option, Some, None, refl}
 use Rattle.std.proofs.Common.{◌∙◌, sym, ap, subst}
 use Rattle.std.proofs.lemmas.Bool.{and_parts, and_from}
 use Rattle.jop_base.specs.declared.lock_name.LockKind.{LockKind}
@@ -11,10 +11,10 @@ use Rattle.jop_target.specs.declared.event.Event.{Event}
 use Rattle.jop_target.specs.declared.event.Event.TheVariants.{Began, Sent, Called, Made, Ended}
 use Rattle.jop_target.specs.declared.reply.Reply.{Reply}
 use Rattle.jop_target.specs.declared.reply.Reply.TheVariants.{Listed, Got, Done, Failed}
-use Rattle.lease.specs.Discipline.{Session, session_of}
+use Rattle.lease.specs.Discipline.{Session}
 use Rattle.lease.specs.Idle.{is_work}
 use Rattle.lease.specs.Locks.{same_kind}
-use Rattle.lease.specs.Phase.{Phase, Free, Looked, Asked, Held, Renewing, Leaving, Over, Broken, Role, MakesLocks, ListsLocks, PutsOwn, DeletesOwn, Plain, Foreign, allows, heard, listed_phase, renewed_phase, role_of}
+use Rattle.lease.specs.Phase.{Phase, Held, Renewing, Leaving, Over, Broken, Role, MakesLocks, ListsLocks, PutsOwn, DeletesOwn, Plain, Foreign, allows, heard, listed_phase, role_of}
 use Rattle.lease.specs.Standing.{IsHeld}
 use Rattle.licences.specs.Deeds.{events_of}
 use Rattle.opening.specs.Opening.{IsLawful, KnowsVersion}
