@@ -6,7 +6,7 @@ use Rattle.conflicts.specs.declared.error.StepErr.{StepErr}
 use Rattle.conflicts.specs.declared.error.StepErr.TheVariants.{Lost, TargetFault, KeeperFault, FailSafe, NoMemory}
 use Rattle.delta.specs.Page.{fail_safe}
 use Rattle.download.specs.Downloading.{Downloads, is_download}
-use Rattle.download.specs.Reading.{EndsDownload, IsEmptied}
+use Rattle.download.specs.Reading.{IsEmptied, Refuses}
 use Rattle.jop_base.specs.declared.dir.Dir.TheVariants.{Root}
 use Rattle.jop_target.specs.declared.call.Call.{Call}
 use Rattle.jop_target.specs.declared.call.Call.TheVariants.{List as ListDir}
@@ -18,16 +18,16 @@ use Rattle.licences.specs.Deeds.{Asks, Deed}
 use Rattle.licences.specs.Views.{View, synced_ids, view_from}
 use Rattle.local_store.specs.Keepers.{Kept}
 use Rattle.local_store.specs.declared.tables.Tables.{Tables}
-use Rattle.session_steps.proofs.Ending.{ends_then, gives_up_behind}
+use Rattle.session_steps.proofs.Ending.{gives_up_behind}
 use Rattle.session_steps.proofs.Joins.{does_then}
 use Rattle.session_steps.proofs.Seen.{view_from-but_locks}
-use Rattle.session_steps.specs.Doing.{Does, Ends, GivesUp}
+use Rattle.session_steps.specs.Doing.{Does, Finishes, GivesUp}
 use Rattle.session_steps.specs.Parts.{Hears, Then, but_locks}
 use Rattle.session_steps.specs.Work.{WorkNow, view_of}
 use Rattle.upload.specs.Deleting.{Deletes, is_deletion}
 use Rattle.upload.specs.Uploading.{Uploads, is_upload}
-use Rattle.sync_session.proofs.Wider.{IsWithin, does_within, ends_within, gives_up_within}
-use Rattle.sync_session.specs.Working.{ExchangesOr, IsEmptiedBehind, ListsBehind, Sends, is_exchange}
+use Rattle.sync_session.proofs.Wider.{IsWithin, does_within, gives_up_within}
+use Rattle.sync_session.specs.Working.{Exchanges, ExchangesOr, IsEmptiedBehind, ListsBehind, Sends, is_exchange}
 
 -- ---- sorts
 
@@ -46,13 +46,21 @@ download_within call is =
 
 -- ---- sending
 
-pub sends_all : (a b c : WorkNow) (result : Result (Unit {0}) StepErr)
-    → Does (Uploads a.desk.keeper.kept) is_upload a b → Ends Deletes is_deletion b result c
-    → Ends (Sends a.desk.keeper.kept) is_exchange a result c
-sends_all a b c result h k =
-    ends_then (Uploads a.desk.keeper.kept) Deletes is_exchange a b c result
+pub sends_both : (a b c : WorkNow) → Does (Uploads a.desk.keeper.kept) is_upload a b
+    → Does Deletes is_deletion b c → Does (Sends a.desk.keeper.kept) is_exchange a c
+sends_both a b c h k =
+    does_then (Uploads a.desk.keeper.kept) Deletes is_exchange a b c
     (does_within is_upload is_exchange a b upload_within h)
-    (ends_within Deletes is_deletion is_exchange b c result deletion_within k)
+    (does_within is_deletion is_exchange b c deletion_within k)
+
+-- what was uploaded stands behind deletions that gave nothing
+pub sends_stopped : (a b c : WorkNow) (e : StepErr)
+    → Does (Uploads a.desk.keeper.kept) is_upload a b → GivesUp is_deletion b e c
+    → GivesUp is_exchange a e c
+sends_stopped a b c e h k =
+    gives_up_behind (Uploads a.desk.keeper.kept) is_exchange a b c e
+    (does_within is_upload is_exchange a b upload_within h)
+    (gives_up_within is_deletion is_exchange b c e deletion_within k)
 
 -- ---- a listing that shows nothing
 
@@ -95,17 +103,19 @@ refused_behind a b c e h k =
     gives_up_behind (Sends a.desk.keeper.kept) is_exchange a b c e h
     (gives_up_within is_download is_exchange b c e download_within k)
 
-pub exchanges_all : (a b c : WorkNow) (result : Result (Unit {0}) StepErr)
-    → Does (Sends a.desk.keeper.kept) is_exchange a b → EndsDownload b result c
-    → ExchangesOr a result c
-exchanges_all a b c (Ok done) h k =
+pub exchanges_both : (a b c : WorkNow) → Does (Sends a.desk.keeper.kept) is_exchange a b
+    → Finishes Downloads is_download b c → Finishes (Exchanges a.desk.keeper.kept) is_exchange a c
+exchanges_both a b c h k =
     does_then (Sends a.desk.keeper.kept) Downloads is_exchange a b c h
     (does_within is_download is_exchange b c download_within k)
-exchanges_all a b c (Err (FailSafe count)) h k = emptied_behind a b c count h k
-exchanges_all a b c (Err (Lost seen)) h k = refused_behind a b c (Lost seen) h k
-exchanges_all a b c (Err TargetFault) h k = refused_behind a b c TargetFault h k
-exchanges_all a b c (Err KeeperFault) h k = refused_behind a b c KeeperFault h k
-exchanges_all a b c (Err NoMemory) h k = refused_behind a b c NoMemory h k
+
+pub exchanges_stopped : (a b c : WorkNow) (e : StepErr)
+    → Does (Sends a.desk.keeper.kept) is_exchange a b → Refuses b e c → ExchangesOr a (Err e) c
+exchanges_stopped a b c (FailSafe count) h k = emptied_behind a b c count h k
+exchanges_stopped a b c (Lost seen) h k = refused_behind a b c (Lost seen) h k
+exchanges_stopped a b c TargetFault h k = refused_behind a b c TargetFault h k
+exchanges_stopped a b c KeeperFault h k = refused_behind a b c KeeperFault h k
+exchanges_stopped a b c NoMemory h k = refused_behind a b c NoMemory h k
 
 -- nothing was read behind what couldn't be sent
 pub exchanges_unsent : (a b : WorkNow) (e : StepErr) → GivesUp is_exchange a e b

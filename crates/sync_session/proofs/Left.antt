@@ -14,9 +14,10 @@ use Rattle.jop_target.specs.declared.event.Event.{Event}
 use Rattle.jop_target.specs.declared.event.Event.TheVariants.{Called}
 use Rattle.jop_target.specs.declared.reply.Reply.{Reply}
 use Rattle.jop_target.specs.declared.reply.Reply.TheVariants.{Failed}
+use Rattle.jop_target.proofs.Runs.{continues_same}
 use Rattle.lease.proofs.Sessions.{goes_leased, goes_on}
 use Rattle.lease.specs.Calls.{EndsFailed, Fails, LeaseGoesOn}
-use Rattle.lease.specs.Discipline.{ends_released, phase_of}
+use Rattle.lease.specs.Discipline.{ends_released, phase_of, session_of}
 use Rattle.lease.specs.Locks.{own_name}
 use Rattle.lease.specs.Outcomes.{Acquires, HasAcquired, HasMissed, IsBlocked, Releases}
 use Rattle.lease.specs.Phase.{Asked, Over, Phase, Renewing}
@@ -26,19 +27,24 @@ use Rattle.lease.specs.declared.error.LeaseErr.TheVariants as lease_errors
 use Rattle.lease.specs.declared.error.Seen.{Seen}
 use Rattle.lease.specs.declared.lease.Lease.{Lease}
 use Rattle.lease.specs.declared.lock.Lock.{Lock}
+use Rattle.licences.specs.Licences.{IsInside}
+use Rattle.licences.specs.Views.{View}
 use Rattle.local_store.specs.Keepers.{KeeperNow}
 use Rattle.local_store.specs.declared.tables.Tables.{Tables}
-use Rattle.opening.specs.Opening.{IsLawful}
-use Rattle.session_steps.proofs.Asked.{step_of}
-use Rattle.session_steps.proofs.Joins.{client_is}
+use Rattle.opening.specs.Opening.{IsLawful, MergesBetween}
+use Rattle.session_steps.proofs.Asked.{calls_locks, step_of}
+use Rattle.session_steps.proofs.Joins.{client_is, seen_between}
 use Rattle.session_steps.specs.Doing.{Went}
 use Rattle.session_steps.specs.Steps.{IsStep}
-use Rattle.session_steps.specs.Work.{IsReady, WorkNow, work}
+use Rattle.session_steps.specs.Work.{Fits, IsReady, WorkNow, view_of, work}
 use Rattle.target_upgrade.proofs.Courses.{idle_work}
 use Rattle.target_upgrade.specs.Course.{Course, course_of}
+use Rattle.sync_session.proofs.Telling.{tells_had, tells_left, tells_went}
 use Rattle.sync_session.specs.Errors.{of_lease}
+use Rattle.sync_session.specs.Telling.{TellsWork}
+use Rattle.sync_session.specs.Keys.{sealed_rows}
 use Rattle.sync_session.specs.Leaving.{Leaves, LeavesIf, answer_of, holds_lease}
-use Rattle.sync_session.specs.Syncing.{EndsWork, HasBegunSync, HasLeft, IsSyncReleased, SyncGoesOn, with_locked}
+use Rattle.sync_session.specs.Syncing.{EndsWork, HasBegunSync, HasLeft, IsSyncReleased, SyncGoesOn, begun_view, with_locked}
 use Rattle.sync_session.specs.Working.{Works, is_sync}
 use Rattle.sync_session.specs.declared.sync_err.SyncErr.{SyncErr}
 use Rattle.sync_session.specs.declared.sync_err.SyncErr.TheVariants.{Busy, LeaseLost, TargetOlder, TargetNewer, BadInfo, FailSafe, NoKey, TargetFault, KeeperFault, NoMemory}
@@ -99,6 +105,59 @@ sync_goes_on client a b c h k = record {
   work = k.work;
 }
 
+left_if : (holds : Bool) (lease : Lease) (worked : Result (Unit {0}) SyncErr) (old : DeskNow)
+    (result : Result (Unit {0}) SyncErr) (new : DeskNow)
+    → (course_of lease.client old.line.trail).lawful ≡ true
+    → (session_of lease.client old.line.trail).running ≡ true
+    → (session_of lease.client old.line.trail).lawful ≡ true
+    → LeavesIf holds lease worked old result new → SyncGoesOn lease.client old.line new.line
+left_if true lease worked old result new lawful running locks h =
+    goes_idle lease.client old.line new.line lawful h.goes
+left_if false lease worked old result new lawful running locks h =
+    subst (λ (d : DeskNow). SyncGoesOn lease.client old.line d.line) (sym h.1) (record {
+      goes = record {
+        running = running;
+        lawful = locks;
+        line = continues_same (IsStep is_sync lease.client) old.line;
+      };
+      work = lawful;
+    })
+
+-- work under the lease, and giving it up
+pub goes_left : (a b : WorkNow) (worked result : Result (Unit {0}) SyncErr) (new : DeskNow)
+    → Works a worked b → IsLawful b.lease b.desk → Leaves b.lease worked b.desk result new
+    → SyncGoesOn a.lease.client a.desk.line new.line
+goes_left a b worked result new works lawful leaves =
+    let went = went_worked a b worked works in
+    let mine = client_is a.lease b.lease went.same in
+    let first = goes_worked a b went lawful in
+    let running = first.goes.running in
+    let locks = first.goes.lawful in
+    let left = left_if (holds_lease worked) b.lease worked b.desk result new lawful
+    (subst (λ (c : List ℕ). (session_of c b.desk.line.trail).running ≡ true) (sym mine) running)
+    (subst (λ (c : List ℕ). (session_of c b.desk.line.trail).lawful ≡ true) (sym mine) locks)
+    leaves in
+    sync_goes_on a.lease.client a.desk.line b.desk.line new.line first
+    (subst (λ (c : List ℕ). SyncGoesOn c b.desk.line new.line) mine left)
+
+told_if : (holds : Bool) (v : View) (a : DeskNow) (lease : Lease)
+    (worked : Result (Unit {0}) SyncErr) (b : DeskNow) (result : Result (Unit {0}) SyncErr)
+    (new : DeskNow) → IsInside v.stage → TellsWork v a b
+    → LeavesIf holds lease worked b result new → TellsWork v a new
+told_if true v a lease worked b result new inside h leaves =
+    tells_left lease.client v a b new inside h leaves.same leaves.goes
+told_if false v a lease worked b result new inside h leaves =
+    subst (λ (d : DeskNow). TellsWork v a d) (sym leaves.1) h
+
+pub tells_worked : (a b : WorkNow) (worked result : Result (Unit {0}) SyncErr) (new : DeskNow)
+    → Works a worked b → MergesBetween a.desk b.desk → Fits a.known None
+    → Leaves b.lease worked b.desk result new
+    → TellsWork (view_of None a.desk) a.desk new
+tells_worked a b worked result new works merges fits leaves =
+    let went = went_worked a b worked works in
+    told_if (holds_lease worked) (view_of None a.desk) a.desk b.lease worked b.desk result new tt
+    (tells_went is_sync a b None fits went merges) leaves
+
 pub lawful_begun : (client : List ℕ) (trail : List Event) → HasBegunSync client trail
     → (course_of client trail).lawful ≡ true
 lawful_begun client trail h = ap (λ (c : Course). c.lawful) h.begun.course
@@ -140,6 +199,33 @@ own_client client lease old held h = ap (λ (l : Lease). l.client) h.had.whole
 own_kind : (client : List ℕ) (lease : Lease) (old held : DeskNow)
     → HasTaken client lease old held → lease.kind ≡ Sync
 own_kind client lease old held h = ap (λ (l : Lease). l.kind) h.had.whole
+
+-- the lease is had by what is allowed
+pub lawful_taken : (client : List ℕ) (lease : Lease) (old held : DeskNow)
+    → (course_of client old.line.trail).lawful ≡ true → HasTaken client lease old held
+    → IsLawful lease held
+lawful_taken client lease old held lawful h =
+    subst (λ (c : List ℕ). (course_of c held.line.trail).lawful ≡ true)
+    (sym (own_client client lease old held h))
+    (goes_idle client old.line held.line lawful h.goes).work
+
+pub goes_taken : (client : List ℕ) (lease : Lease) (old held new : DeskNow)
+    → (course_of client old.line.trail).lawful ≡ true → HasTaken client lease old held
+    → SyncGoesOn lease.client held.line new.line → SyncGoesOn client old.line new.line
+goes_taken client lease old held new lawful h k =
+    sync_goes_on client old.line held.line new.line
+    (goes_idle client old.line held.line lawful h.goes)
+    (subst (λ (c : List ℕ). SyncGoesOn c held.line new.line) (own_client client lease old held h) k)
+
+pub tells_taken : (client : List ℕ) (lease : Lease) (old held new : DeskNow)
+    → HasBegunSync client old.line.trail → HasTaken client lease old held
+    → TellsWork (view_of None held) held new → TellsWork (begun_view old.tables) old new
+tells_taken client lease old held new begun h k =
+    let calls = calls_locks client old held.line h.goes ∙ begun.calls in
+    let same : view_of None held ≡ begun_view old.tables =
+    seen_between (view_of None held) (begun_view old.tables) h.same.tables calls refl refl in
+    tells_had client (begun_view old.tables) old held new tt h.same h.goes
+    (subst (λ (v : View). TellsWork v held new) same k)
 
 kind_is : (a b : Lease) → IsSameBut a b → b.kind ≡ a.kind
 kind_is a b same = ap (λ (l : Lease). l.kind) same
@@ -434,6 +520,13 @@ tables_left : (lease : Lease) (worked : Result (Unit {0}) SyncErr) (old : DeskNo
     → LeavesIf holds lease worked old result new → new.tables ≡ old.tables
 tables_left lease worked old result new true h = h.same.tables
 tables_left lease worked old result new false h = ap (λ (d : DeskNow). d.tables) h.1
+
+-- the report with the rows that are sealed
+pub counted_locked : (after : SyncReport) (count : ℕ) (t u : Tables) → count ≡ sealed_rows t
+    → t ≡ u → record after { locked = count } ≡ with_locked u after
+counted_locked after count t u counted same =
+    ap (λ (n : ℕ). record after { locked = n })
+    (counted ∙ ap (λ (x : Tables). sealed_rows x) same)
 
 pub released_done : (client : List ℕ) (lease : Lease) (old held new : DeskNow)
     (after report : SyncReport) (result : Result (Unit {0}) SyncErr) → result ≡ Ok tt

@@ -7,24 +7,26 @@ use Rattle.desk.specs.Desks.{DeskNow}
 use Rattle.jop_target.specs.declared.event.Event.{Event}
 use Rattle.jop_target.specs.declared.event.Event.TheVariants.{Began, Sent, Called, Made, Ended}
 use Rattle.jop_target.specs.Trail.{LineNow}
-use Rattle.lease.proofs.WholeSessions.{adds_begun, adds_none, adds_whole, at_seam}
+use Rattle.lease.proofs.WholeSessions.{adds_begun, adds_none, adds_whole, at_seam, begun_stands}
 use Rattle.lease.specs.Discipline.{ends_released, phase_of}
 use Rattle.lease.specs.WholeSession.{IsInner}
 use Rattle.licences.proofs.Joins.{Each-append}
-use Rattle.licences.proofs.Told.{changes_in-append, events_of-append}
+use Rattle.licences.proofs.Told.{calls_from-append, changes_in-append, events_of-append}
+use Rattle.licences.specs.Trails.{calls_from, session_calls}
 use Rattle.licences.specs.Deeds.{Deed, Begins, Asks, Makes, MakesUntold, Ends, Stops, changes_in, deeds_of, events_of}
 use Rattle.licences.specs.Licences.{AreWork, Each, MayDo, MayMerge}
 use Rattle.licences.specs.Views.{View, at_rest}
-use Rattle.local_store.specs.Keepers.{Kept}
+use Rattle.local_store.specs.Keepers.{KeeperNow}
 use Rattle.local_store.specs.declared.change.Change.{Change}
 use Rattle.local_store.specs.declared.tables.Tables.{Tables}
 use Rattle.session_steps.proofs.Asked.{kept-same}
 use Rattle.session_steps.specs.Saving.{kept_after}
 use Rattle.session_steps.specs.Steps.{IsStep}
 use Rattle.sync_run.proofs.Whole.{before_end}
+use Rattle.target_upgrade.proofs.Courses.{course_from-last}
 use Rattle.target_upgrade.proofs.Whole.{keeps_begun, keeps_none, keeps_whole}
-use Rattle.target_upgrade.specs.Course.{KeepsVersions, course_of}
-use Rattle.sync_session.specs.Syncing.{IsOpenSync, IsSyncReleased, IsWholeSync, SyncAnswers, SyncGoesOn, SyncNow, begun_at, begun_view, desk_at, ended_at, has_ended}
+use Rattle.target_upgrade.specs.Course.{KeepsVersions, course_of, outside_course}
+use Rattle.sync_session.specs.Syncing.{AddsFrom, HasBegunSync, IsOpenSync, IsSyncReleased, IsWholeSync, SyncAnswers, SyncGoesOn, SyncNow, begun_at, begun_view, desk_at, ended_at, has_ended}
 use Rattle.sync_session.specs.Telling.{Tells, TellsWork}
 use Rattle.sync_session.specs.Working.{is_sync}
 use Rattle.sync_session.specs.declared.sync_err.SyncErr.{SyncErr}
@@ -218,3 +220,91 @@ none_open client t old new trail made kept =
           (append-nil old.line.trail ∙ (sym trail ∙ adds.trail)))
           (keeps_none client);
     }
+
+-- ---- with the begin as it was written down
+
+pub has_begun_sync : (client : List ℕ) (old new : List Event) → new ≡ old ++ Began ∷ []
+    → HasBegunSync client new
+unfolding calls_from
+has_begun_sync client old new is = record {
+  begun = record {
+    stands = begun_stands client old new is;
+    course = ap (course_of client) is ∙ course_from-last client outside_course old Began;
+  };
+  calls = ap session_calls is ∙ calls_from-append [] old (Began ∷ []);
+}
+
+-- so much stands in the trail
+abbrev pub started : SyncNow → List Event → SyncNow
+started s trail = record s { line = record s.line { trail = trail } }
+
+pub open_after : (client : List ℕ) (t u : Tables) (old mid new : SyncNow) (begun : List Event)
+    → begun ≡ old.line.trail ++ Began ∷ []
+    → SyncGoesOn client (started old begun).line mid.line
+    → TellsWork (begun_view t) (desk_at t (started old begun)) (desk_at u mid) → new ≡ mid
+    → IsOpenSync client t old new
+open_after client t u old mid new begun is goes tells same =
+    subst (λ (s : SyncNow). IsOpenSync client t old s) (sym same)
+    (open_sync client t u old mid
+    (subst (λ (es : List Event). SyncGoesOn client (started old es).line mid.line) is goes)
+    (subst (λ (es : List Event).
+    TellsWork (begun_view t) (desk_at t (started old es)) (desk_at u mid)) is tells))
+
+pub whole_after : (client : List ℕ) (t u : Tables) (old mid new : SyncNow) (begun : List Event)
+    (result : Result SyncReport SyncErr) → has_ended result ≡ true
+    → begun ≡ old.line.trail ++ Began ∷ []
+    → IsSyncReleased client (desk_at t (started old begun)) result (desk_at u mid)
+    → SyncGoesOn client (started old begun).line mid.line
+    → TellsWork (begun_view t) (desk_at t (started old begun)) (desk_at u mid)
+    → new ≡ ended_at (desk_at u mid) → IsWholeSync client t old result new
+whole_after client t u old mid new begun result ended is released goes tells same =
+    subst (λ (s : SyncNow). IsWholeSync client t old result s) (sym same)
+    (whole_sync client t u old mid result ended
+    (subst (λ (es : List Event).
+    IsSyncReleased client (desk_at t (started old es)) result (desk_at u mid)) is released)
+    (subst (λ (es : List Event). SyncGoesOn client (started old es).line mid.line) is goes)
+    (subst (λ (es : List Event).
+    TellsWork (begun_view t) (desk_at t (started old es)) (desk_at u mid)) is tells))
+
+-- ---- by the answer
+
+pub adds_whole_from : (client : List ℕ) (t : Tables) (old new : SyncNow)
+    (result : Result SyncReport SyncErr) → has_ended result ≡ true
+    → IsWholeSync client t old result new → AddsFrom client t old result new
+adds_whole_from client t old new (Ok report) ended h = h
+adds_whole_from client t old new (Err (Busy lock now)) ended h = h
+adds_whole_from client t old new (Err (LeaseLost seen)) ended h = h
+adds_whole_from client t old new (Err (TargetOlder version)) ended h = h
+adds_whole_from client t old new (Err (TargetNewer version)) ended h = h
+adds_whole_from client t old new (Err BadInfo) ended h = h
+adds_whole_from client t old new (Err (FailSafe count)) ended h = h
+adds_whole_from client t old new (Err (NoKey key)) ended h = h
+adds_whole_from client t old new (Err TargetFault) ended h = h
+adds_whole_from client t old new (Err KeeperFault) ended h = h
+adds_whole_from client t old new (Err NoMemory) ended h = absurd cc
+
+not_ended : (result : Result SyncReport SyncErr) → has_ended result ≡ false
+    → result ≡ Err NoMemory
+not_ended (Ok report) h = cc
+not_ended (Err (Busy lock now)) h = cc
+not_ended (Err (LeaseLost seen)) h = cc
+not_ended (Err (TargetOlder version)) h = cc
+not_ended (Err (TargetNewer version)) h = cc
+not_ended (Err BadInfo) h = cc
+not_ended (Err (FailSafe count)) h = cc
+not_ended (Err (NoKey key)) h = cc
+not_ended (Err TargetFault) h = cc
+not_ended (Err KeeperFault) h = cc
+not_ended (Err NoMemory) h = refl
+
+pub adds_open_from : (client : List ℕ) (t : Tables) (old new : SyncNow)
+    (result : Result SyncReport SyncErr) → has_ended result ≡ false
+    → IsOpenSync client t old new → AddsFrom client t old result new
+adds_open_from client t old new result ended h =
+    subst (λ (r : Result SyncReport SyncErr). AddsFrom client t old r new)
+    (sym (not_ended result ended)) h
+
+-- ---- the keeper's state
+
+pub keeper_same : (a b : KeeperNow) → b.kept ≡ a.kept → b.faults ≡ a.faults → b ≡ a
+keeper_same a b kept faults = λ i. record { kept = kept i; faults = faults i }

@@ -1,7 +1,8 @@
 -- What is done behind the opening is done behind it for the whole.
-use Rattle.std.specs.Prelude.{ℕ, ◌≡◌, List, [], ◌∷◌, map, filter, Bool, true, false, ◌||◌, Option, Some, None, Result, Ok, Err, refl}
+use Rattle.std.specs.Prelude.{ℕ, ◌≡◌, List, [], ◌∷◌, map, filter, Bool, true, false, ◌&&◌, ◌||◌, if◌then◌else◌, Option, Result, Ok, Err, refl}
 use Rattle.std.proofs.Common.{sym, ◌∙◌, ap, subst, inl, inr}
 use Rattle.std.proofs.lemmas.Bool.{or_left, or_right}
+use Rattle.std.specs.List.{list_any}
 use Rattle.conflicts.specs.declared.error.StepErr.{StepErr}
 use Rattle.conflicts.specs.declared.error.StepErr.TheVariants.{Lost, TargetFault, KeeperFault, FailSafe, NoMemory}
 use Rattle.desk.specs.Desks.{DeskNow}
@@ -30,7 +31,7 @@ use Rattle.opening.specs.declared.refusal.OpenErr.{OpenErr}
 use Rattle.opening.specs.declared.refusal.OpenErr.TheVariants as open_errors
 use Rattle.session_steps.proofs.Ending.{does_as, gives_up_behind}
 use Rattle.session_steps.proofs.Joins.{does_then}
-use Rattle.session_steps.specs.Doing.{Does, GivesUp, Went}
+use Rattle.session_steps.specs.Doing.{Does, Finishes, GivesUp, Went}
 use Rattle.session_steps.specs.Parts.{ForEach, Hears, Part, Then}
 use Rattle.session_steps.specs.Work.{WorkNow}
 use Rattle.target_upgrade.specs.Course.{keeps_version}
@@ -40,9 +41,9 @@ use Rattle.upload.specs.Deleting.{Deletes}
 use Rattle.upload.specs.Uploading.{Uploads, UploadsOne, blobs_of, pending_ids}
 use Rattle.sync_session.proofs.Wider.{IsWithin, does_within, gives_up_within, went_within}
 use Rattle.sync_session.specs.Errors.{of_opening, of_step}
-use Rattle.sync_session.specs.Keys.{has_waiting, needs_key}
+use Rattle.sync_session.specs.Keys.{IsActiveKey, has_waiting, needs_key}
 use Rattle.sync_session.specs.declared.sync_err.SyncErr.{SyncErr}
-use Rattle.sync_session.specs.Working.{Exchanges, ExchangesOr, ListsBehind, Sends, Syncs, Works, is_exchange, is_sync}
+use Rattle.sync_session.specs.Working.{Exchanges, ExchangesOr, LacksKey, ListsBehind, Sends, Syncs, Works, is_exchange, is_sync}
 
 -- ---- sorts
 
@@ -82,11 +83,6 @@ opened_blobs a b h = same_blobs Opens is_opening a b (λ id. refl) h
 
 -- ---- the answers
 
--- what the session answers to that of its parts behind the opening
-abbrev pub answered : Result (Unit {0}) StepErr → Result (Unit {0}) SyncErr
-answered (Ok done) = Ok done
-answered (Err e) = Err (of_step e)
-
 -- a part of the session gave nothing, but not since the target looks as if it were emptied
 works_stopped : (a b : WorkNow) (e : StepErr) → GivesUp is_sync a e b → Works a (Err (of_step e)) b
 works_stopped a b (Lost seen) h = h
@@ -113,49 +109,60 @@ stopped_behind a b c e h k =
     (gives_up_within is_exchange is_sync b c e exchange_within k))
 
 -- what came behind the opening
-pub works_behind : (a b c : WorkNow) (result : Result (Unit {0}) StepErr)
-    → Does Opens is_opening a b → ExchangesOr b result c
-    → Works a (answered result) c
-works_behind a b c (Ok done) h k =
-    let wide = does_within is_opening is_sync a b opening_within h in
+pub works_both : (a b c : WorkNow) → Does Opens is_opening a b
+    → Finishes (Exchanges b.desk.keeper.kept) is_exchange b c
+    → Finishes (Syncs a.desk.keeper.kept) is_sync a c
+works_both a b c h k =
     let same = opened_blobs a b h in
-    does_then Opens (Exchanges a.desk.keeper.kept) is_sync a b c wide
+    does_then Opens (Exchanges a.desk.keeper.kept) is_sync a b c
+    (does_within is_opening is_sync a b opening_within h)
     (does_as (Exchanges b.desk.keeper.kept) (Exchanges a.desk.keeper.kept) is_sync b c
     (λ shown ds. then_as Downloads b.desk.keeper.kept a.desk.keeper.kept _ ds same)
     (does_within is_exchange is_sync b c exchange_within k))
-works_behind a b c (Err (FailSafe count)) h k =
-    let wide = does_within is_opening is_sync a b opening_within h in
+
+pub works_behind : (a b c : WorkNow) (e : StepErr) → Does Opens is_opening a b
+    → ExchangesOr b (Err e) c → Works a (Err (of_step e)) c
+works_behind a b c (FailSafe count) h k =
     let same = opened_blobs a b h in
-    let none = Hears (ListDir Root) (Listed k.listing) in
+    let lists = Hears (ListDir Root) (Listed k.listing) in
     record {
       listing = k.listing;
       listed =
-          does_then Opens (ListsBehind a.desk.keeper.kept k.listing) is_sync a b c wide
+          does_then Opens (ListsBehind a.desk.keeper.kept k.listing) is_sync a b c
+          (does_within is_opening is_sync a b opening_within h)
           (does_as (ListsBehind b.desk.keeper.kept k.listing)
           (ListsBehind a.desk.keeper.kept k.listing) is_sync b c
-          (λ shown ds. then_as none b.desk.keeper.kept a.desk.keeper.kept _ ds same)
+          (λ shown ds. then_as lists b.desk.keeper.kept a.desk.keeper.kept _ ds same)
           (does_within is_exchange is_sync b c exchange_within k.listed));
       rows = k.rows;
     }
-works_behind a b c (Err (Lost seen)) h k =
+works_behind a b c (Lost seen) h k =
     stopped_behind a b c (Lost seen) (does_within is_opening is_sync a b opening_within h) k
-works_behind a b c (Err TargetFault) h k =
+works_behind a b c TargetFault h k =
     stopped_behind a b c TargetFault (does_within is_opening is_sync a b opening_within h) k
-works_behind a b c (Err KeeperFault) h k =
+works_behind a b c KeeperFault h k =
     stopped_behind a b c KeeperFault (does_within is_opening is_sync a b opening_within h) k
-works_behind a b c (Err NoMemory) h k =
+works_behind a b c NoMemory h k =
     stopped_behind a b c NoMemory (does_within is_opening is_sync a b opening_within h) k
+
+-- rows wait that can't be sealed
+pub lacks_key : (a b : WorkNow) (t : Tables) (key : Option (List ℕ)) → Does Opens is_opening a b
+    → t ≡ b.desk.tables → needs_key t ≡ true → IsActiveKey t.info.active.value key
+    → LacksKey a key b
+lacks_key a b t key h same needs active = record {
+  opened = does_within is_opening is_sync a b opening_within h;
+  needs = subst (λ (u : Tables). needs_key u ≡ true) same needs;
+  active = subst (λ (u : Tables). IsActiveKey u.info.active.value key) same active;
+}
 
 -- ---- what it keeps
 
-pub went_exchanged : (a b : WorkNow) (result : Result (Unit {0}) StepErr) → ExchangesOr a result b
-    → Went is_exchange a b
-went_exchanged a b (Ok done) h = h.went
-went_exchanged a b (Err (FailSafe count)) h = h.listed.went
-went_exchanged a b (Err (Lost seen)) h = h.0.went
-went_exchanged a b (Err TargetFault) h = h.0.went
-went_exchanged a b (Err KeeperFault) h = h.stops.went
-went_exchanged a b (Err NoMemory) h = h
+pub went_stopped : (a b : WorkNow) (e : StepErr) → ExchangesOr a (Err e) b → Went is_exchange a b
+went_stopped a b (FailSafe count) h = h.listed.went
+went_stopped a b (Lost seen) h = h.0.went
+went_stopped a b TargetFault h = h.0.went
+went_stopped a b KeeperFault h = h.stops.went
+went_stopped a b NoMemory h = h
 
 -- a client that was told the version may do all that comes behind the opening
 exchange_keeps : (call : Call) → is_exchange call ≡ true → keeps_version true call ≡ true
@@ -166,33 +173,46 @@ exchange_keeps (Delete OldVersion) is = absurd cc
 exchange_keeps (MakeDir dir) is = absurd cc
 exchange_keeps call is = refl
 
-pub lawful_behind : (a b : WorkNow) (result : Result (Unit {0}) StepErr)
-    → IsHeld a.lease a.desk.line.trail → a.lease.kind ≡ Sync → IsLawful a.lease a.desk
-    → KnowsVersion a.lease a.desk → ExchangesOr a result b → IsLawful b.lease b.desk
-lawful_behind a b result held sync lawful told h =
-    (stays_lawful is_exchange true a b exchange_keeps held sync lawful (λ yes. told)
-    (went_exchanged a b result h)).lawful
+-- the opening was done, and the session stands so behind it
+pub record HasOpened (a b : WorkNow) : Type 0 where
+  pub does : Does Opens is_opening a b
+  pub held : IsHeld b.lease b.desk.line.trail
+  pub sync : b.lease.kind ≡ Sync
+  pub lawful : IsLawful b.lease b.desk
+  pub told : KnowsVersion b.lease b.desk
+  pub merges : MergesBetween a.desk b.desk
+
+pub lawful_behind : (a b c : WorkNow) → HasOpened a b → Went is_exchange b c
+    → IsLawful c.lease c.desk
+lawful_behind a b c h went =
+    (stays_lawful is_exchange true b c exchange_keeps h.held h.sync h.lawful (λ yes. h.told)
+    went).lawful
 
 -- no info is put behind the opening
-pub merges_behind : (a b c : WorkNow) (result : Result (Unit {0}) StepErr)
-    → Does Opens is_opening a b → ExchangesOr b result c → MergesBetween a.desk b.desk
+pub merges_behind : (a b c : WorkNow) → HasOpened a b → Went is_exchange b c
     → MergesBetween a.desk c.desk
-merges_behind a b c result h k merges =
-    let went = went_exchanged b c result k in
-    merges_on Opens is_sync a b c (does_within is_opening is_sync a b opening_within h)
-    (went_within is_exchange is_sync b c exchange_within went) merges
+merges_behind a b c h went =
+    merges_on Opens is_sync a b c (does_within is_opening is_sync a b opening_within h.does)
+    (went_within is_exchange is_sync b c exchange_within went) h.merges
     (merges_none is_exchange b c (λ content. refl) went)
 
 -- ---- what it asks for
 
+none_if : (r : Row) (rs ws : List Row) (waits : Bool) → r.pending ≡ waits
+    → (waits || list_any (λ (x : Row). x.pending) rs) ≡ false
+    → (list_any (λ (x : Row). x.pending) rs ≡ false → ws ≡ [])
+    → (if waits then r ∷ ws else ws) ≡ []
+none_if r rs ws true is none rest = absurd cc
+none_if r rs ws false is none rest = rest none
+
 none_waiting : (rs : List Row) → has_waiting rs ≡ false → filter (λ (r : Row). r.pending) rs ≡ []
-unfolding has_waiting
 none_waiting [] none = refl
-none_waiting (r ∷ rs) none = by r.pending refl where
-  by : (waits : Bool) → r.pending ≡ waits → filter (λ (x : Row). x.pending) (r ∷ rs) ≡ []
-  by true is = let no = none in absurd cc
-  by false is =
-      let rest : has_waiting rs ≡ false = cc in rw is (none_waiting rs rest)
+none_waiting (r ∷ rs) none =
+    none_if r rs (filter (λ (x : Row). x.pending) rs) r.pending refl none (none_waiting rs)
+
+none_behind : (a b : Bool) → a ≡ true → (a && b) ≡ false → b ≡ false
+none_behind true b is none = none
+none_behind false b is none = absurd cc
 
 -- nothing is to be sealed, or nothing waits
 pub can_put : (t : Tables) → needs_key t ≡ false → IsReadable t
@@ -200,7 +220,7 @@ can_put t none = by t.info.e2ee.value refl where
   by : (seals : Bool) → t.info.e2ee.value ≡ seals → IsReadable t
   by false is = inl is
   by true is =
-      let rest : has_waiting t.rows ≡ false = cc in
+      let rest : has_waiting t.rows ≡ false = none_behind _ _ is none in
       inr (ap (map row_id) (none_waiting t.rows rest))
 
 -- the session has put no item yet

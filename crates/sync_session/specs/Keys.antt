@@ -1,5 +1,6 @@
 -- Whether a session can go on without a key.
-use Rattle.std.specs.Prelude.{ℕ, ◌≡◌, List, [], ◌∷◌, Bool, true, false, ◌&&◌, ◌||◌, if◌then◌else◌, Option, Some, None, length, filter}
+use Rattle.std.specs.Prelude.{ℕ, ◌≡◌, List, Bool, true, false, ◌&&◌, Option, Some, None, length, filter}
+use Rattle.std.specs.List.{list_any}
 use Rattle.jop_base.specs.Id.{IsIdText}
 use Rattle.local_store.specs.declared.content.Content.{Content}
 use Rattle.local_store.specs.declared.content.Content.TheVariants.{Plain, Sealed}
@@ -7,11 +8,10 @@ use Rattle.local_store.specs.declared.row.Row.{Row}
 use Rattle.local_store.specs.declared.tables.Tables.{Tables}
 
 -- whether one of these rows waits to be uploaded
-unfoldable pub has_waiting : List Row → Bool
-has_waiting [] = false
-has_waiting (r ∷ rs) = r.pending || has_waiting rs
+abbrev pub has_waiting : List Row → Bool
+has_waiting rows = list_any (λ (r : Row). r.pending) rows
 
--- files are to be sealed, and something waits to be uploaded: then a key is needed, and no key is known here
+-- files are to be sealed and something waits to be uploaded, so a key is needed, and none is known here
 abbrev pub needs_key : Tables → Bool
 needs_key t = t.info.e2ee.value && has_waiting t.rows
 

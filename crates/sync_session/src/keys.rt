@@ -6,7 +6,6 @@ use local_store::{Content, Row, Tables};
 use sync_info::Info;
 
 /// Whether one of these rows waits to be uploaded.
-#[tactic(auto, unfolding(crate::specs::Keys::has_waiting))]
 fn has_waiting(rows: &[Row]) -> bool
     ensures { result ≡ has_waiting rows.now }
 {
@@ -18,7 +17,7 @@ fn has_waiting(rows: &[Row]) -> bool
     false
 }
 
-/// Whether files are to be sealed while something waits to be uploaded: then a key is needed, and no key is known here.
+/// Whether files are to be sealed while something waits to be uploaded, so that a key is needed: none is known here.
 pub(crate) fn needs_key(tables: &Tables) -> bool
     ensures { result ≡ needs_key tables.now }
 {

@@ -1,12 +1,14 @@
 ghost use Rattle.std.specs.Prelude.{◌≡◌, ◌++◌, ℕ, List, [], Err, None, Some, true};
-ghost use Rattle.desk.specs.Desks.{IsTidy};
+ghost use Rattle.desk.specs.Desks.{IsSameDesk, IsTidy};
 ghost use Rattle.exclusion.specs.Exclusive.{KeepsExclusive};
 ghost use Rattle.jop_base.specs.declared.lock_name.LockKind.{LockKind};
 ghost use Rattle.jop_target.specs.Runs.{Continues};
 ghost use Rattle.jop_target.specs.declared.event.Event.{Event};
 ghost use Rattle.kept_tables.specs.Trails.{KeepsNotes};
 ghost use Rattle.lease.specs.Blocked.{NamesALiveLock};
+ghost use Rattle.lease.specs.Calls.{LeaseGoesOn};
 ghost use Rattle.lease.specs.Exclusion.{KeepsApart};
+ghost use Rattle.lease.specs.Outcomes.{Acquires};
 ghost use Rattle.lease.specs.declared.lock.Lock.{Lock};
 ghost use Rattle.licences.specs.Deeds.{deeds_of};
 ghost use Rattle.licences.specs.Licences.{MergesInfo, ObeysData};
@@ -33,7 +35,7 @@ use exclusion::exclusive;
 use jop_base::{ClientId, LockKind};
 use jop_target::{Diary, Target};
 use kept_tables::notes_are_kept_by_tables;
-use lease::{Lease, acquire, blocked, held_apart};
+use lease::{Lease, LeaseErr, acquire, blocked, held_apart};
 use local_store::{Changes, Keeper, Tables};
 use std::alloc::Global;
 
@@ -97,6 +99,26 @@ pub fn sync_on<T: Target, K: Keeper>(
     exclusive();
     blocked();
     notes_are_kept_by_tables();
+    read_and_sync(alloc, target, keeper, client, diary, made)
+}
+
+/// Reads the tables, and makes the session from them.
+fn read_and_sync<T: Target, K: Keeper>(
+    alloc: Global,
+    target: &mut T,
+    keeper: &mut K,
+    client: &ClientId,
+    diary: &mut Diary,
+    made: &mut Changes,
+) -> Result<SyncReport, SyncErr>
+    ensures session { AddsSync client.now
+        (sync_now diary.old.events (T.state target.old) (K.state keeper.old) made.old.changes)
+        result
+        (sync_now diary.new.events (T.state target.new) (K.state keeper.new) made.new.changes) }
+    ensures line { Continues (IsMarkOr (IsStep is_sync client.now))
+        (record { trail = diary.old.events; target = T.state target.old })
+        (record { trail = diary.new.events; target = T.state target.new }) }
+{
     let mut tables = keeper.read(alloc)?;
     make_session(alloc, target, keeper, &mut tables, client, diary, made)
 }
@@ -177,11 +199,23 @@ fn take_and_sync<S: Desk>(
     ensures tells { TellsWork (begun_view (S.desk site.old).tables) (S.desk site.old) (S.desk site.new) }
     ensures stays { S.stays site.old site.new }
 {
-    let lease = acquire(alloc, site, LockKind::Sync, client)?;
+    let lease = take(alloc, site, client)?;
     let mut report = SyncReport::new(alloc);
     sync_held(alloc, site, lease, &mut report)?;
     report.locked = sealed_rows(site.tables());
     Ok(report)
+}
+
+/// Takes a sync lock for the client.
+fn take<S: Desk>(alloc: Global, site: &mut S, client: &ClientId) -> Result<Lease, LeaseErr>
+    requires { HasBegunSync client.now (S.desk site.old).line.trail }
+    ensures gives { Acquires LockKind.Sync client.now (S.desk site.old).line
+        (S.desk site.new).line result }
+    ensures goes { LeaseGoesOn client.now (S.desk site.old).line (S.desk site.new).line }
+    ensures same { IsSameDesk (S.desk site.old) (S.desk site.new) }
+    ensures stays { S.stays site.old site.new }
+{
+    acquire(alloc, site, LockKind::Sync, client)
 }
 
 /// Syncs under a lease, and gives it up.

@@ -1,0 +1,28 @@
+use Rattle.std.proofs.lemmas.Result.{err_from_is_err_and}
+use Rattle.session_steps.specs.Work.{work}
+use Rattle.upload.specs.Uploading.{is_upload}
+use Rattle.sync_session.proofs.Exchanged.{sends_both, sends_stopped, upload_within}
+use Rattle.sync_session.proofs.Wider.{gives_up_within}
+use Rattle.sync_session.specs.Working.{is_exchange}
+use Rattle.sync_session.proofs.exchanging.send.Goals as goal
+
+pub returns-in_err-upload_all-clause-sends : goal.returns-in_err-upload_all-clause-sends
+returns-in_err-upload_all-clause-sends g c =
+    let p = err_from_is_err_and c.from_residual.result c.from_residual.ensures.1 in
+    rw (p.1, p.2)
+    (gives_up_within is_upload is_exchange _ _ _ upload_within c.in_err-upload_all.ensures.ends)
+
+pub returns-in_err-delete_all-clause-sends : goal.returns-in_err-delete_all-clause-sends
+returns-in_err-delete_all-clause-sends g c =
+    let p = err_from_is_err_and c.from_residual-in_err-delete_all.result
+    c.from_residual-in_err-delete_all.ensures.1 in
+    rw (p.1, p.2)
+    (sends_stopped _ (work (g.S.Desk.desk c.upload_all.new.site) c.upload_all.new.lease
+    c.upload_all.new.report) _ _ c.in_ok-upload_all.ensures.ends
+    c.in_err-delete_all.ensures.deletes)
+
+pub returns-clause-sends : goal.returns-clause-sends
+returns-clause-sends g c =
+    sends_both (work (g.S.Desk.desk c.args.site.now) c.args.lease.now c.args.report.now)
+    (work (g.S.Desk.desk c.upload_all.new.site) c.upload_all.new.lease c.upload_all.new.report)
+    _ c.in_ok-upload_all.ensures.ends c.in_ok-delete_all.ensures.deletes
