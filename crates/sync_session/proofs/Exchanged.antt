@@ -1,5 +1,5 @@
 -- What was saved and removed here is sent, and then the page is read.
-use Rattle.std.specs.Prelude.{ℕ, ◌≡◌, List, [], ◌∷◌, Bool, true, false, ◌||◌, Option, Some, None, Result, Ok, Err, refl}
+use Rattle.std.specs.Prelude.{ℕ, ◌≡◌, List, [], ◌∷◌, Bool, ◌||◌, Some, None, Err}
 use Rattle.std.proofs.Common.{sym, ◌∙◌, ap, subst}
 use Rattle.std.proofs.lemmas.Bool.{or_left, or_right}
 use Rattle.conflicts.specs.declared.error.StepErr.{StepErr}
@@ -10,19 +10,17 @@ use Rattle.download.specs.Reading.{IsEmptied, Refuses}
 use Rattle.jop_base.specs.declared.dir.Dir.TheVariants.{Root}
 use Rattle.jop_target.specs.declared.call.Call.{Call}
 use Rattle.jop_target.specs.declared.call.Call.TheVariants.{List as ListDir}
-use Rattle.jop_target.specs.declared.reply.Listing.{Listing}
 use Rattle.jop_target.specs.declared.reply.Reply.{Reply}
 use Rattle.jop_target.specs.declared.reply.Reply.TheVariants.{Listed}
 use Rattle.licences.proofs.Told.{tables-view_from}
 use Rattle.licences.specs.Deeds.{Asks, Deed}
 use Rattle.licences.specs.Views.{View, synced_ids, view_from}
-use Rattle.local_store.specs.Keepers.{Kept}
 use Rattle.local_store.specs.declared.tables.Tables.{Tables}
 use Rattle.session_steps.proofs.Ending.{gives_up_behind}
 use Rattle.session_steps.proofs.Joins.{does_then}
 use Rattle.session_steps.proofs.Seen.{view_from-but_locks}
 use Rattle.session_steps.specs.Doing.{Does, Finishes, GivesUp}
-use Rattle.session_steps.specs.Parts.{Hears, Then, but_locks}
+use Rattle.session_steps.specs.Parts.{Hears, but_locks}
 use Rattle.session_steps.specs.Work.{WorkNow, view_of}
 use Rattle.upload.specs.Deleting.{Deletes, is_deletion}
 use Rattle.upload.specs.Uploading.{Uploads, is_upload}

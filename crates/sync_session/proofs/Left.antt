@@ -1,5 +1,5 @@
 -- The lease is had, work is done under it, and it is given up.
-use Rattle.std.specs.Prelude.{ℕ, ◌≤◌, ◌≡◌, List, [], ◌∷◌, ◌++◌, Bool, true, false, Option, Some, None, Result, Ok, Err, refl}
+use Rattle.std.specs.Prelude.{ℕ, ◌≤◌, ◌≡◌, List, [], ◌∷◌, ◌++◌, Bool, true, false, None, Result, Ok, Err, refl}
 use Rattle.std.proofs.Common.{sym, ◌∙◌, ap, arith, subst, inl, inr}
 use Rattle.conflicts.specs.Reports.{new_report}
 use Rattle.conflicts.specs.declared.report.SyncReport.{SyncReport}
@@ -20,7 +20,7 @@ use Rattle.lease.specs.Calls.{EndsFailed, Fails, LeaseGoesOn}
 use Rattle.lease.specs.Discipline.{ends_released, phase_of, session_of}
 use Rattle.lease.specs.Locks.{own_name}
 use Rattle.lease.specs.Outcomes.{Acquires, HasAcquired, HasMissed, IsBlocked, Releases}
-use Rattle.lease.specs.Phase.{Asked, Over, Phase, Renewing}
+use Rattle.lease.specs.Phase.{Asked, Over, Renewing}
 use Rattle.lease.specs.Standing.{IsSameBut, StandsIn}
 use Rattle.lease.specs.declared.error.LeaseErr.{LeaseErr}
 use Rattle.lease.specs.declared.error.LeaseErr.TheVariants as lease_errors
@@ -424,6 +424,13 @@ released_by client lease old held late new e (Err (FailSafe count)) result ended
 released_by client lease old held late new e (Err (NoKey key)) result ended taken works leaves =
     given_up client lease old held late new e (NoKey key) leaves.released taken works
     leaves.gives leaves.same result ended leaves.is (λ left released. (left, released))
+
+-- a report that is new
+pub ends_from : (lease : Lease) (old : DeskNow) (report other : SyncReport)
+    (result : Result (Unit {0}) SyncErr) (new : DeskNow) (after : SyncReport) → report ≡ other
+    → EndsWork lease old report result new after → EndsWork lease old other result new after
+ends_from lease old report other result new after same h =
+    subst (λ (r : SyncReport). EndsWork lease old r result new after) same h
 
 pub released_work : (client : List ℕ) (lease : Lease) (old held new : DeskNow) (e : SyncErr)
     (after : SyncReport) (result : Result (Unit {0}) SyncErr) → result ≡ Err e

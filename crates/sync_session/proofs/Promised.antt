@@ -1,5 +1,5 @@
 -- What a sync promises by what it added.
-use Rattle.std.specs.Prelude.{ℕ, ◌≡◌, List, [], ◌∷◌, ◌++◌, length, Option, Some, None, Result, Ok, Err, refl}
+use Rattle.std.specs.Prelude.{ℕ, ◌≡◌, List, [], ◌++◌, length, Option, Some, None, Result, Ok, Err}
 use Rattle.std.proofs.Common.{sym, ◌∙◌, ap, subst, inl, inr, append-nil}
 use Rattle.std.proofs.lemmas.List.{append_cancel_left}
 use Rattle.std.proofs.lemmas.Option.{same_Some}
@@ -7,12 +7,11 @@ use Rattle.conflicts.specs.declared.report.SyncReport.{SyncReport}
 use Rattle.jop_base.specs.declared.lock_name.LockKind.TheVariants.{Sync}
 use Rattle.jop_target.specs.Trail.{LineNow}
 use Rattle.jop_target.specs.declared.event.Event.{Event}
-use Rattle.jop_target.specs.declared.event.Event.TheVariants.{Began, Ended}
 use Rattle.lease.proofs.WholeSessions.{obeys_none}
 use Rattle.lease.specs.Blocked.{NamesALiveLock}
 use Rattle.lease.specs.Outcomes.{IsBlocked}
 use Rattle.lease.specs.declared.lock.Lock.{Lock}
-use Rattle.licences.specs.Deeds.{Deed, changes_in, deeds_of, events_of}
+use Rattle.licences.specs.Deeds.{changes_in, deeds_of, events_of}
 use Rattle.licences.specs.Licences.{Each, MergesInfo, ObeysData}
 use Rattle.licences.specs.Views.{at_rest}
 use Rattle.local_store.specs.Keepers.{IsOfKept, Kept}
@@ -22,7 +21,7 @@ use Rattle.session_steps.specs.Steps.{IsStep}
 use Rattle.sync_run.proofs.Whole.{NamesBlocked, before_end, names_added}
 use Rattle.target_upgrade.proofs.Whole.{keeps_none}
 use Rattle.target_upgrade.specs.Course.{ObeysLease}
-use Rattle.sync_session.specs.Syncing.{AddsFrom, AddsSync, IsOpenSync, IsUnread, IsWholeSync, SyncNow, desk_at}
+use Rattle.sync_session.specs.Syncing.{AddsFrom, AddsSync, IsUnread, IsWholeSync, SyncNow, desk_at}
 use Rattle.sync_session.specs.Telling.{Tells}
 use Rattle.sync_session.specs.Working.{is_sync}
 use Rattle.sync_session.specs.declared.sync_err.SyncErr.{SyncErr}
@@ -97,17 +96,25 @@ obeys_sync client old new result added (inr adds) is =
 
 -- ---- the lock for which it gave up
 
-pub names_sync : (client : List ℕ) (old new : SyncNow) (added : List Event) (lock : Lock) (now : ℕ)
+names_busy : (client : List ℕ) (old new : SyncNow) (added : List Event) (lock : Lock) (now : ℕ)
     → NamesBlocked → AddsSync client old (Err (Busy lock now)) new
     → new.line.trail ≡ old.line.trail ++ added → NamesALiveLock Sync client added lock now
-names_sync client old new added lock now law (inl unread) is = absurd unread
-names_sync client old new added lock now law (inr adds) is =
+names_busy client old new added lock now law (inl unread) is = absurd unread
+names_busy client old new added lock now law (inr adds) is =
     let h = adds.2 in
     let at = before_end old.line.trail h.whole.middle h.last.line.trail new.line.trail
     (ap (λ (s : SyncNow). s.line.trail) h.ended) h.whole.trail in
     names_added (IsStep is_sync client) Sync client old.line.trail new.line.trail added lock now
     h.whole law
     (subst (λ (es : List Event). IsBlocked Sync client es lock now) at h.answers.0) is
+
+pub names_sync : (client : List ℕ) (old new : SyncNow) (result : Result SyncReport SyncErr)
+    (added : List Event) (lock : Lock) (now : ℕ) → NamesBlocked → result ≡ Err (Busy lock now)
+    → AddsSync client old result new → new.line.trail ≡ old.line.trail ++ added
+    → NamesALiveLock Sync client added lock now
+names_sync client old new result added lock now law busy h is =
+    names_busy client old new added lock now law
+    (subst (λ (r : Result SyncReport SyncErr). AddsSync client old r new) busy h) is
 
 -- ---- its licences
 

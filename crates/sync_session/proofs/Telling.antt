@@ -1,21 +1,17 @@
 -- What is told of a client, put together.
-use Rattle.std.specs.Prelude.{ℕ, ◌≡◌, List, [], ◌∷◌, ◌++◌, All, Bool, length, Option, option_map, refl}
+use Rattle.std.specs.Prelude.{ℕ, ◌≡◌, List, [], ◌∷◌, ◌++◌, Bool, length, Option, option_map}
 use Rattle.std.proofs.Common.{sym, ◌∙◌, ap, subst, append-nil, append_assoc}
 use Rattle.desk.specs.Desks.{DeskNow, IsSameDesk}
 use Rattle.jop_target.specs.declared.call.Call.{Call}
 use Rattle.jop_target.specs.declared.event.Event.{Event}
-use Rattle.jop_target.specs.declared.event.Event.TheVariants.{Began, Ended}
-use Rattle.jop_target.specs.Trail.{LineNow}
-use Rattle.lease.specs.Calls.{IsLeaseEvent, LeaseGoesOn}
-use Rattle.licences.proofs.Joins.{Each-append, view_from-append}
+use Rattle.lease.specs.Calls.{LeaseGoesOn}
+use Rattle.licences.proofs.Joins.{Each-append}
 use Rattle.licences.proofs.Settled.{stays_inside}
 use Rattle.licences.proofs.Told.{AreWork-append, changes_in-append, deeds_of-events_of, events_of-append}
 use Rattle.licences.specs.Deeds.{Deed, Begins, Asks, Makes, MakesUntold, Ends, Stops, changes_in, events_of}
-use Rattle.licences.specs.Licences.{AreWork, Each, IsInside, MayDo, MayMerge, MergesInfo, ObeysData}
-use Rattle.licences.specs.Views.{Shown, Stage, View, seen, view_from}
-use Rattle.local_store.specs.Changing.{after_all}
-use Rattle.local_store.specs.Keepers.{Kept, KeeperNow}
-use Rattle.local_store.specs.declared.blob.Blob.{Blob}
+use Rattle.licences.specs.Licences.{AreWork, Each, IsInside, MayDo, MayMerge, MergesInfo}
+use Rattle.licences.specs.Views.{Shown, View, seen, view_from}
+use Rattle.local_store.specs.Keepers.{KeeperNow}
 use Rattle.local_store.specs.declared.change.Change.{Change}
 use Rattle.opening.proofs.Merging.{merges_of}
 use Rattle.opening.specs.Opening.{MergesBetween}
@@ -26,7 +22,7 @@ use Rattle.session_steps.specs.Doing.{Went}
 use Rattle.session_steps.specs.Saving.{kept_after}
 use Rattle.session_steps.specs.Work.{Fits, WorkNow, view_of}
 use Rattle.sync_session.proofs.Merging.{merges_own}
-use Rattle.sync_session.specs.Telling.{Tells, TellsWork}
+use Rattle.sync_session.specs.Telling.{TellsWork}
 
 -- ---- inside
 

@@ -1,12 +1,12 @@
 -- A sync from its begin to its end.
-use Rattle.std.specs.Prelude.{ℕ, ◌≡◌, ◌+◌, List, [], ◌∷◌, ◌++◌, All, length, Bool, true, false, Option, Some, None, option_map, Result, Ok, Err, refl}
-use Rattle.std.proofs.Common.{sym, ◌∙◌, ap, subst, inl, inr, append-nil, append_assoc}
+use Rattle.std.specs.Prelude.{ℕ, ◌≡◌, ◌+◌, List, [], ◌∷◌, ◌++◌, length, true, false, Some, None, option_map, Result, Ok, Err, refl}
+use Rattle.std.proofs.Common.{sym, ◌∙◌, ap, subst, inr, append-nil, append_assoc}
 use Rattle.std.proofs.lemmas.List.{append_cancel_left}
 use Rattle.conflicts.specs.declared.report.SyncReport.{SyncReport}
 use Rattle.desk.specs.Desks.{DeskNow}
 use Rattle.jop_target.specs.declared.event.Event.{Event}
 use Rattle.jop_target.specs.declared.event.Event.TheVariants.{Began, Sent, Called, Made, Ended}
-use Rattle.jop_target.specs.Trail.{LineNow}
+use Rattle.jop_target.specs.Replies.{TargetNow}
 use Rattle.lease.proofs.WholeSessions.{adds_begun, adds_none, adds_whole, at_seam, begun_stands}
 use Rattle.lease.specs.Discipline.{ends_released, phase_of}
 use Rattle.lease.specs.WholeSession.{IsInner}
@@ -16,7 +16,8 @@ use Rattle.licences.specs.Trails.{calls_from, session_calls}
 use Rattle.licences.specs.Deeds.{Deed, Begins, Asks, Makes, MakesUntold, Ends, Stops, changes_in, deeds_of, events_of}
 use Rattle.licences.specs.Licences.{AreWork, Each, MayDo, MayMerge}
 use Rattle.licences.specs.Views.{View, at_rest}
-use Rattle.local_store.specs.Keepers.{KeeperNow}
+use Rattle.local_store.specs.Keepers.{HasCause, IsOfKept, KeeperNow}
+use Rattle.local_store.specs.Sound.{IsSound}
 use Rattle.local_store.specs.declared.change.Change.{Change}
 use Rattle.local_store.specs.declared.tables.Tables.{Tables}
 use Rattle.session_steps.proofs.Asked.{kept-same}
@@ -26,7 +27,7 @@ use Rattle.sync_run.proofs.Whole.{before_end}
 use Rattle.target_upgrade.proofs.Courses.{course_from-last}
 use Rattle.target_upgrade.proofs.Whole.{keeps_begun, keeps_none, keeps_whole}
 use Rattle.target_upgrade.specs.Course.{KeepsVersions, course_of, outside_course}
-use Rattle.sync_session.specs.Syncing.{AddsFrom, HasBegunSync, IsOpenSync, IsSyncReleased, IsWholeSync, SyncAnswers, SyncGoesOn, SyncNow, begun_at, begun_view, desk_at, ended_at, has_ended}
+use Rattle.sync_session.specs.Syncing.{AddsFrom, AddsSync, HasBegunSync, IsOpenSync, IsSyncReleased, IsWholeSync, SyncAnswers, SyncGoesOn, SyncNow, begun_at, begun_view, desk_at, ended_at, has_ended, sync_now}
 use Rattle.sync_session.specs.Telling.{Tells, TellsWork}
 use Rattle.sync_session.specs.Working.{is_sync}
 use Rattle.sync_session.specs.declared.sync_err.SyncErr.{SyncErr}
@@ -238,27 +239,27 @@ has_begun_sync client old new is = record {
 abbrev pub started : SyncNow → List Event → SyncNow
 started s trail = record s { line = record s.line { trail = trail } }
 
-pub open_after : (client : List ℕ) (t u : Tables) (old mid new : SyncNow) (begun : List Event)
+pub open_after : (client : List ℕ) (t u : Tables) (old mid : SyncNow) (begun trail : List Event)
     → begun ≡ old.line.trail ++ Began ∷ []
     → SyncGoesOn client (started old begun).line mid.line
-    → TellsWork (begun_view t) (desk_at t (started old begun)) (desk_at u mid) → new ≡ mid
-    → IsOpenSync client t old new
-open_after client t u old mid new begun is goes tells same =
-    subst (λ (s : SyncNow). IsOpenSync client t old s) (sym same)
+    → TellsWork (begun_view t) (desk_at t (started old begun)) (desk_at u mid)
+    → trail ≡ mid.line.trail → IsOpenSync client t old (started mid trail)
+open_after client t u old mid begun trail is goes tells same =
+    subst (λ (es : List Event). IsOpenSync client t old (started mid es)) (sym same)
     (open_sync client t u old mid
     (subst (λ (es : List Event). SyncGoesOn client (started old es).line mid.line) is goes)
     (subst (λ (es : List Event).
     TellsWork (begun_view t) (desk_at t (started old es)) (desk_at u mid)) is tells))
 
-pub whole_after : (client : List ℕ) (t u : Tables) (old mid new : SyncNow) (begun : List Event)
+pub whole_after : (client : List ℕ) (t u : Tables) (old mid : SyncNow) (begun trail : List Event)
     (result : Result SyncReport SyncErr) → has_ended result ≡ true
     → begun ≡ old.line.trail ++ Began ∷ []
     → IsSyncReleased client (desk_at t (started old begun)) result (desk_at u mid)
     → SyncGoesOn client (started old begun).line mid.line
     → TellsWork (begun_view t) (desk_at t (started old begun)) (desk_at u mid)
-    → new ≡ ended_at (desk_at u mid) → IsWholeSync client t old result new
-whole_after client t u old mid new begun result ended is released goes tells same =
-    subst (λ (s : SyncNow). IsWholeSync client t old result s) (sym same)
+    → trail ≡ mid.line.trail ++ Ended ∷ [] → IsWholeSync client t old result (started mid trail)
+whole_after client t u old mid begun trail result ended is released goes tells same =
+    subst (λ (es : List Event). IsWholeSync client t old result (started mid es)) (sym same)
     (whole_sync client t u old mid result ended
     (subst (λ (es : List Event).
     IsSyncReleased client (desk_at t (started old es)) result (desk_at u mid)) is released)
@@ -308,3 +309,21 @@ adds_open_from client t old new result ended h =
 
 pub keeper_same : (a b : KeeperNow) → b.kept ≡ a.kept → b.faults ≡ a.faults → b ≡ a
 keeper_same a b kept faults = λ i. record { kept = kept i; faults = faults i }
+
+calm : {T : Type 0} (before after : ℕ) (value : T) → HasCause before (Ok value) after
+    → after ≡ before
+calm before after value h = h.stays (λ failed. cc)
+
+-- the tables were read, which leaves what is kept
+pub adds_read : (client : List ℕ) (t : Tables) (trail : List Event) (target : TargetNow)
+    (k l : KeeperNow) (made : List Change) (result : Result SyncReport SyncErr) (new : SyncNow)
+    → IsSound t → IsOfKept k.kept t → l.kept ≡ k.kept → HasCause k.faults (Ok t) l.faults
+    → AddsFrom client t (sync_now trail target l made) result new
+    → AddsSync client (sync_now trail target k made) result new
+adds_read client t trail target k l made result new sound told kept cause adds =
+    inr (
+      t,
+      record { sound = sound; told = told },
+      subst (λ (x : KeeperNow). AddsFrom client t (sync_now trail target x made) result new)
+          (keeper_same k l kept (calm k.faults l.faults t cause)) adds,
+    )

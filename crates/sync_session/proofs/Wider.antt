@@ -1,5 +1,5 @@
 -- Work of one sort is work of a wider one.
-use Rattle.std.specs.Prelude.{ℕ, ◌≡◌, ◌⊎◌, List, [], ◌∷◌, Bool, true, false, ◌&&◌, ◌||◌, not, Option, Result, Ok, Err, refl}
+use Rattle.std.specs.Prelude.{ℕ, ◌≡◌, List, [], ◌∷◌, Bool, true, false, ◌&&◌, ◌||◌, not, Result, Ok, Err, refl}
 use Rattle.std.proofs.Common.{inl, inr}
 use Rattle.conflicts.specs.declared.error.StepErr.{StepErr}
 use Rattle.conflicts.specs.declared.error.StepErr.TheVariants.{Lost, TargetFault, KeeperFault, FailSafe, NoMemory}
@@ -13,7 +13,7 @@ use Rattle.lease.specs.Discipline.{Session, session_after}
 use Rattle.lease.specs.Idle.{is_work}
 use Rattle.lease.specs.Phase.{role_of}
 use Rattle.licences.specs.Views.{Stage}
-use Rattle.session_steps.specs.Doing.{Does, DoesTo, Ends, GivesUp, Stops, Went}
+use Rattle.session_steps.specs.Doing.{DoesTo, Ends, GivesUp, Stops, Went}
 use Rattle.session_steps.specs.Parts.{Part}
 use Rattle.session_steps.specs.Saving.{Told}
 use Rattle.session_steps.specs.Steps.{IsStep, is_sorted, works_by}

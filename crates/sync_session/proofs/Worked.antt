@@ -1,6 +1,6 @@
 -- What is done behind the opening is done behind it for the whole.
-use Rattle.std.specs.Prelude.{ℕ, ◌≡◌, List, [], ◌∷◌, map, filter, Bool, true, false, ◌&&◌, ◌||◌, if◌then◌else◌, Option, Result, Ok, Err, refl}
-use Rattle.std.proofs.Common.{sym, ◌∙◌, ap, subst, inl, inr}
+use Rattle.std.specs.Prelude.{ℕ, ◌≡◌, List, [], ◌∷◌, map, filter, Bool, true, false, ◌&&◌, ◌||◌, if◌then◌else◌, Option, Err, refl}
+use Rattle.std.proofs.Common.{◌∙◌, ap, subst, inl, inr}
 use Rattle.std.proofs.lemmas.Bool.{or_left, or_right}
 use Rattle.std.specs.List.{list_any}
 use Rattle.conflicts.specs.declared.error.StepErr.{StepErr}
@@ -12,7 +12,6 @@ use Rattle.jop_base.specs.declared.lock_name.LockKind.TheVariants.{Sync}
 use Rattle.jop_base.specs.declared.path.Path.TheVariants.{Info as InfoFile, OldVersion}
 use Rattle.jop_target.specs.declared.call.Call.{Call}
 use Rattle.jop_target.specs.declared.call.Call.TheVariants.{List as ListDir, Put, Delete, MakeDir}
-use Rattle.jop_target.specs.declared.reply.Listing.{Listing}
 use Rattle.jop_target.specs.declared.reply.Reply.TheVariants.{Listed}
 use Rattle.lease.specs.Standing.{IsHeld}
 use Rattle.licences.specs.Deeds.{Deed}
@@ -37,12 +36,10 @@ use Rattle.session_steps.specs.Work.{WorkNow}
 use Rattle.target_upgrade.specs.Course.{keeps_version}
 use Rattle.upload.proofs.Left.{same_blobs}
 use Rattle.upload.specs.Conditions.{AreUnput, IsReadable}
-use Rattle.upload.specs.Deleting.{Deletes}
-use Rattle.upload.specs.Uploading.{Uploads, UploadsOne, blobs_of, pending_ids}
+use Rattle.upload.specs.Uploading.{UploadsOne, blobs_of, pending_ids}
 use Rattle.sync_session.proofs.Wider.{IsWithin, does_within, gives_up_within, went_within}
 use Rattle.sync_session.specs.Errors.{of_opening, of_step}
 use Rattle.sync_session.specs.Keys.{IsActiveKey, has_waiting, needs_key}
-use Rattle.sync_session.specs.declared.sync_err.SyncErr.{SyncErr}
 use Rattle.sync_session.specs.Working.{Exchanges, ExchangesOr, LacksKey, ListsBehind, Sends, Syncs, Works, is_exchange, is_sync}
 
 -- ---- sorts

@@ -1,5 +1,5 @@
 -- A whole sync, from its begin to its end, and why it answers as it does.
-use Rattle.std.specs.Prelude.{ℕ, ◌≡◌, ◌<◌, ◌⊎◌, List, [], ◌∷◌, ◌++◌, Bool, true, false, None, Result, Ok, Err}
+use Rattle.std.specs.Prelude.{ℕ, ◌≡◌, ◌⊎◌, List, [], ◌∷◌, ◌++◌, Bool, true, false, None, Result, Ok, Err}
 use Rattle.conflicts.specs.Reports.{new_report}
 use Rattle.conflicts.specs.declared.report.SyncReport.{SyncReport}
 use Rattle.desk.specs.Desks.{DeskNow, IsSameDesk, IsTidy}

@@ -13,7 +13,6 @@ use Rattle.lease.specs.Calls.{Fails}
 use Rattle.lease.specs.declared.error.Seen.{Seen}
 use Rattle.licences.specs.Views.{synced_ids}
 use Rattle.local_store.specs.Keepers.{Kept}
-use Rattle.local_store.specs.declared.tables.Tables.{Tables}
 use Rattle.opening.specs.Opening.{Opens, ReadsBadInfo, ReadsVersion, is_opening}
 use Rattle.session_steps.specs.Doing.{Does, Finishes, GivesUp, HasLapsed, KeeperFails, Stops, Went}
 use Rattle.session_steps.specs.Parts.{Hears, Part, Then}

@@ -14,10 +14,12 @@ fn holds_lease(worked: &Result<(), SyncErr>) -> bool
 {
     !matches!(
         worked,
-        Err(SyncErr::Busy { lock: _, now: _ }
-            | SyncErr::LeaseLost(_)
-            | SyncErr::TargetFault
-            | SyncErr::NoMemory)
+        Err(
+            SyncErr::Busy { lock: _, now: _ }
+                | SyncErr::LeaseLost(_)
+                | SyncErr::TargetFault
+                | SyncErr::NoMemory
+        )
     )
 }
 

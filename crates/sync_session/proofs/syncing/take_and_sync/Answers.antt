@@ -1,12 +1,10 @@
-use Rattle.std.proofs.Common.{◌∙◌, ap, refl, subst, sym, List, ℕ}
+use Rattle.std.proofs.Common.{◌∙◌, refl}
 use Rattle.std.proofs.lemmas.Result.{err_from_is_err_and}
-use Rattle.std.specs.Prelude.{Ok, Err}
-use Rattle.conflicts.specs.declared.report.SyncReport.{SyncReport}
-use Rattle.local_store.specs.declared.tables.Tables.{Tables}
+use Rattle.std.specs.Prelude.{Ok}
 use Rattle.session_steps.proofs.Asked.{calls_locks}
-use Rattle.sync_session.proofs.Left.{HasTaken, counted_locked, goes_idle, goes_taken, lawful_begun, lawful_taken, released_done, released_none, released_work, tells_taken}
+use Rattle.sync_session.proofs.Left.{HasTaken, counted_locked, ends_from, goes_idle, goes_taken, lawful_begun, lawful_taken, released_done, released_none, released_work, tells_taken}
 use Rattle.sync_session.proofs.Telling.{tells_locks}
-use Rattle.sync_session.specs.Syncing.{EndsWork, begun_view, with_locked}
+use Rattle.sync_session.specs.Syncing.{begun_view}
 use Rattle.sync_session.proofs.syncing.take_and_sync.Goals as goal
 
 pub returns-in_err-lease-clause-released : goal.returns-in_err-lease-clause-released
@@ -60,9 +58,7 @@ returns-in_err-sync_held-clause-released g c =
       same = c.take.ensures.same;
       goes = c.take.ensures.goes;
     } in
-    let ends = subst (λ (r : SyncReport). EndsWork c.in_ok-lease.lease held r _
-    (g.S.Desk.desk c.sync_held.new.site) c.sync_held.new.report) c.new-report.ensures
-    c.in_err-sync_held.ensures.ends in
+    let ends = ends_from _ _ _ _ _ _ _ c.new-report.ensures c.in_err-sync_held.ensures.ends in
     rw (p.1, p.2) (released_work client c.in_ok-lease.lease old held _ _ _ _ refl taken ends)
 
 pub returns-in_err-sync_held-clause-goes : goal.returns-in_err-sync_held-clause-goes
@@ -76,7 +72,8 @@ returns-in_err-sync_held-clause-goes g c =
       same = c.take.ensures.same;
       goes = c.take.ensures.goes;
     } in
-    goes_taken client c.in_ok-lease.lease old held _ begun taken c.sync_held.ensures.goes
+    goes_taken client c.in_ok-lease.lease old held (g.S.Desk.desk c.sync_held.new.site)
+    begun taken c.sync_held.ensures.goes
 
 pub returns-in_err-sync_held-clause-tells : goal.returns-in_err-sync_held-clause-tells
 returns-in_err-sync_held-clause-tells g c =
@@ -88,8 +85,8 @@ returns-in_err-sync_held-clause-tells g c =
       same = c.take.ensures.same;
       goes = c.take.ensures.goes;
     } in
-    tells_taken client c.in_ok-lease.lease old held _ c.requires.begun taken
-    c.sync_held.ensures.tells
+    tells_taken client c.in_ok-lease.lease old held
+    (g.S.Desk.desk c.sync_held.new.site) c.requires.begun taken c.sync_held.ensures.tells
 
 pub returns-clause-released : goal.returns-clause-released
 returns-clause-released g c =
@@ -101,12 +98,11 @@ returns-clause-released g c =
       same = c.take.ensures.same;
       goes = c.take.ensures.goes;
     } in
-    let ends = subst (λ (r : SyncReport). EndsWork c.in_ok-lease.lease held r _
-    (g.S.Desk.desk c.sync_held.new.site) c.sync_held.new.report) c.new-report.ensures
-    c.in_ok-sync_held.ensures.ends in
+    let ends = ends_from _ _ _ _ _ _ _ c.new-report.ensures c.in_ok-sync_held.ensures.ends in
     released_done client c.in_ok-lease.lease old held (g.S.Desk.desk c.sync_held.new.site)
     c.sync_held.new.report _ (Ok tt) refl taken ends
-    (counted_locked _ _ _ _ c.sealed_rows.ensures c.tables.ensures)
+    (counted_locked c.sync_held.new.report c.sealed_rows.result _ _ c.sealed_rows.ensures
+    c.tables.ensures)
 
 pub returns-clause-goes : goal.returns-clause-goes
 returns-clause-goes g c =
@@ -119,7 +115,8 @@ returns-clause-goes g c =
       same = c.take.ensures.same;
       goes = c.take.ensures.goes;
     } in
-    goes_taken client c.in_ok-lease.lease old held _ begun taken c.sync_held.ensures.goes
+    goes_taken client c.in_ok-lease.lease old held (g.S.Desk.desk c.sync_held.new.site)
+    begun taken c.sync_held.ensures.goes
 
 pub returns-clause-tells : goal.returns-clause-tells
 returns-clause-tells g c =
@@ -131,5 +128,5 @@ returns-clause-tells g c =
       same = c.take.ensures.same;
       goes = c.take.ensures.goes;
     } in
-    tells_taken client c.in_ok-lease.lease old held _ c.requires.begun taken
-    c.sync_held.ensures.tells
+    tells_taken client c.in_ok-lease.lease old held
+    (g.S.Desk.desk c.sync_held.new.site) c.requires.begun taken c.sync_held.ensures.tells

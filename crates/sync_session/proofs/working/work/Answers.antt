@@ -26,7 +26,8 @@ exchange-requires-clause-readable g c =
 
 pub exchange-requires-clause-first : goal.exchange-requires-clause-first
 exchange-requires-clause-first g c =
-    unput_opened _ _ c.requires.first c.in_ok-open.ensures.unput
+    unput_opened (g.S.Desk.desk c.args.site.now) (g.S.Desk.desk c.open.new.site) c.requires.first
+    c.in_ok-open.ensures.unput
 
 pub returns-in_err-exchange-clause-works : goal.returns-in_err-exchange-clause-works
 returns-in_err-exchange-clause-works g c =
