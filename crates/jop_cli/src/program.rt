@@ -5,10 +5,11 @@ ghost use Rattle.jop_cli.specs.Run.{Acts, Does, Reports};
 
 use crate::command::check::FREE_LINE;
 use crate::command::help::USAGE_LINE;
+use crate::command::sync::sync;
 use crate::command::tidy::tidy;
 use crate::command::upgrade::upgrade;
 use crate::command::{Verb, WordsErr, read_words};
-use crate::emit::{emit, emit_printed, emit_version};
+use crate::emit::{emit, emit_printed, emit_report, emit_version};
 use crate::piece::Piece;
 use crate::report::report;
 use crate::status::Status;
@@ -123,6 +124,12 @@ fn obey<K: Keeper, T: Target, I: Source, O: Sink, C: Clock, N: Entropy>(
         Verb::Local(command) => {
             match obey_locally(alloc, command, keeper, input, clock, entropy, diary, made) {
                 Ok(printed) => emit_printed(out, &printed),
+                Err(error) => Status::from(error),
+            }
+        }
+        Verb::Sync { target: _ } => {
+            match sync(alloc, keeper, target, entropy, diary, made) {
+                Ok(report) => emit_report(out, &report),
                 Err(error) => Status::from(error),
             }
         }

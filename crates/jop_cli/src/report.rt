@@ -35,15 +35,17 @@ fn write_line<E: Sink>(err: &mut E, status: &Status) -> Result<(), Failed>
             ],
         ),
         Status::LeaseLost(_) => write_pieces(err, &[Piece::Word("lease lost\n")]),
-        Status::TargetNewer(version) => write_pieces(
+        Status::TargetOlder(version) => write_version(err, *version, " is older than 3"),
+        Status::TargetNewer(version) => write_version(err, *version, " is newer than 3"),
+        Status::BadInfo => write_pieces(err, &[Piece::Word("info.json is not readable\n")]),
+        Status::FailSafe(count) => write_pieces(
             err,
             &[
-                Piece::Word("target version "),
-                Piece::Number(*version),
-                Piece::Word(" is newer than 3\n"),
+                Piece::Word("no items on the target, "),
+                Piece::Number(*count),
+                Piece::Word(" kept here\n"),
             ],
         ),
-        Status::BadInfo => write_pieces(err, &[Piece::Word("info.json is not readable\n")]),
         Status::TargetFault => write_pieces(err, &[Piece::Word("target fault\n")]),
         Status::KeeperFault => write_pieces(err, &[Piece::Word("keeper fault\n")]),
         Status::SourceFault => write_pieces(err, &[Piece::Word("input fault\n")]),
@@ -54,6 +56,8 @@ fn write_line<E: Sink>(err: &mut E, status: &Status) -> Result<(), Failed>
         Status::Sealed(id) => write_id(err, "sealed ", *id),
         Status::TimeEnd(id) => write_id(err, "time end ", *id),
         Status::TooLarge(len) => write_number(err, "too large ", *len),
+        Status::NoKey(None) => write_pieces(err, &[Piece::Word("no key\n")]),
+        Status::NoKey(Some(id)) => write_id(err, "no key ", *id),
         Status::BadItem(bad) => write_bad_item(err, bad.line, why_text(bad.why)),
         Status::NoMemory => write_pieces(err, &[Piece::Word("no memory\n")]),
         Status::NoConflict(number) => write_number(err, "no conflict ", *number),
@@ -67,6 +71,22 @@ fn write_id<E: Sink>(err: &mut E, word: &str, id: Id) -> Result<(), Failed>
     ensures { WritesAll (E.state err.old) (line_of (word.now ++ id)) result (E.state err.new) }
 {
     write_pieces(err, &[Piece::Word(word), Piece::Id(id), Piece::Word("\n")])
+}
+
+/// Writes the version of a target, and what is said of it.
+fn write_version<E: Sink>(err: &mut E, version: u64, word: &str) -> Result<(), Failed>
+    ensures { let text = codes "target version " ++ (decimal version ++ word.now) in
+        WritesAll (E.state err.old) (line_of text) result (E.state err.new) }
+{
+    write_pieces(
+        err,
+        &[
+            Piece::Word("target version "),
+            Piece::Number(version),
+            Piece::Word(word),
+            Piece::Word("\n"),
+        ],
+    )
 }
 
 /// Writes a word and the number that it is about.
