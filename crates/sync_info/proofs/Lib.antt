@@ -9,3 +9,4 @@ pub mod Sound
 pub mod Compact
 pub mod Valid
 pub mod TextLemmas
+pub mod Same

@@ -1,4 +1,4 @@
-ghost use Rattle.std.specs.Prelude.{◌≡◌};
+ghost use Rattle.std.specs.Prelude.{◌≡◌, ◌↔◌, IsTrue};
 ghost use Rattle.sync_info.specs.Info.{IsInfo, new_info};
 
 use crate::key_record::KeyRecord;
@@ -8,7 +8,7 @@ use jop_base::{Copied, Seq, Text};
 use std::alloc::{AllocError, Global};
 
 /// The settings, keys and version of a target.
-#[derive(Debug, Drop)]
+#[derive(Debug, PartialEq, Eq, Drop)]
 pub struct Info {
     pub version: u64,
     /// Whether items are sealed before they are uploaded.
@@ -39,6 +39,13 @@ impl Info {
             keys: Seq::new(alloc),
             others: Seq::new(alloc),
         }
+    }
+
+    /// Whether it is this one, in all that it holds.
+    pub fn is_same(&self, other: &Info) -> bool
+        ensures { IsTrue result ↔ (self.now ≡ other.now) }
+    {
+        self == other
     }
 }
 

@@ -3,7 +3,7 @@ use jop_base::{Copied, Id, Seq, Text};
 use std::alloc::{AllocError, Global};
 
 /// A key of a target, sealed under its owner's password.
-#[derive(Debug, Drop)]
+#[derive(Debug, PartialEq, Eq, Drop)]
 pub struct KeyRecord {
     pub id: Id,
     pub content: Text,

@@ -10,7 +10,7 @@ use serde_json::Value;
 use std::alloc::{AllocError, Global};
 
 /// A member that is kept as it was read: its name, and its value as compact JSON.
-#[derive(Debug, Drop)]
+#[derive(Debug, PartialEq, Eq, Drop)]
 pub struct Member {
     pub name: Text,
     pub json: Text,

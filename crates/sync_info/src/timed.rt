@@ -2,7 +2,7 @@ use jop_base::Copied;
 use std::alloc::{AllocError, Global};
 
 /// A setting, and when it was last changed, in milliseconds since 1970.
-#[derive(Clone, Copy, Debug, Drop)]
+#[derive(Clone, Copy, Debug, PartialEq, Eq, Drop)]
 pub struct Timed<T> {
     pub value: T,
     pub updated: u64,
