@@ -16,6 +16,7 @@ use crate::status::Status;
 use crate::words::Words;
 use jop_base::{Clock, Entropy, Sink, Source};
 use jop_target::{Diary, Target};
+use kept_tables::notes_are_kept_by_tables;
 use local_commands::obey as obey_locally;
 use local_store::{Changes, Keeper};
 use std::alloc::Global;
@@ -45,6 +46,7 @@ pub fn run<K: Keeper, T: Target, I: Source, O: Sink, E: Sink, C: Clock, N: Entro
         (O.state out.new) (C.state clock.new) (N.state entropy.new)) }
     ensures err { Reports (E.state err.old) result (E.state err.new) }
 {
+    notes_are_kept_by_tables();
     let status = answer(
         alloc, words, keeper, target, input, out, clock, entropy, diary, made,
     );
