@@ -3,7 +3,7 @@ use Rattle.std.specs.Prelude.{â„•, List, [], Bool, true, false, not, nat_eq, ifâ
 use Rattle.std.specs.declared.alloc.AllocError.{AllocError}
 use Rattle.std.proofs.Common.{sym, subst, arith}
 use Rattle.std.proofs.lemmas.List.Elements.{All-append, All-filter, All-cons, All-nil}
-use Rattle.jop_base.specs.Keyed.{at, put, IsSorted}
+use Rattle.jop_base.specs.Keyed.{put, IsSorted}
 use Rattle.jop_base.proofs.KeyedLaws.{All-at, All-put, All-cut, IsSorted-put, IsSorted-cut, key-at}
 use Rattle.item_text.specs.declared.item.Item.{Item}
 use Rattle.item_text.specs.Valid.{IsItem}

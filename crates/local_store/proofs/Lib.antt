@@ -1,3 +1,4 @@
 pub mod Keeping
 pub mod KeptBlobs
+pub mod Places
 pub mod Telling

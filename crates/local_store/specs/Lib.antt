@@ -5,4 +5,6 @@ pub mod Sound
 pub mod Ledger
 pub mod Keepers
 pub mod Memory
+pub mod Ordered
+pub mod Places
 pub mod Tale

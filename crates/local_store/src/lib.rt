@@ -17,7 +17,9 @@ mod keeper_err;
 mod kinds;
 mod laws;
 mod mem_keeper;
+mod order;
 mod row;
+mod table;
 mod tables;
 
 pub use blob::Blob;
@@ -35,4 +37,5 @@ pub use laws::{
 };
 pub use mem_keeper::MemKeeper;
 pub use row::Row;
+pub use table::Table;
 pub use tables::Tables;

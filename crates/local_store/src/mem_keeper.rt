@@ -8,8 +8,9 @@ use crate::blob::Blob;
 use crate::change::Change;
 use crate::keeper::Keeper;
 use crate::keeper_err::KeeperErr;
+use crate::table::Table;
 use crate::tables::Tables;
-use jop_base::{Bytes, Copied, Faults, Id, Plan, Seq};
+use jop_base::{Bytes, Copied, Faults, Id, Plan};
 use std::alloc::{AllocError, Global};
 use std::marker::Model;
 
@@ -17,7 +18,7 @@ use std::marker::Model;
 #[derive(Debug, Drop)]
 pub struct MemKeeper {
     tables: Tables,
-    blobs: Seq<Blob>,
+    blobs: Table<Blob>,
     faults: Faults,
     plan: Plan,
 }
@@ -43,7 +44,7 @@ impl MemKeeper {
     {
         MemKeeper {
             tables: Tables::new(alloc),
-            blobs: Seq::new(alloc),
+            blobs: Table::new(alloc),
             faults: Faults::new(),
             plan: Plan::new(alloc),
         }

@@ -7,6 +7,7 @@ use crate::change::Change;
 use crate::conflict_note::ConflictNote;
 use crate::deletion::Deletion;
 use crate::row::Row;
+use crate::table::Table;
 use jop_base::{ClientId, Context, Copied, Seq};
 use std::alloc::{AllocError, Global};
 use sync_info::Info;
@@ -16,8 +17,8 @@ use sync_info::Info;
 pub struct Tables {
     /// Who the client is on all targets. None until it is needed.
     pub client: Option<ClientId>,
-    pub rows: Seq<Row>,
-    pub deletions: Seq<Deletion>,
+    pub rows: Table<Row>,
+    pub deletions: Table<Deletion>,
     /// In the order in which they were made.
     pub conflicts: Seq<ConflictNote>,
     /// The number of the next conflict note.
@@ -49,8 +50,8 @@ impl Tables {
     {
         Tables {
             client: None,
-            rows: Seq::new(alloc),
-            deletions: Seq::new(alloc),
+            rows: Table::new(alloc),
+            deletions: Table::new(alloc),
             conflicts: Seq::new(alloc),
             next_conflict: 1,
             context: Context::new(alloc),

@@ -172,6 +172,6 @@ PutsNoItem old new =
 abbrev pub IsLawful : Lease → DeskNow → Type 0
 IsLawful lease d = (course_of lease.client d.line.trail).lawful ≡ true
 
--- it was told that the target has the supported version
-abbrev pub IsTold : Lease → DeskNow → Type 0
-IsTold lease d = (course_of lease.client d.line.trail).told ≡ true
+-- and it was told that the target has the supported version
+abbrev pub KnowsVersion : Lease → DeskNow → Type 0
+KnowsVersion lease d = (course_of lease.client d.line.trail).told ≡ true

@@ -1,7 +1,7 @@
 ghost use Rattle.std.specs.Prelude.{◌≡◌, OnOk};
 ghost use Rattle.jop_base.specs.declared.lock_name.LockKind.TheVariants.{Sync};
 ghost use Rattle.lease.specs.Standing.{IsSameBut};
-ghost use Rattle.opening.specs.Opening.{IsLawful, IsTold, IsUnstopped, MergesBetween, OpensOr, PutsNoItem};
+ghost use Rattle.opening.specs.Opening.{IsLawful, IsUnstopped, KnowsVersion, MergesBetween, OpensOr, PutsNoItem};
 ghost use Rattle.session_steps.specs.Work.{IsReady, work};
 
 use crate::joining::join_info;
@@ -31,7 +31,7 @@ pub fn open<S: Desk>(
     ensures opens { OpensOr (work (S.desk site.old) lease.old report.old) result
         (work (S.desk site.new) lease.new report.new) }
     ensures lawful { IsLawful lease.new (S.desk site.new) }
-    ensures told { OnOk result (IsTold lease.new (S.desk site.new)) }
+    ensures told { OnOk result (KnowsVersion lease.new (S.desk site.new)) }
     ensures merges { MergesBetween (S.desk site.old) (S.desk site.new) }
     ensures unput { OnOk result (PutsNoItem (S.desk site.old) (S.desk site.new)) }
     ensures stays { S.stays site.old site.new }

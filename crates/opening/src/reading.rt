@@ -10,7 +10,7 @@ ghost use Rattle.jop_target.specs.declared.reply.Reply.TheVariants.{Failed};
 ghost use Rattle.lease.specs.Standing.{IsSameBut};
 ghost use Rattle.licences.specs.Infos.{info_read};
 ghost use Rattle.licences.specs.Trails.{session_calls};
-ghost use Rattle.opening.specs.Opening.{IsTaken, IsTold, IsUnstopped, PutsNoItem, ReadsOldOr, ReadsOr, Tells};
+ghost use Rattle.opening.specs.Opening.{IsTaken, IsUnstopped, KnowsVersion, PutsNoItem, ReadsOldOr, ReadsOr, Tells};
 ghost use Rattle.session_steps.specs.Work.{IsReady, work};
 ghost use Rattle.sync_info.specs.Info.{IsInfo};
 ghost use Rattle.target_upgrade.specs.Steps.{SUPPORTED as supported};
@@ -92,7 +92,7 @@ pub(crate) fn read_supported<S: Desk>(
     ensures lease { IsSameBut lease.old lease.new }
     ensures valid { IfOk result IsInfo }
     ensures version { IfOk result (λ info. info.version ≡ supported) }
-    ensures told { OnOk result (IsTold lease.new (S.desk site.new)) }
+    ensures told { OnOk result (KnowsVersion lease.new (S.desk site.new)) }
     ensures read { IfOk result (λ info.
         info_read (session_calls (S.desk site.new).line.trail) ≡ Some info) }
     ensures unput { OnOk result (PutsNoItem (S.desk site.old) (S.desk site.new)) }

@@ -1,4 +1,3 @@
 pub mod Columns
 pub mod Holding
 pub mod Meta
-pub mod Ordered

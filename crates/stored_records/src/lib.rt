@@ -12,7 +12,6 @@ mod laws;
 mod meta_record;
 mod note_record;
 mod number;
-mod order;
 mod record;
 mod record_err;
 mod row_record;

@@ -9,11 +9,10 @@ ghost use Rattle.stored_records.specs.Meta.{HoldsMeta, IsSoundContext, IsSoundMe
 
 use crate::ids::read_ids;
 use crate::number::read_number;
-use crate::order::are_in_order;
 use crate::record_err::RecordErr;
 use crate::texts::info_of;
 use jop_base::{Bytes, ClientId, Context, Id, Seq};
-use local_store::{ConflictNote, Deletion, Row, Tables};
+use local_store::{ConflictNote, Deletion, Row, Table, Tables};
 use std::alloc::Global;
 
 /// What a client knows of itself and its target, as a database holds it.
@@ -51,9 +50,12 @@ impl MetaRecord {
         ensures bad { result ≡ Err RecordErr.Bad → (tables : Tables) → IsSound tables → IsSoundMeta tables
             → tables.rows ≡ rows → tables.deletions ≡ deletions → ¬ HoldsMeta self.now tables }
     {
-        if !are_in_order(rows.as_slice()) || !are_in_order(deletions.as_slice()) {
+        let Some(rows) = Table::from_seq(rows) else {
             return Err(RecordErr::Bad);
-        }
+        };
+        let Some(deletions) = Table::from_seq(deletions) else {
+            return Err(RecordErr::Bad);
+        };
         Ok(Tables {
             client: self.client()?,
             rows,

@@ -1,2 +1,2 @@
 mod Held
-mod Whole
+pub mod Whole

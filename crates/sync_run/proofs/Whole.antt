@@ -30,7 +30,7 @@ use Rattle.sync_run.specs.declared.session_err.SessionErr.TheVariants.{Busy, Lea
 -- ---- the session is made
 
 -- what stands before the end of a session
-before_end : (old middle trail new : List Event) → new ≡ trail ++ Ended ∷ [] →
+pub before_end : (old middle trail new : List Event) → new ≡ trail ++ Ended ∷ [] →
     new ≡ old ++ Began ∷ (middle ++ Ended ∷ []) → trail ≡ old ++ Began ∷ middle
 before_end old middle trail new ends whole =
     append_cancel_right trail (old ++ Began ∷ middle) (Ended ∷ [])

@@ -24,19 +24,19 @@ PutsNoInfo sort = (content : List ℕ) → sort (Put InfoFile content) ≡ false
 sends : (sort : Call → Bool) (client : List ℕ) (v : View) (call : Call) (reply : Reply)
     → PutsNoInfo sort → IsStep sort client (Called call reply) → MaySend v call
 sends sort client v (Put InfoFile content) reply none (inl is) = let no = none content in absurd cc
-sends sort client v (Put InfoFile content) reply none (inr own) = let no = own.1.0 in absurd cc
+sends sort client v (Put InfoFile content) reply none (inr own) = let no = own.1 in absurd cc
 sends sort client v call reply none step = tt
 
 sent : (sort : Call → Bool) (client : List ℕ) (v : View) (call : Call) → PutsNoInfo sort
     → IsStep sort client (Sent call) → MaySend v call
 sent sort client v (Put InfoFile content) none (inl is) = let no = none content in absurd cc
-sent sort client v (Put InfoFile content) none (inr own) = let no = own.1.0 in absurd cc
+sent sort client v (Put InfoFile content) none (inr own) = let no = own.1 in absurd cc
 sent sort client v call none step = tt
 
 -- a call of a lease
 pub merges_own : (client : List ℕ) (v : View) (call : Call) (reply : Option Reply)
     → IsLeaseCall client call → MayMerge v (Asks call reply)
-merges_own client v (Put InfoFile content) reply own = let no = own.1.0 in absurd cc
+merges_own client v (Put InfoFile content) reply own = let no = own.1 in absurd cc
 merges_own client v call reply own = tt
 
 pub merges_none : (sort : Call → Bool) (client : List ℕ) (v : View) (n : ℕ) (ds : List Deed)

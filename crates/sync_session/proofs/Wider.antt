@@ -128,8 +128,8 @@ gives_up_within sort wide a b KeeperFault within h = record {
 gives_up_within sort wide a b (FailSafe count) within h = absurd h
 gives_up_within sort wide a b NoMemory within h = went_within sort wide a b within h
 
-pub ends_within : {R : Type 0} {P : Part} (sort wide : Call → Bool) (a b : WorkNow)
+pub ends_within : {R : Type 0} (P : Part) (sort wide : Call → Bool) (a b : WorkNow)
     (result : Result R StepErr) → IsWithin sort wide → Ends P sort a result b
     → Ends P wide a result b
-ends_within sort wide a b (Ok value) within h = does_within sort wide a b within h
-ends_within sort wide a b (Err e) within h = gives_up_within sort wide a b e within h
+ends_within P sort wide a b (Ok value) within h = does_within sort wide a b within h
+ends_within P sort wide a b (Err e) within h = gives_up_within sort wide a b e within h

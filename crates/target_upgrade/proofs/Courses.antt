@@ -17,6 +17,7 @@ use Rattle.lease.specs.Phase.{Held, role_of}
 use Rattle.lease.proofs.Works.{working_is_work}
 use Rattle.sync_info.specs.Json.{info_text}
 use Rattle.sync_info.specs.declared.info.Info.{Info}
+use Rattle.target_upgrade.specs.Answers.{leaves_items}
 use Rattle.target_upgrade.specs.Course.{Course, outside_course, course_after, course_from, course_of, is_call, puts_text, is_awaited, is_allowed, may_do}
 use Rattle.target_upgrade.specs.Steps.{Stage, Reads, ReadsOld, At, Gets, Upgraded, Stuck, awaited, at_version, stage_after, step_call}
 use Rattle.target_upgrade.specs.declared.step.Step.{Step}
@@ -206,6 +207,30 @@ awaited_callable (Gets [] info) call blob h = subst (λ (c : Call). IsCallable c
     (same_Some _ _ h) refl
 awaited_callable Upgraded call blob h = cc
 awaited_callable Stuck call blob h = cc
+
+-- and it leaves all items as they are
+pub awaited_leaves : (stage : Stage) (call : Call) → awaited stage ≡ Some call → leaves_items call ≡
+    true
+awaited_leaves Reads call h = subst (λ (c : Call). leaves_items c ≡ true) (same_Some _ _ h) refl
+awaited_leaves ReadsOld call h = subst (λ (c : Call). leaves_items c ≡ true) (same_Some _ _ h)
+    refl
+awaited_leaves (At step info) call h = subst (λ (c : Call). leaves_items c ≡ true)
+    (same_Some _ _ h) (step_leaves step) where
+      step_leaves : (step : Step) → leaves_items (step_call step info) ≡ true
+      step_leaves MakesResources = refl
+      step_leaves MakesOldSync = refl
+      step_leaves PutsOne = refl
+      step_leaves MakesLockFolder = refl
+      step_leaves MakesTemp = refl
+      step_leaves PutsTwo = refl
+      step_leaves PutsInfo = refl
+      step_leaves ListsRoot = refl
+awaited_leaves (Gets (id ∷ ids) info) call h = subst (λ (c : Call). leaves_items c ≡ true)
+    (same_Some _ _ h) refl
+awaited_leaves (Gets [] info) call h = subst (λ (c : Call). leaves_items c ≡ true)
+    (same_Some _ _ h) refl
+awaited_leaves Upgraded call h = cc
+awaited_leaves Stuck call h = cc
 
 -- ---- the monitor behind an awaited call
 

@@ -2,14 +2,16 @@
 use Rattle.std.proofs.Common.{◌≡◌, ◌∙◌, refl, sym, ap, subst, inl, inr, arith, ℕ, List, true, Some, Err}
 use Rattle.jop_base.specs.declared.lock_name.LockKind.{LockKind}
 use Rattle.jop_base.specs.declared.lock_name.LockKind.TheVariants.{Exclusive}
+use Rattle.jop_base.specs.declared.dir.Dir.TheVariants.{Locks}
 use Rattle.jop_target.specs.declared.call.Call.{Call}
+use Rattle.jop_target.specs.declared.call.Call.TheVariants.{List as ListDir, Put, Delete, MakeDir}
 use Rattle.jop_target.specs.declared.event.Event.{Event}
 use Rattle.jop_target.specs.declared.event.Event.TheVariants.{Began, Sent, Called, Made, Ended}
 use Rattle.jop_target.specs.declared.reply.Reply.{Reply}
 use Rattle.jop_target.specs.declared.reply.Reply.TheVariants.{Failed}
 use Rattle.jop_target.specs.Replies.{IsCallable}
 use Rattle.jop_target.specs.Trail.{LineNow}
-use Rattle.lease.specs.Calls.{IsLeaseEvent, GoesOn, LeaseGoesOn, Fails}
+use Rattle.lease.specs.Calls.{IsLeaseCall, IsLeaseEvent, GoesOn, LeaseGoesOn, Fails}
 use Rattle.lease.specs.Idle.{is_working}
 use Rattle.lease.specs.Outcomes.{HasMissed}
 use Rattle.lease.specs.Phase.{Held, Renewing, role_of}
@@ -21,10 +23,10 @@ use Rattle.lease.specs.declared.error.Seen.{Seen}
 use Rattle.lease.specs.declared.lease.Lease.{Lease}
 use Rattle.lease.proofs.Sessions.{goes_answered, goes_leased, goes_nowhere as line_nowhere, goes_on as line_on, goes_unheard as line_unheard}
 use Rattle.lease.proofs.Works.{may_work as lease_may}
-use Rattle.target_upgrade.specs.Answers.{HasCome, HasLapsed, HasMade, IsCall, MayCall, StandsAt, Stops, WorkGoesOn, stage_of}
+use Rattle.target_upgrade.specs.Answers.{HasCome, HasLapsed, HasMade, IsCall, MayCall, StandsAt, Stops, WorkGoesOn, leaves_items, stage_of}
 use Rattle.target_upgrade.specs.Course.{course_of, puts_text}
 use Rattle.target_upgrade.specs.Steps.{Stage, awaited, stage_after}
-use Rattle.target_upgrade.proofs.Courses.{IsReady, idle_work, awaited_works, awaited_callable, lawful_called, lawful_sent, stage_called}
+use Rattle.target_upgrade.proofs.Courses.{IsReady, idle_work, awaited_works, awaited_callable, awaited_leaves, lawful_called, lawful_sent, stage_called}
 use Rattle.target_upgrade.proofs.NoFailures.{none_failed_held, none_failed_on}
 
 -- ---- leases
@@ -46,9 +48,18 @@ kind_same a b h = ap (λ (l : Lease). l.kind) h
 
 -- ---- lines
 
+-- the locks are no items
+lease_leaves : (client : List ℕ) (call : Call) → IsLeaseCall client call →
+    leaves_items call ≡ true
+lease_leaves client (MakeDir Locks) own = refl
+lease_leaves client (ListDir Locks) own = refl
+lease_leaves client (Put path content) own = rw (own.1) refl
+lease_leaves client (Delete path) own = rw (own.1) refl
+lease_leaves client call own = absurd own
+
 pub calls_of_lease : (client : List ℕ) (e : Event) → IsLeaseEvent client e → IsCall e
-calls_of_lease client (Sent call) h = tt
-calls_of_lease client (Called call reply) h = tt
+calls_of_lease client (Sent call) h = lease_leaves client call h
+calls_of_lease client (Called call reply) h = lease_leaves client call h
 calls_of_lease client Began h = absurd h
 calls_of_lease client (Made number) h = absurd h
 calls_of_lease client Ended h = absurd h
@@ -94,6 +105,10 @@ pub may_be_called : (lease : Lease) (trail : List Event) (call : Call) (blob : L
 may_be_called lease trail call blob may =
     awaited_callable (stage_of lease trail) call blob may.next
 
+may_leave : (lease : Lease) (trail : List Event) (call : Call) → MayCall lease trail call →
+    leaves_items call ≡ true
+may_leave lease trail call may = awaited_leaves (stage_of lease trail) call may.next
+
 -- the lease with its new stamp is the one that there was
 abbrev restamped : Lease → Lease → Lease
 restamped lease now = record lease { stamp = now.stamp }
@@ -126,7 +141,8 @@ goes_called lease now old new call before after reply same may h =
     let at = ready lease now old h.mid call same may h.ready in
     let step : WorkGoesOn lease.client h.mid new = record {
       goes = goes_answered IsCall lease.client h.mid new call before after reply allowed
-          (may_be_called lease old.trail call before may) tt h.answered;
+          (may_be_called lease old.trail call before may) (may_leave lease old.trail call may)
+          h.answered;
       work = lawful_called lease.client now.stamp h.mid.trail new.trail (stage_of lease old.trail)
           call reply at may.next may.text h.answered.trail;
     } in
@@ -142,7 +158,8 @@ goes_unheard lease now old new call before after same may h =
     (may_work lease old.trail call may) in
     let at = ready lease now old h.mid call same may h.ready in
     let goes = line_unheard IsCall lease.client h.mid new call before after h.error allowed
-    (may_be_called lease old.trail call before may) tt h.unheard in
+    (may_be_called lease old.trail call before may) (may_leave lease old.trail call may) h.unheard
+    in
     let work : (course_of lease.client new.trail).lawful ≡ true = elim h.unheard [
       | inl stays ↦
           ap (λ (s : LineNow). (course_of lease.client s.trail).lawful) stays.0 ∙ at.lawful

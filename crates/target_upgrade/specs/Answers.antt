@@ -1,7 +1,9 @@
 -- What the calls of an upgrade leave, and why they answer as they do.
-use Rattle.std.specs.Prelude.{ℕ, ◌≤◌, ◌≡◌, List, true, Option, Some, None, Result, Ok, Err}
+use Rattle.std.specs.Prelude.{ℕ, ◌≤◌, ◌≡◌, List, Bool, true, false, Option, Some, None, Result, Ok, Err}
 use Rattle.jop_base.specs.declared.lock_name.LockKind.TheVariants.{Exclusive}
+use Rattle.jop_base.specs.declared.path.Path.TheVariants.{Item, Blob}
 use Rattle.jop_target.specs.declared.call.Call.{Call}
+use Rattle.jop_target.specs.declared.call.Call.TheVariants.{Put, Delete, PutBlob}
 use Rattle.jop_target.specs.declared.event.Event.{Event}
 use Rattle.jop_target.specs.declared.event.Event.TheVariants.{Sent, Called}
 use Rattle.jop_target.specs.declared.reply.Reply.{Reply}
@@ -42,10 +44,18 @@ pub record MayCall (lease : Lease) (trail : List Event) (call : Call) : Type 0 w
   pub next : awaited (stage_of lease trail) ≡ Some call
   pub text : puts_text call ≡ true
 
--- a call, with its reply or without
+-- whether a call leaves all items and the bytes of all resources as they are
+abbrev pub leaves_items : Call → Bool
+leaves_items (Put (Item id) content) = false
+leaves_items (Delete (Item id)) = false
+leaves_items (Delete (Blob id)) = false
+leaves_items (PutBlob id len) = false
+leaves_items call = true
+
+-- a call, with its reply or without, that leaves all items as they are
 abbrev pub IsCall : Event → Type 0
-IsCall (Sent call) = Unit {0}
-IsCall (Called call reply) = Unit {0}
+IsCall (Sent call) = leaves_items call ≡ true
+IsCall (Called call reply) = leaves_items call ≡ true
 IsCall event = ⊥
 
 -- A line has gone on by calls alone; its last session keeps its locks, and does under its lease

@@ -21,7 +21,7 @@ use Rattle.local_store.specs.declared.row.Row.{Row}
 use Rattle.local_store.specs.declared.tables.Tables.{Tables}
 use Rattle.session_steps.proofs.Ending.{does_as}
 use Rattle.session_steps.proofs.Joins.{view_at}
-use Rattle.session_steps.proofs.Saves.{saves_none}
+use Rattle.session_steps.proofs.Saves.{GetsNone, saves_none}
 use Rattle.session_steps.proofs.Seen.{view_from-but_locks}
 use Rattle.session_steps.specs.Doing.{Does}
 use Rattle.session_steps.specs.Saving.{kept_after, saved_all}
@@ -59,11 +59,11 @@ unfolding saved_all
 blobs_changed None changes = refl
 blobs_changed (Some k) changes = refl
 
-pub same_blobs : (P : Part) (a b : WorkNow) → Does P is_upload a b
-    → blobs_of b.desk.keeper.kept ≡ blobs_of a.desk.keeper.kept
-same_blobs P a b h =
+pub same_blobs : (P : Part) (sort : Call → Bool) (a b : WorkNow) → GetsNone sort
+    → Does P sort a b → blobs_of b.desk.keeper.kept ≡ blobs_of a.desk.keeper.kept
+same_blobs P sort a b nothing h =
     let changes = changes_in h.went.deeds in
-    let none = saves_none is_upload a b h.went (λ id. refl) in
+    let none = saves_none sort a b h.went nothing in
     ap blobs_of h.went.kept
     ∙ (ap (λ (bs : List Blob). blobs_of (option_map (kept_after changes bs) a.desk.keeper.kept))
     none

@@ -58,7 +58,7 @@ loop-index-preserved g c =
       does = does_here (UploadsOne blobs) is_upload ids i id a b n (omega arith)
           c.index-ids-index.is before.does
           (subst (λ (own : Option (List Blob)). Does (UploadsOne own id) is_upload b n)
-          (same_blobs (ForEach (UploadsOne blobs) (take i ids)) a b before.does)
+          (same_blobs (ForEach (UploadsOne blobs) (take i ids)) is_upload a b (λ id. refl) before.does)
           done.uploads);
       stays = g.met.S.Desk.stays_on _ _ _ before.stays c.upload_one.ensures.stays;
     }

@@ -1,8 +1,8 @@
 use Rattle.std.proofs.Common.{drop}
 use Rattle.std.specs.Prelude.{option_map}
 use Rattle.jop_base.specs.Keyed.{IsSorted}
-use Rattle.stored_records.specs.Ordered.{IsSortedFrom}
-use Rattle.stored_records.proofs.order.are_in_order.Given as goal
+use Rattle.local_store.specs.Ordered.{IsSortedFrom}
+use Rattle.local_store.proofs.order.are_in_order.Given as goal
 
 abbrev pub invariant-loop-item : goal.invariant-loop-item
 invariant-loop-item g l = record {

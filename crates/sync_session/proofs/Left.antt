@@ -1,0 +1,422 @@
+-- The lease is had, work is done under it, and it is given up.
+use Rattle.std.specs.Prelude.{ℕ, ◌≤◌, ◌≡◌, List, [], ◌∷◌, ◌++◌, Bool, true, false, Option, Some, None, Result, Ok, Err, refl}
+use Rattle.std.proofs.Common.{sym, ◌∙◌, ap, arith, subst, inl, inr}
+use Rattle.conflicts.specs.Reports.{new_report}
+use Rattle.conflicts.specs.declared.report.SyncReport.{SyncReport}
+use Rattle.desk.specs.Desks.{DeskNow, IsSameDesk}
+use Rattle.jop_base.specs.Outside.{HasRisen}
+use Rattle.jop_base.specs.declared.lock_name.LockKind.{LockKind}
+use Rattle.jop_base.specs.declared.lock_name.LockKind.TheVariants.{Sync}
+use Rattle.jop_base.specs.declared.path.Path.TheVariants.{Lock as LockFile}
+use Rattle.jop_target.specs.Trail.{LineNow}
+use Rattle.jop_target.specs.declared.call.Call.TheVariants.{Delete}
+use Rattle.jop_target.specs.declared.event.Event.{Event}
+use Rattle.jop_target.specs.declared.event.Event.TheVariants.{Called}
+use Rattle.jop_target.specs.declared.reply.Reply.{Reply}
+use Rattle.jop_target.specs.declared.reply.Reply.TheVariants.{Failed}
+use Rattle.lease.proofs.Sessions.{goes_leased, goes_on}
+use Rattle.lease.specs.Calls.{EndsFailed, Fails, LeaseGoesOn}
+use Rattle.lease.specs.Discipline.{ends_released, phase_of}
+use Rattle.lease.specs.Locks.{own_name}
+use Rattle.lease.specs.Outcomes.{Acquires, HasAcquired, HasMissed, IsBlocked, Releases}
+use Rattle.lease.specs.Phase.{Asked, Over, Phase, Renewing}
+use Rattle.lease.specs.Standing.{IsSameBut, StandsIn}
+use Rattle.lease.specs.declared.error.LeaseErr.{LeaseErr}
+use Rattle.lease.specs.declared.error.LeaseErr.TheVariants as lease_errors
+use Rattle.lease.specs.declared.error.Seen.{Seen}
+use Rattle.lease.specs.declared.lease.Lease.{Lease}
+use Rattle.lease.specs.declared.lock.Lock.{Lock}
+use Rattle.local_store.specs.Keepers.{KeeperNow}
+use Rattle.local_store.specs.declared.tables.Tables.{Tables}
+use Rattle.opening.specs.Opening.{IsLawful}
+use Rattle.session_steps.proofs.Asked.{step_of}
+use Rattle.session_steps.proofs.Joins.{client_is}
+use Rattle.session_steps.specs.Doing.{Went}
+use Rattle.session_steps.specs.Steps.{IsStep}
+use Rattle.session_steps.specs.Work.{IsReady, WorkNow, work}
+use Rattle.target_upgrade.proofs.Courses.{idle_work}
+use Rattle.target_upgrade.specs.Course.{Course, course_of}
+use Rattle.sync_session.specs.Errors.{of_lease}
+use Rattle.sync_session.specs.Leaving.{Leaves, LeavesIf, answer_of, holds_lease}
+use Rattle.sync_session.specs.Syncing.{EndsWork, HasBegunSync, HasLeft, IsSyncReleased, SyncGoesOn, with_locked}
+use Rattle.sync_session.specs.Working.{Works, is_sync}
+use Rattle.sync_session.specs.declared.sync_err.SyncErr.{SyncErr}
+use Rattle.sync_session.specs.declared.sync_err.SyncErr.TheVariants.{Busy, LeaseLost, TargetOlder, TargetNewer, BadInfo, FailSafe, NoKey, TargetFault, KeeperFault, NoMemory}
+
+-- ---- what was done under the lease
+
+pub went_worked : (a b : WorkNow) (result : Result (Unit {0}) SyncErr) → Works a result b
+    → Went is_sync a b
+went_worked a b (Ok done) h = h.went
+went_worked a b (Err (LeaseLost seen)) h = h.0.went
+went_worked a b (Err (TargetOlder version)) h = h.1.went
+went_worked a b (Err (TargetNewer version)) h = h.1.went
+went_worked a b (Err BadInfo) h = h.went
+went_worked a b (Err (FailSafe count)) h = h.listed.went
+went_worked a b (Err (NoKey key)) h = h.opened.went
+went_worked a b (Err TargetFault) h = h.0.went
+went_worked a b (Err KeeperFault) h = h.stops.went
+went_worked a b (Err NoMemory) h = h
+went_worked a b (Err (Busy lock now)) h = absurd h
+
+-- it is held still, but when it was lost, the target failed, or memory ran out
+pub held_worked : (a b : WorkNow) (result : Result (Unit {0}) SyncErr) → Works a result b
+    → holds_lease result ≡ true → IsReady b.desk b.lease
+held_worked a b (Ok done) h holds = h.ready
+held_worked a b (Err (LeaseLost seen)) h holds = absurd cc
+held_worked a b (Err (TargetOlder version)) h holds = h.1.ready
+held_worked a b (Err (TargetNewer version)) h holds = h.1.ready
+held_worked a b (Err BadInfo) h holds = h.ready
+held_worked a b (Err (FailSafe count)) h holds = h.listed.ready
+held_worked a b (Err (NoKey key)) h holds = h.opened.ready
+held_worked a b (Err TargetFault) h holds = absurd cc
+held_worked a b (Err KeeperFault) h holds = h.ready
+held_worked a b (Err NoMemory) h holds = absurd cc
+held_worked a b (Err (Busy lock now)) h holds = absurd h
+
+-- ---- how the session goes on
+
+pub goes_worked : (a b : WorkNow) → Went is_sync a b → IsLawful b.lease b.desk
+    → SyncGoesOn a.lease.client a.desk.line b.desk.line
+goes_worked a b w lawful = record {
+  goes = w.goes;
+  work = subst (λ (client : List ℕ). (course_of client b.desk.line.trail).lawful ≡ true)
+      (client_is a.lease b.lease w.same) lawful;
+}
+
+-- by calls of its lease
+pub goes_idle : (client : List ℕ) (b c : LineNow)
+    → (course_of client b.trail).lawful ≡ true → LeaseGoesOn client b c → SyncGoesOn client b c
+goes_idle client b c lawful h = record {
+  goes = goes_leased (IsStep is_sync client) client b c (step_of is_sync client) h;
+  work = (idle_work client b.trail c.trail h.idle).lawful ∙ lawful;
+}
+
+pub sync_goes_on : (client : List ℕ) (a b c : LineNow) → SyncGoesOn client a b
+    → SyncGoesOn client b c → SyncGoesOn client a c
+sync_goes_on client a b c h k = record {
+  goes = goes_on (IsStep is_sync client) client a b c h.goes k.goes;
+  work = k.work;
+}
+
+pub lawful_begun : (client : List ℕ) (trail : List Event) → HasBegunSync client trail
+    → (course_of client trail).lawful ≡ true
+lawful_begun client trail h = ap (λ (c : Course). c.lawful) h.begun.course
+
+-- ---- there is no lease
+
+over_released : (client : List ℕ) (trail : List Event) → StandsIn client trail Over
+    → ends_released (phase_of client trail) ≡ true
+over_released client trail over = ap ends_released over.phase
+
+blocked_released : (client : List ℕ) (trail : List Event) (lock : Lock) (now : ℕ)
+    → IsBlocked Sync client trail lock now → ends_released (phase_of client trail) ≡ true
+blocked_released client trail lock now (inl once) = ap ends_released once.looked.phase
+blocked_released client trail lock now (inr after) = over_released client trail after.left.over
+
+pub released_none : (client : List ℕ) (old new : DeskNow) (e : LeaseErr) → IsSameDesk old new
+    → Acquires Sync client old.line new.line (Err e)
+    → IsSyncReleased client old (Err (of_lease e)) new
+released_none client old new (lease_errors.Busy lock now) same h =
+    ((h, same), blocked_released client new.line.trail lock now h)
+released_none client old new (lease_errors.Lost seen) same h =
+    ((Asked Sync, h), over_released client new.line.trail h.left.over)
+released_none client old new lease_errors.TargetFault same h =
+    (h, over_released client new.line.trail h.failed.over)
+released_none client old new lease_errors.NoMemory same h = tt
+
+-- ---- or none any more
+
+-- from where the session began to where its lease was had
+pub record HasTaken (client : List ℕ) (lease : Lease) (old held : DeskNow) : Type 0 where
+  pub had : HasAcquired Sync client held.line.trail lease
+  pub same : IsSameDesk old held
+  pub goes : LeaseGoesOn client old.line held.line
+
+own_client : (client : List ℕ) (lease : Lease) (old held : DeskNow)
+    → HasTaken client lease old held → lease.client ≡ client
+own_client client lease old held h = ap (λ (l : Lease). l.client) h.had.whole
+
+own_kind : (client : List ℕ) (lease : Lease) (old held : DeskNow)
+    → HasTaken client lease old held → lease.kind ≡ Sync
+own_kind client lease old held h = ap (λ (l : Lease). l.kind) h.had.whole
+
+kind_is : (a b : Lease) → IsSameBut a b → b.kind ≡ a.kind
+kind_is a b same = ap (λ (l : Lease). l.kind) same
+
+missed_as : (client : List ℕ) (lease : Lease) (old held : DeskNow) (trail : List Event)
+    (stamp : ℕ) (seen : Seen) → HasTaken client lease old held
+    → HasMissed lease.kind lease.client (Renewing lease.kind stamp) trail seen
+    → HasMissed Sync client (Renewing Sync stamp) trail seen
+missed_as client lease old held trail stamp seen taken h =
+    subst (λ (k : LockKind). HasMissed k client (Renewing k stamp) trail seen)
+    (own_kind client lease old held taken)
+    (subst (λ (c : List ℕ). HasMissed lease.kind c (Renewing lease.kind stamp) trail seen)
+    (own_client client lease old held taken) h)
+
+fails_as : (client other : List ℕ) (a b c : LineNow) → other ≡ client
+    → a.target.faults ≤ b.target.faults → Fails other b c → Fails client a c
+fails_as client other a b c same later h = record {
+  failed = subst (λ (x : List ℕ). EndsFailed x c.trail) same h.failed;
+  rose = let r = h.rose in omega arith;
+}
+
+-- behind work its lock was deleted
+ends_as : (client : List ℕ) (lease : Lease) (old held : DeskNow) (late : WorkNow) (new : DeskNow)
+    (reply : Reply) → HasTaken client lease old held → IsSameBut lease late.lease
+    → new.line.trail ≡ late.desk.line.trail
+    ++ Called (Delete (LockFile (own_name late.lease.kind late.lease.client))) reply ∷ []
+    → new.line.trail ≡ late.desk.line.trail
+    ++ Called (Delete (LockFile (own_name Sync client))) reply ∷ []
+ends_as client lease old held late new reply taken same ends =
+    let kind = kind_is lease late.lease same ∙ own_kind client lease old held taken in
+    let mine = client_is lease late.lease same ∙ own_client client lease old held taken in
+    subst (λ (k : LockKind). new.line.trail ≡ late.desk.line.trail
+    ++ Called (Delete (LockFile (own_name k client))) reply ∷ []) kind
+    (subst (λ (c : List ℕ). new.line.trail ≡ late.desk.line.trail
+    ++ Called (Delete (LockFile (own_name late.lease.kind c))) reply ∷ []) mine ends)
+
+abbrev has_left : (client : List ℕ) (lease : Lease) (worked : Result (Unit {0}) SyncErr)
+    (old held : DeskNow) (late : WorkNow) (new : DeskNow) (reply : Reply)
+    → HasTaken client lease old held → Works (work held lease new_report) worked late
+    → IsSameDesk late.desk new
+    → new.line.trail ≡ late.desk.line.trail
+    ++ Called (Delete (LockFile (own_name late.lease.kind late.lease.client))) reply ∷ []
+    → HasLeft client worked old new
+has_left client lease worked old held late new reply taken works same ends = record {
+  lease = lease;
+  held = held;
+  had = taken.had;
+  begun = taken.same;
+  late = late;
+  works = works;
+  left = same;
+  reply = reply;
+  ends = ends_as client lease old held late new reply taken
+      (went_worked (work held lease new_report) late worked works).same ends;
+}
+
+over_late : (client : List ℕ) (lease : Lease) (old held : DeskNow) (late : WorkNow) (new : DeskNow)
+    (worked : Result (Unit {0}) SyncErr) → HasTaken client lease old held
+    → Works (work held lease new_report) worked late
+    → StandsIn late.lease.client new.line.trail Over
+    → ends_released (phase_of client new.line.trail) ≡ true
+over_late client lease old held late new worked taken works over =
+    let went = went_worked (work held lease new_report) late worked works in
+    over_released client new.line.trail
+    (subst (λ (c : List ℕ). StandsIn c new.line.trail Over)
+    (client_is lease late.lease went.same ∙ own_client client lease old held taken) over)
+
+-- what a session answers that ended so, whatever else is known
+refused_as : (client : List ℕ) (old : DeskNow) (late : WorkNow) (new : DeskNow) (e f : SyncErr)
+    (worked result : Result (Unit {0}) SyncErr) → worked ≡ Err f → result ≡ Err e
+    → (result ≡ worked) × (new ≡ late.desk) → IsSyncReleased client old (Err f) late.desk
+    → IsSyncReleased client old (Err e) new
+refused_as client old late new e f worked result is ended h k =
+    let as_worked = h.0 in
+    let same : f ≡ e = cc in
+    subst (λ (d : DeskNow). IsSyncReleased client old (Err e) d) (sym h.1)
+    (subst (λ (x : SyncErr). IsSyncReleased client old (Err x) late.desk) same k)
+
+-- its work was refused while the lease was held, which was then given up
+given_up : (client : List ℕ) (lease : Lease) (old held : DeskNow) (late : WorkNow) (new : DeskNow)
+    (e f : SyncErr) (released : Result (Unit {0}) LeaseErr) → HasTaken client lease old held
+    → Works (work held lease new_report) (Err f) late
+    → Releases late.lease late.desk.line new.line released → IsSameDesk late.desk new
+    → (result : Result (Unit {0}) SyncErr) → result ≡ Err e
+    → result ≡ answer_of released (Err f)
+    → (HasLeft client (Err f) old new → ends_released (phase_of client new.line.trail) ≡ true
+    → IsSyncReleased client old (Err f) new)
+    → IsSyncReleased client old (Err e) new
+given_up client lease old held late new e f (Ok done) taken works gives same result ended is left =
+    let it : f ≡ e = cc in
+    subst (λ (x : SyncErr). IsSyncReleased client old (Err x) new) it
+    (left
+    (has_left client lease (Err f) old held late new gives.reply taken works same gives.trail)
+    (over_late client lease old held late new (Err f) taken works gives.over))
+given_up client lease old held late new e f (Err lease_errors.TargetFault) taken works gives same result ended is left =
+    let it : f ≡ e = cc in
+    subst (λ (x : SyncErr). IsSyncReleased client old (Err x) new) it
+    (left (has_left client lease (Err f) old held late new Failed taken works same gives.trail)
+    (over_late client lease old held late new (Err f) taken works gives.fails.failed.over))
+given_up client lease old held late new e f (Err lease_errors.NoMemory) taken works gives same result ended is left =
+    let it : NoMemory ≡ e = cc in
+    subst (λ (x : SyncErr). IsSyncReleased client old (Err x) new) it tt
+given_up client lease old held late new e f (Err (lease_errors.Busy lock now)) taken works gives same result ended is left =
+    absurd gives
+given_up client lease old held late new e f (Err (lease_errors.Lost seen)) taken works gives same result ended is left =
+    absurd gives
+
+-- only a release that failed is a fault then
+done_then_failed : (client : List ℕ) (lease : Lease) (old held : DeskNow) (late : WorkNow)
+    (new : DeskNow) (e : SyncErr) (released : Result (Unit {0}) LeaseErr)
+    → HasTaken client lease old held → Works (work held lease new_report) (Ok tt) late
+    → Releases late.lease late.desk.line new.line released
+    → (result : Result (Unit {0}) SyncErr) → result ≡ Err e
+    → result ≡ answer_of released (Ok tt)
+    → IsSyncReleased client old (Err e) new
+done_then_failed client lease old held late new e (Ok done) taken works gives result ended is =
+    absurd cc
+done_then_failed client lease old held late new e (Err lease_errors.TargetFault) taken works gives result ended is =
+    let it : TargetFault ≡ e = cc in
+    let went = works.went in
+    let fails = fails_as client late.lease.client old.line late.desk.line new.line
+    (client_is lease late.lease went.same ∙ own_client client lease old held taken)
+    (omega (arith, taken.goes.line.later, went.goes.line.later)) gives.fails in
+    subst (λ (x : SyncErr). IsSyncReleased client old (Err x) new) it
+    (fails, over_released client new.line.trail fails.failed.over)
+done_then_failed client lease old held late new e (Err lease_errors.NoMemory) taken works gives result ended is =
+    let it : NoMemory ≡ e = cc in
+    subst (λ (x : SyncErr). IsSyncReleased client old (Err x) new) it tt
+done_then_failed client lease old held late new e (Err (lease_errors.Busy lock now)) taken works gives result ended is =
+    absurd gives
+done_then_failed client lease old held late new e (Err (lease_errors.Lost seen)) taken works gives result ended is =
+    absurd gives
+
+keeper_rose : (client : List ℕ) (lease : Lease) (old held : DeskNow) (late : WorkNow)
+    (new : DeskNow) → HasTaken client lease old held
+    → Works (work held lease new_report) (Err KeeperFault) late → IsSameDesk late.desk new
+    → HasRisen old.keeper.faults new.keeper.faults
+keeper_rose client lease old held late new taken works same =
+    subst (λ (k : KeeperNow). HasRisen old.keeper.faults k.faults) (sym same.keeper)
+    (subst (λ (k : KeeperNow). HasRisen k.faults late.desk.keeper.faults) taken.same.keeper
+    works.rose)
+
+-- by what the work came to
+released_by : (client : List ℕ) (lease : Lease) (old held : DeskNow) (late : WorkNow)
+    (new : DeskNow) (e : SyncErr) (worked result : Result (Unit {0}) SyncErr)
+    → result ≡ Err e → HasTaken client lease old held
+    → Works (work held lease new_report) worked late
+    → Leaves late.lease worked late.desk result new
+    → IsSyncReleased client old (Err e) new
+released_by client lease old held late new e (Ok done) result ended taken works leaves =
+    done_then_failed client lease old held late new e leaves.released taken works leaves.gives
+    result ended leaves.is
+released_by client lease old held late new e (Err (Busy lock now)) result ended taken works leaves =
+    absurd works
+released_by client lease old held late new e (Err (LeaseLost seen)) result ended taken works leaves =
+    let missed = missed_as client lease old held late.desk.line.trail works.1.0 seen taken works.1.1
+    in
+    refused_as client old late new e (LeaseLost seen) (Err (LeaseLost seen)) result refl ended leaves
+    ((Renewing Sync works.1.0, missed), over_released client late.desk.line.trail missed.left.over)
+released_by client lease old held late new e (Err TargetFault) result ended taken works leaves =
+    let fails = fails_as client lease.client old.line held.line late.desk.line
+    (own_client client lease old held taken) taken.goes.line.later works.1 in
+    refused_as client old late new e TargetFault (Err TargetFault) result refl ended leaves
+    (fails, over_released client late.desk.line.trail fails.failed.over)
+released_by client lease old held late new e (Err NoMemory) result ended taken works leaves =
+    refused_as client old late new e NoMemory (Err NoMemory) result refl ended leaves tt
+released_by client lease old held late new e (Err KeeperFault) result ended taken works leaves =
+    given_up client lease old held late new e KeeperFault leaves.released taken works leaves.gives
+    leaves.same result ended leaves.is
+    (λ left released.
+    ((left, keeper_rose client lease old held late new taken works leaves.same), released))
+released_by client lease old held late new e (Err (TargetOlder version)) result ended taken works leaves =
+    given_up client lease old held late new e (TargetOlder version) leaves.released taken works
+    leaves.gives leaves.same result ended leaves.is (λ left released. (left, released))
+released_by client lease old held late new e (Err (TargetNewer version)) result ended taken works leaves =
+    given_up client lease old held late new e (TargetNewer version) leaves.released taken works
+    leaves.gives leaves.same result ended leaves.is (λ left released. (left, released))
+released_by client lease old held late new e (Err BadInfo) result ended taken works leaves =
+    given_up client lease old held late new e BadInfo leaves.released taken works
+    leaves.gives leaves.same result ended leaves.is (λ left released. (left, released))
+released_by client lease old held late new e (Err (FailSafe count)) result ended taken works leaves =
+    given_up client lease old held late new e (FailSafe count) leaves.released taken works
+    leaves.gives leaves.same result ended leaves.is (λ left released. (left, released))
+released_by client lease old held late new e (Err (NoKey key)) result ended taken works leaves =
+    given_up client lease old held late new e (NoKey key) leaves.released taken works
+    leaves.gives leaves.same result ended leaves.is (λ left released. (left, released))
+
+pub released_work : (client : List ℕ) (lease : Lease) (old held new : DeskNow) (e : SyncErr)
+    (after : SyncReport) (result : Result (Unit {0}) SyncErr) → result ≡ Err e
+    → HasTaken client lease old held → EndsWork lease held new_report result new after
+    → IsSyncReleased client old (Err e) new
+released_work client lease old held new e after result ended taken h =
+    released_by client lease old held h.late new e h.worked result ended taken h.works h.leaves
+
+-- ---- all was done
+
+-- the lock was deleted behind work that was done
+given_back : (client : List ℕ) (lease : Lease) (old held : DeskNow) (late : WorkNow) (new : DeskNow)
+    (report : SyncReport) (released : Result (Unit {0}) LeaseErr) → HasTaken client lease old held
+    → Works (work held lease new_report) (Ok tt) late
+    → Releases late.lease late.desk.line new.line released → IsSameDesk late.desk new
+    → (result : Result (Unit {0}) SyncErr) → result ≡ Ok tt → result ≡ answer_of released (Ok tt)
+    → report ≡ with_locked late.desk.tables late.report
+    → IsSyncReleased client old (Ok report) new
+given_back client lease old held late new report (Ok done) taken works gives same result ended is reports = (
+  record {
+    left = has_left client lease (Ok tt) old held late new gives.reply taken works same gives.trail;
+    heard = gives.heard;
+    reports = reports;
+  },
+  over_late client lease old held late new (Ok tt) taken works gives.over,
+)
+given_back client lease old held late new report (Err lease_errors.TargetFault) taken works gives same result ended is reports =
+    absurd cc
+given_back client lease old held late new report (Err lease_errors.NoMemory) taken works gives same result ended is reports =
+    absurd cc
+given_back client lease old held late new report (Err (lease_errors.Busy lock now)) taken works gives same result ended is reports =
+    absurd gives
+given_back client lease old held late new report (Err (lease_errors.Lost seen)) taken works gives same result ended is reports =
+    absurd gives
+
+-- a session whose work was refused doesn't go well
+never_well : {P : Type 0} (f : SyncErr) (released : Result (Unit {0}) LeaseErr)
+    (result : Result (Unit {0}) SyncErr) → result ≡ Ok tt → result ≡ answer_of released (Err f) → P
+never_well f (Ok done) result ended is = absurd cc
+never_well f (Err lease_errors.TargetFault) result ended is = absurd cc
+never_well f (Err lease_errors.NoMemory) result ended is = absurd cc
+never_well f (Err (lease_errors.Busy lock now)) result ended is = absurd cc
+never_well f (Err (lease_errors.Lost seen)) result ended is = absurd cc
+
+-- by what the work came to
+synced_by : (client : List ℕ) (lease : Lease) (old held : DeskNow) (late : WorkNow)
+    (new : DeskNow) (report : SyncReport) (worked result : Result (Unit {0}) SyncErr)
+    → result ≡ Ok tt → HasTaken client lease old held
+    → Works (work held lease new_report) worked late
+    → Leaves late.lease worked late.desk result new
+    → report ≡ with_locked late.desk.tables late.report
+    → IsSyncReleased client old (Ok report) new
+synced_by client lease old held late new report (Ok done) result ended taken works leaves reports =
+    given_back client lease old held late new report leaves.released taken works leaves.gives
+    leaves.same result ended leaves.is reports
+synced_by client lease old held late new report (Err (Busy lock now)) result ended taken works leaves reports =
+    absurd works
+synced_by client lease old held late new report (Err (LeaseLost seen)) result ended taken works leaves reports =
+    let is = leaves.0 in absurd cc
+synced_by client lease old held late new report (Err TargetFault) result ended taken works leaves reports =
+    let is = leaves.0 in absurd cc
+synced_by client lease old held late new report (Err NoMemory) result ended taken works leaves reports =
+    let is = leaves.0 in absurd cc
+synced_by client lease old held late new report (Err KeeperFault) result ended taken works leaves reports =
+    never_well KeeperFault leaves.released result ended leaves.is
+synced_by client lease old held late new report (Err (TargetOlder version)) result ended taken works leaves reports =
+    never_well (TargetOlder version) leaves.released result ended leaves.is
+synced_by client lease old held late new report (Err (TargetNewer version)) result ended taken works leaves reports =
+    never_well (TargetNewer version) leaves.released result ended leaves.is
+synced_by client lease old held late new report (Err BadInfo) result ended taken works leaves reports =
+    never_well BadInfo leaves.released result ended leaves.is
+synced_by client lease old held late new report (Err (FailSafe count)) result ended taken works leaves reports =
+    never_well (FailSafe count) leaves.released result ended leaves.is
+synced_by client lease old held late new report (Err (NoKey key)) result ended taken works leaves reports =
+    never_well (NoKey key) leaves.released result ended leaves.is
+
+-- giving the lease up changes no tables
+tables_left : (lease : Lease) (worked : Result (Unit {0}) SyncErr) (old : DeskNow)
+    (result : Result (Unit {0}) SyncErr) (new : DeskNow) (holds : Bool)
+    → LeavesIf holds lease worked old result new → new.tables ≡ old.tables
+tables_left lease worked old result new true h = h.same.tables
+tables_left lease worked old result new false h = ap (λ (d : DeskNow). d.tables) h.1
+
+pub released_done : (client : List ℕ) (lease : Lease) (old held new : DeskNow)
+    (after report : SyncReport) (result : Result (Unit {0}) SyncErr) → result ≡ Ok tt
+    → HasTaken client lease old held → EndsWork lease held new_report result new after
+    → report ≡ with_locked new.tables after
+    → IsSyncReleased client old (Ok report) new
+released_done client lease old held new after report result ended taken h reports =
+    synced_by client lease old held h.late new report h.worked result ended taken h.works h.leaves
+    (reports
+    ∙ (ap (λ (t : Tables). with_locked t after)
+    (tables_left h.late.lease h.worked h.late.desk result new (holds_lease h.worked) h.leaves)
+    ∙ ap (λ (r : SyncReport). with_locked h.late.desk.tables r) (sym h.reported)))
