@@ -1,20 +1,23 @@
 -- A command on the tables makes changes of a user alone.
-use Rattle.std.specs.Prelude.{ℕ, ◌≡◌, List, [], ◌∷◌, ◌++◌, Bool, true, false, map, if◌then◌else◌, option_map, Option, Some, None, Result, Ok, Err, refl}
+use Rattle.std.specs.Prelude.{ℕ, ◌≡◌, ◌+◌, max, List, [], ◌∷◌, ◌++◌, length, nat_eq, nat_le, Bool, true, false, map, if◌then◌else◌, Option, Some, None, Result, Ok, Err, refl}
 use Rattle.std.proofs.Common.{sym, ◌∙◌, ap, subst, inl, inr}
 use Rattle.std.specs.List.{find, list_any}
+use Rattle.item_kinds.specs.Made.{folder, note, note_tag}
 use Rattle.item_text.specs.Grammar.{written}
 use Rattle.item_text.specs.declared.item.Item.{Item}
 use Rattle.licences.specs.Licences.{IsLocal}
 use Rattle.local_changes.specs.Editing.{edited_item, edited_note, plain_note}
-use Rattle.local_changes.specs.Makers.{checked, new_book, new_note, new_resource, parent_check, removed, removed_row}
-use Rattle.local_changes.specs.Saving.{saved_within}
+use Rattle.jop_base.specs.Times.{last_time}
+use Rattle.local_changes.specs.Lookup.{folder_kind, is_row_of, note_kind}
+use Rattle.local_changes.specs.Makers.{checked, is_full, new_book, new_note, parent_check, removed, removed_row}
+use Rattle.local_changes.specs.Saving.{item_limit, saved_within}
 use Rattle.local_changes.specs.Tagging.{all_changes, is_link, is_tag_of, link_changes, tag_changes, tag_id, tagged}
 use Rattle.local_changes.specs.declared.store_err.StoreErr.{StoreErr}
-use Rattle.local_commands.specs.Commands.Attach.{attach_work}
+use Rattle.local_changes.specs.declared.store_err.StoreErr.TheVariants as refusals
 use Rattle.local_commands.specs.Commands.Cat.{MakesText, plain_at}
 use Rattle.local_commands.specs.Commands.Edit.{MakesEdit}
 use Rattle.local_commands.specs.Commands.Rm.{MakesRemoval}
-use Rattle.local_commands.specs.Commands.Tag.{all_made, tag_work}
+use Rattle.local_commands.specs.Commands.Tag.{all_made}
 use Rattle.local_commands.specs.Keeping.{Act, SaveBlob, MakeChange, Notes, changes_in, notes_after_all}
 use Rattle.local_commands.specs.Lines.{id_line}
 use Rattle.local_commands.specs.Plans.{plan_of}
@@ -70,10 +73,15 @@ due_if true first second one other = one
 due_if false first second one other = other
 
 saved_due : (id : List ℕ) (item : Item) → IsDue (saved_within id item)
-saved_due id item = due_if _ _ _ tt tt
+saved_due id item =
+    let len = length (written item) in
+    due_if (nat_le len item_limit) (Ok (Saved id item)) (Err (refusals.TooLarge len)) tt tt
 
 note_due : (t : Tables) (id book title body : List ℕ) (now : ℕ) → IsDue (new_note t id book title body now)
-note_due t id book title body now = due_if _ _ _ (saved_due id _) tt
+note_due t id book title body now =
+    let item = note id book title body now in
+    due_if (is_row_of folder_kind (row_at t book)) (saved_within id item) (Err (refusals.NotFound book))
+    (saved_due id item) tt
 
 checked_due : (check : Result (Unit {0}) StoreErr) (due : Result Change StoreErr) → IsDue due →
     IsDue (checked check due)
@@ -82,15 +90,21 @@ checked_due (Err e) due is = tt
 
 book_due : (t : Tables) (id : List ℕ) (parent : Option (List ℕ)) (title : List ℕ) (now : ℕ) →
     IsDue (new_book t id parent title now)
-book_due t id parent title now = checked_due (parent_check t parent) _ (saved_due id _)
+book_due t id parent title now =
+    let item = folder id parent title now in
+    checked_due (parent_check t parent) (saved_within id item) (saved_due id item)
 
 edit_due : (id : List ℕ) (title : Option (List ℕ)) (body : List ℕ) (now last : ℕ) (item : Item) →
     IsDue (edited_note id title body now last item)
-edit_due id title body now last item = due_if _ _ _ tt (saved_due id _)
+edit_due id title body now last item =
+    let edited = edited_item item title body (max now (last + 1)) in
+    due_if (nat_eq last last_time) (Err (refusals.TimeEnd id)) (saved_within id edited) tt
+    (saved_due id edited)
 
 removed_due : (t : Tables) (id : List ℕ) (row : Option Row) → IsDue (removed_row t id row)
 removed_due t id None = tt
-removed_due t id (Some r) = due_if _ _ _ tt tt
+removed_due t id (Some r) =
+    due_if (is_full t id r) (Err (refusals.NotEmpty id)) (Ok (Removed id)) tt tt
 
 saved : (due : Result Change StoreErr) (text : List ℕ) → IsDue due → Makes (saving due text)
 saved (Ok change) text is = (is, tt)
@@ -122,10 +136,12 @@ tags : (t : Tables) (id link note title : List ℕ) (now : ℕ) →
     Makes (all_made (tagged t id link note title now))
 tags t id link note title now =
     let found = find (is_tag_of title) t.rows in
-    tags_if _ (all_changes t.rows id link note title now found) _
+    tags_if (is_row_of note_kind (row_at t note)) (all_changes t.rows id link note title now found)
+    (refusals.NotFound note)
     (both_local (tag_changes id title now found) (link_changes t.rows link note (tag_id id found) now)
     (tag_local id title now found)
-    (link_if (list_any (is_link note (tag_id id found)) t.rows) link _))
+    (link_if (list_any (is_link note (tag_id id found)) t.rows) link
+    (note_tag link note (tag_id id found) now)))
 
 as_made : (due made : Result Work LocalErr) → Makes due → made ≡ due → Makes made
 as_made due made local is = subst (λ (m : Result Work LocalErr). Makes m) (sym is) local

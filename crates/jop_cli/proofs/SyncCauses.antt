@@ -21,7 +21,7 @@ use Rattle.local_store.specs.Keepers.{IsOfKept, KeeperNow}
 use Rattle.local_store.specs.declared.tables.Tables.{Tables}
 use Rattle.session_steps.specs.Doing.{Does}
 use Rattle.session_steps.specs.Parts.{but_locks}
-use Rattle.session_steps.specs.Work.{IsReady, work}
+use Rattle.session_steps.specs.Work.{IsReady, view_of, work}
 use Rattle.sync_session.specs.Syncing.{HasLeft as HasLeftSync, IsWholeSync, SyncNow}
 use Rattle.sync_session.specs.Working.{IsEmptiedBehind, LacksKey as LacksKeyAtWork, is_sync}
 use Rattle.sync_session.specs.declared.sync_err.SyncErr.{SyncErr}
@@ -72,7 +72,8 @@ pub older : (client : List ℕ) (old new : DeskNow) (version : ℕ) →
 older client old new version h =
     let does = h.works.1 in
     left_as (HasFound version) client (Err (TargetOlder version)) old new h does.ready does.went.same
-    (found version is_sync (work h.held h.lease new_report) h.late does.went _ (does.part None))
+    (found version is_sync (work h.held h.lease new_report) h.late does.went
+    (view_of None h.held) (does.part None))
 
 pub newer : (client : List ℕ) (old new : DeskNow) (version : ℕ) →
     HasLeftSync client (Err (TargetNewer version)) old new →
@@ -80,13 +81,15 @@ pub newer : (client : List ℕ) (old new : DeskNow) (version : ℕ) →
 newer client old new version h =
     let does = h.works.1 in
     left_as (HasFound version) client (Err (TargetNewer version)) old new h does.ready does.went.same
-    (found version is_sync (work h.held h.lease new_report) h.late does.went _ (does.part None))
+    (found version is_sync (work h.held h.lease new_report) h.late does.went
+    (view_of None h.held) (does.part None))
 
 pub bad_info : (client : List ℕ) (old new : DeskNow) → HasLeftSync client (Err BadInfo) old new →
     HasLeft HasGotBad Sync client new.line.trail
 bad_info client old new h =
     left_as HasGotBad client (Err BadInfo) old new h h.works.ready h.works.went.same
-    (found_bad is_sync (work h.held h.lease new_report) h.late h.works.went _ (h.works.part None))
+    (found_bad is_sync (work h.held h.lease new_report) h.late h.works.went (view_of None h.held)
+    (h.works.part None))
 
 -- the tables of a session that is left are those that are kept, if that is told
 told_still : (late new : DeskNow) → IsSameDesk late new → IsOfKept late.keeper.kept late.tables →

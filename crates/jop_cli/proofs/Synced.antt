@@ -1,12 +1,11 @@
 -- What a sync comes to.
-use Rattle.std.proofs.Common.{◌≡◌, ◌∙◌, ◌≤◌, refl, sym, ap, subst, inl, inr, ℕ, List, [], ◌∷◌, ◌++◌, true, Some, None, Result, Ok, Err, false}
+use Rattle.std.proofs.Common.{◌≡◌, ◌∙◌, ◌≤◌, refl, sym, ap, subst, arith, inl, inr, ℕ, List, [], ◌∷◌, ◌++◌, true, Some, None, Result, Ok, Err, false}
 use Rattle.std.proofs.lemmas.List.Elements.{All-nil}
 use Rattle.conflicts.specs.declared.report.SyncReport.{SyncReport}
 use Rattle.desk.specs.Desks.{DeskNow}
 use Rattle.jop_base.specs.Outside.{HasRisen, SinkNow}
 use Rattle.jop_base.specs.declared.lock_name.LockKind.{LockKind}
 use Rattle.jop_base.specs.declared.lock_name.LockKind.TheVariants as kinds
-use Rattle.jop_target.proofs.Runs.{HasRisen-before}
 use Rattle.jop_target.specs.Replies.{TargetNow}
 use Rattle.jop_target.specs.declared.event.Event.{Event}
 use Rattle.jop_target.specs.declared.event.Event.TheVariants.{Began, Ended}
@@ -139,6 +138,10 @@ acts_unowned target before after trail made error status input clock h emits =
 
 -- ---- why a session ended so
 
+-- a count that has risen since has risen from before
+risen_before : (a b c : ℕ) → a ≤ b → HasRisen b c → HasRisen a c
+risen_before a b c le rose = omega arith
+
 ended : (target : TargetName) (keeper : KeeperNow) (trail : List Event) (client : List ℕ)
     (before middle : List Event) (Came : LockKind → List ℕ → List Event → Type 0) →
     NamesClient keeper.kept (Some client) → IsUncalled before →
@@ -236,7 +239,7 @@ explained_whole target before after trail made client named t error h later unca
           (late_trail client t old new (Err TargetFault) h) h.answers.failed) in
           (failed, uses.fault failed)
       by KeeperFault h =
-          HasRisen-before before.keeper.faults named.site.keeper.faults after.keeper.faults later
+          risen_before before.keeper.faults named.site.keeper.faults after.keeper.faults later
           (subst (λ (k : KeeperNow). HasRisen named.site.keeper.faults k.faults)
           (last_keeper client t old new (Err KeeperFault) h) h.answers.1)
       by NoMemory h = tt
@@ -252,7 +255,7 @@ explained_unread target before after trail made client named NoMemory adds later
     tt
 explained_unread target before after trail made client named KeeperFault (inl none) later uncalled
     names uses =
-    HasRisen-before before.keeper.faults named.site.keeper.faults after.keeper.faults later none.1
+    risen_before before.keeper.faults named.site.keeper.faults after.keeper.faults later none.1
 explained_unread target before after trail made client named KeeperFault (inr adds) later uncalled
     names uses =
     explained_whole target before after trail made client named adds.0 KeeperFault adds.2 later
