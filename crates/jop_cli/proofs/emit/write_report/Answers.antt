@@ -8,10 +8,10 @@ returns-in_err-write_bad g c =
     let p = err_from_is_err_and c.from_residual.result c.from_residual.ensures.1 in
     let r = c.args.report.now in
     rw (p.1) (cut_before _ _ (bad_text r.bad) (counts_text r)
-    (rw (c.as_slice.ensures) c.in_err-write_bad.ensures))
+    (rw (← c.as_slice.ensures) c.in_err-write_bad.ensures))
 
 pub returns : goal.returns
 returns g c =
     let r = c.args.report.now in
     writes_behind _ _ _ (bad_text r.bad) (counts_text r) c.write_counts.result
-    (rw (c.as_slice.ensures) c.in_ok-write_bad.ensures) c.write_counts.ensures
+    (rw (← c.as_slice.ensures) c.in_ok-write_bad.ensures) c.write_counts.ensures
