@@ -1,4 +1,4 @@
-# Completes the words of jop in bash: its commands and their options, behind check and upgrade the targets, `mem:`, `dir:` with a
+# Completes the words of jop in bash: its commands and their options, behind check, sync and upgrade the targets, `mem:`, `dir:` with a
 # folder and `dav:`, and files behind attach, --profile and a redirection.
 # shellcheck shell=bash
 
@@ -64,7 +64,7 @@ _jop() {
     case $((COMP_CWORD - first)) in
         -1) _jop_files "$word" ;;
         0)
-            _jop_words "$word" add attach cat check conflicts edit help ls mkbook rm tag tidy upgrade
+            _jop_words "$word" add attach cat check conflicts edit help ls mkbook rm sync tag tidy upgrade
             [[ $first -ne 1 || $word != -* ]] || _jop_words "$word" --profile
             ;;
         *) _jop_behind "$first" "$word" ;;
@@ -79,7 +79,7 @@ _jop_behind() {
         conflicts1) _jop_words "$2" --clear ;;
         edit2) _jop_words "$2" --title ;;
         mkbook2) _jop_words "$2" --in ;;
-        check* | upgrade*) _jop_targets "$2" $(($1 + 1)) ;;
+        check* | sync* | upgrade*) _jop_targets "$2" $(($1 + 1)) ;;
     esac
 }
 

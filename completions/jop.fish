@@ -1,4 +1,4 @@
-# Completes the words of jop in fish: its commands and their options, behind check and upgrade the targets, `mem:`, `dir:` with a folder
+# Completes the words of jop in fish: its commands and their options, behind check, sync and upgrade the targets, `mem:`, `dir:` with a folder
 # and `dav:`, and files behind attach and --profile. Behind a redirection fish offers files by itself.
 
 # Whether so many words stand before the one at the cursor, from the command on, and the command is one of these.
@@ -37,6 +37,7 @@ complete -c jop -n '__jop_at 0' -a help -d 'print the usage line'
 complete -c jop -n '__jop_at 0' -a ls -d 'list the notebooks, or the notes of one'
 complete -c jop -n '__jop_at 0' -a mkbook -d 'make a notebook'
 complete -c jop -n '__jop_at 0' -a rm -d 'remove an item'
+complete -c jop -n '__jop_at 0' -a sync -d 'bring notes and a target together'
 complete -c jop -n '__jop_at 0' -a tag -d 'give a note a tag'
 complete -c jop -n '__jop_at 0' -a tidy -d 'read an item text, and print its canonical text'
 complete -c jop -n '__jop_at 0' -a upgrade -d 'bring a target to version 3'
@@ -44,4 +45,4 @@ complete -c jop -n '__jop_at 1 attach' -F
 complete -c jop -n '__jop_at 1 conflicts' -l clear -d 'take out one of them'
 complete -c jop -n '__jop_at 2 edit' -l title -d 'another title'
 complete -c jop -n '__jop_at 2 mkbook' -l in -d 'in this notebook'
-complete -c jop -n '__jop_at 1 check upgrade' -a '(__jop_targets)'
+complete -c jop -n '__jop_at 1 check sync upgrade' -a '(__jop_targets)'

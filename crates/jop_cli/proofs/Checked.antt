@@ -19,12 +19,14 @@ use Rattle.sync_run.specs.Sessions.{IsMarkOr}
 use Rattle.sync_run.specs.declared.session_err.SessionErr.{SessionErr}
 use Rattle.sync_run.specs.declared.session_err.SessionErr.TheVariants.{Busy, LeaseLost, TargetNewer, BadInfo, TargetFault, NoMemory}
 use Rattle.target_upgrade.specs.Course.{ObeysLease}
+use Rattle.jop_cli.proofs.Licensed.{check_licensed}
 use Rattle.jop_cli.proofs.Runs.{explained_emit, keeps_none, uses_behind}
 use Rattle.jop_cli.proofs.Sessions.{busy_result, failed_session}
+use Rattle.jop_cli.specs.Causes.{IsExplained}
 use Rattle.jop_cli.specs.Commands.Check.{free_line}
-use Rattle.jop_cli.specs.Commands.Sessions.{outcome_by, session_status}
+use Rattle.jop_cli.specs.Commands.Sessions.{IsChange, outcome_by, session_status}
 use Rattle.jop_cli.specs.Outside.{Outside, did}
-use Rattle.jop_cli.specs.Run.{Acts, Emits, IsChange, IsExplained, UsesTarget}
+use Rattle.jop_cli.specs.Run.{Acts, Emits, UsesTarget}
 use Rattle.jop_cli.specs.declared.command.Verb.TheVariants.{Check}
 use Rattle.jop_cli.specs.declared.status.Status.{Status}
 use Rattle.jop_cli.specs.declared.target_name.TargetName.{TargetName}
@@ -128,6 +130,7 @@ checked target client before late out trail result status adds line obeys apart 
         clock = refl;
         random = refl;
       };
+      licensed = λ k told tells. check_licensed client trail k.tables result adds;
     }
 
 -- a check that was added to an empty trail

@@ -13,6 +13,7 @@ use Rattle.jop_cli.specs.Commands.{IsFit, command_of, verb_of, with_profile}
 use Rattle.jop_cli.specs.Commands.Check.{check_for, check_words}
 use Rattle.jop_cli.specs.Commands.Help.{help_words}
 use Rattle.jop_cli.specs.Commands.Local.{add_words, attach_words, at_top, both, cat_words, conflicts_words, count_in, edit_to, edit_words, in_parent, is_line, keeps_title, line_in, local_words, ls_in, ls_words, mime_in, mkbook_words, rm_words, tag_words}
+use Rattle.jop_cli.specs.Commands.Sync.{sync_of, sync_words}
 use Rattle.jop_cli.specs.Commands.Tidy.{tidy_words}
 use Rattle.jop_cli.specs.Commands.Upgrade.{upgrade_of, upgrade_words}
 use Rattle.jop_cli.specs.Words.{id_of, target_of}
@@ -187,6 +188,14 @@ help_fit : (words : List (List ℕ)) (verb : Verb) → help_words words ≡ Some
 help_fit [] verb is = let same : verbs.Help ≡ verb = cc is in subst IsFit same tt
 help_fit (word ∷ words) verb is = cc is
 
+sync_fit : (words : List (List ℕ)) (verb : Verb) → sync_words words ≡ Some verb → IsFit verb
+sync_fit [] verb is = cc is
+sync_fit (target ∷ []) verb is = by (target_of target) is where
+  by : (t : Option TargetName) → sync_of t ≡ Some verb → IsFit verb
+  by None is = cc is
+  by (Some t) is = let same : verbs.Sync t ≡ verb = cc is in subst IsFit same tt
+sync_fit (target ∷ word ∷ words) verb is = cc is
+
 tidy_fit : (words : List (List ℕ)) (verb : Verb) → tidy_words words ≡ Some verb → IsFit verb
 tidy_fit [] verb is = let same : verbs.Tidy ≡ verb = cc is in subst IsFit same tt
 tidy_fit (word ∷ words) verb is = cc is
@@ -209,19 +218,21 @@ as_verb (Some command) verb fit is =
 verb_fit : (words : List (List ℕ)) (verb : Verb) → verb_of words ≡ Some verb → IsFit verb
 verb_fit [] verb is = cc is
 verb_fit (word ∷ words) verb is =
-    by (bytes_eq word (codes "check")) (bytes_eq word (codes "help")) (bytes_eq word (codes "tidy"))
-    (bytes_eq word (codes "upgrade")) is where
-      by : (a b c d : Bool) →
+    by (bytes_eq word (codes "check")) (bytes_eq word (codes "help")) (bytes_eq word (codes "sync"))
+    (bytes_eq word (codes "tidy")) (bytes_eq word (codes "upgrade")) is where
+      by : (a b c d e : Bool) →
           (if a then check_words words
           else if b then help_words words
-          else if c then tidy_words words
-          else if d then upgrade_words words
+          else if c then sync_words words
+          else if d then tidy_words words
+          else if e then upgrade_words words
           else option_map verbs.Local (local_words word words)) ≡ Some verb → IsFit verb
-      by true b c d is = check_fit words verb is
-      by false true c d is = help_fit words verb is
-      by false false true d is = tidy_fit words verb is
-      by false false false true is = upgrade_fit words verb is
-      by false false false false is =
+      by true b c d e is = check_fit words verb is
+      by false true c d e is = help_fit words verb is
+      by false false true d e is = sync_fit words verb is
+      by false false false true e is = tidy_fit words verb is
+      by false false false false true is = upgrade_fit words verb is
+      by false false false false false is =
           as_verb (local_words word words) verb (local_fit word words) is
 
 with_fit : (profile : Option (List ℕ)) (o : Option Verb) (command : Command) →

@@ -8,6 +8,9 @@ use Rattle.jop_base.specs.Random.{EntropyNow}
 use Rattle.jop_target.specs.Replies.{TargetNow}
 use Rattle.jop_target.specs.declared.event.Event.{Event}
 use Rattle.jop_target.specs.declared.event.Event.TheVariants.{Made}
+use Rattle.licences.specs.Deeds.{deeds_of}
+use Rattle.licences.specs.Licences.{ObeysData}
+use Rattle.licences.specs.Views.{at_rest}
 use Rattle.local_commands.proofs.Bytes.{follows_changes}
 use Rattle.local_commands.proofs.Leaving.{follows, notes_after, unsaved}
 use Rattle.local_commands.specs.Drawing.{Drawing, NoId, OneId, TwoIds, FailsToDraw}
@@ -24,11 +27,14 @@ use Rattle.local_commands.specs.declared.local_err.LocalErr.TheVariants.{KeeperF
 use Rattle.local_store.specs.Changing.{after_all}
 use Rattle.local_store.specs.Keepers.{KeeperNow, Kept, changed}
 use Rattle.local_store.specs.declared.change.Change.{Change}
+use Rattle.jop_cli.proofs.Licensed.{AllLocal, local_licensed}
+use Rattle.jop_cli.proofs.LocalLicences.{makes_local}
 use Rattle.jop_cli.proofs.Runs.{explained_emit, uses_changes}
+use Rattle.jop_cli.specs.Causes.{IsExplained}
 use Rattle.jop_cli.specs.Commands.Local.{DoesLocally, RunsLocally, local_outcome, local_status, own_side}
-use Rattle.jop_cli.specs.Commands.Sessions.{Outcome}
+use Rattle.jop_cli.specs.Commands.Sessions.{IsChange, IsUncalled, Outcome}
 use Rattle.jop_cli.specs.Outside.{Outside, Ran, did}
-use Rattle.jop_cli.specs.Run.{Acts, Answers, Emits, IsChange, IsExplained, IsUncalled, IsUnsaved, KeepsChanges, Obeys, UsesTarget, may_be_late, with_changes}
+use Rattle.jop_cli.specs.Run.{Acts, Answers, Emits, IsUnsaved, KeepsChanges, Obeys, UsesTarget, may_be_late, with_changes}
 use Rattle.jop_cli.specs.Statuses.{is_early}
 use Rattle.jop_cli.specs.declared.command.Verb.{Verb}
 use Rattle.jop_cli.specs.declared.command.Verb.TheVariants.{Local}
@@ -164,6 +170,15 @@ numbers command before after ran answer runs =
     let both = noted is.acts (notes ran.made ran.trail) is.notes in
     both.1 ∙ ap (λ (made : List Change). numbered 0 made) (sym both.0)
 
+-- ---- licences
+
+local_made : (command : LocalCommand) (before after : Outside) (ran : Ran)
+    (answer : Result (List ℕ) LocalErr) → RunsLocally command before ran answer after →
+    AllLocal ran.made
+local_made command before after ran answer runs =
+    let is = makes_local command (own_side before (did [] [])) (own_side after ran) answer runs in
+    subst AllLocal (sym (noted is.acts (notes ran.made ran.trail) is.notes).0) is.local
+
 -- ---- the whole
 
 acts_alone : (command : LocalCommand) (before after : Outside) (trail : List Event)
@@ -193,6 +208,9 @@ acts_alone command before after trail made answer status runs spares same emits 
         clock = spares.clock;
         random = spares.random;
       };
+      licensed = λ k told tells.
+          subst (λ (t : List Event). ObeysData (at_rest k.tables) (deeds_of t made)) (sym trail_is)
+          (local_licensed 0 k.tables made (local_made command before after (did trail made) answer runs));
     }
 
 -- a command that began with an empty trail and no changes

@@ -13,18 +13,24 @@ use Rattle.jop_target.specs.Runs.{Continues, LeadsTo, TellsRun, has_failed}
 use Rattle.jop_target.specs.Store.{Store}
 use Rattle.jop_target.specs.declared.event.Event.{Event}
 use Rattle.jop_target.specs.declared.event.Event.TheVariants.{Began, Called, Ended, Made, Sent}
+use Rattle.kept_tables.specs.Trails.{KeepsNotes}
 use Rattle.lease.proofs.WholeSessions.{line_of}
+use Rattle.licences.specs.Deeds.{deeds_of}
+use Rattle.licences.specs.Licences.{Each, ObeysData}
+use Rattle.licences.specs.Views.{at_rest}
 use Rattle.local_commands.proofs.Acting.{none_kept}
 use Rattle.local_commands.specs.Sparing.{SparesClock, SparesInput, SparesRandom}
 use Rattle.local_commands.specs.declared.local_command.LocalCommand.{LocalCommand}
 use Rattle.local_store.specs.Changing.{after_all}
 use Rattle.local_store.specs.Keepers.{KeeperNow, Kept}
 use Rattle.local_store.specs.declared.change.Change.{Change}
+use Rattle.local_store.specs.declared.tables.Tables.{Tables}
+use Rattle.jop_cli.specs.Causes.{HasNoCause, IsExplained}
 use Rattle.jop_cli.specs.Commands.{ComesTo, Uses, used}
 use Rattle.jop_cli.specs.Commands.Help.{usage_line}
-use Rattle.jop_cli.specs.Commands.Sessions.{Outcome, Session}
+use Rattle.jop_cli.specs.Commands.Sessions.{IsChange, IsUncalled, Outcome, Session}
 use Rattle.jop_cli.specs.Outside.{Outside, Ran, did}
-use Rattle.jop_cli.specs.Run.{Acts, Answers, Does, Emits, HasNoCause, IsChange, IsExplained, IsIdle, IsUncalled, IsUnsaved, KeepsChanges, LeavesAlone, LeavesTables, LeavesTarget, Obeys, Prints, Sessions, TidiesTold, UsesTarget, may_be_late, with_changes}
+use Rattle.jop_cli.specs.Run.{Acts, Answers, Does, Emits, HasLicences, IsIdle, IsUnsaved, KeepsChanges, LeavesAlone, LeavesTables, LeavesTarget, Obeys, Prints, Sessions, TidiesTold, UsesTarget, may_be_late, with_changes}
 use Rattle.jop_cli.specs.Statuses.{is_early, is_refusal}
 use Rattle.jop_cli.specs.declared.command.Verb.{Verb}
 use Rattle.jop_cli.specs.declared.command.Verb.TheVariants.{Help, Local, Tidy}
@@ -229,6 +235,10 @@ no_sessions : (session : Option Session) (keeper : KeeperNow) (status : Status) 
 no_sessions None keeper status = All-nil IsChange
 no_sessions (Some session) keeper status = inl (All-nil IsChange)
 
+pub none_licensed : (verb : Option Verb) (before : Outside) → HasLicences verb before (did [] [])
+unfolding deeds_of Each
+none_licensed verb before = λ k told tells. tt
+
 -- nothing was done, for this status
 acts_none : (verb : Option Verb) (before : Outside) (status : Status) →
     Answers verb before (did [] []) status before →
@@ -240,6 +250,7 @@ acts_none verb before status answers explained = record {
   tables = keeps_nothing (used verb).bytes before.keeper;
   target = uses_none before.target;
   alone = leaves_all (used verb) before;
+  licensed = none_licensed verb before;
 }
 
 idle : (before : Outside) → IsIdle before (did [] []) before
@@ -294,6 +305,7 @@ acts_quiet v before after trail made status uncalled unchanged none nowhere same
       target = subst (λ (t : TargetNow). UsesTarget before.target [] t) (sym same)
           (uses_none before.target);
       alone = alone;
+      licensed = none_licensed (Some v) before;
     })
 
 -- a command that prints a constant
@@ -319,8 +331,11 @@ acts_help before after trail made status uncalled unchanged same emits =
 pub does_of : (verb : Option Verb) (before after : Outside) (ran : Ran) (status : Status) →
     ((bytes : List ℕ) → verb ≡ Some Tidy → before.input.left ≡ Some bytes → TidiesTold bytes status) →
     ((command : LocalCommand) → verb ≡ Some (Local command) → may_be_late status ≡ false →
-    IsUnsaved before ran after) → Acts verb before ran status after → Does verb before ran status after
-does_of verb before after ran status exact unsaved h = record {
+    IsUnsaved before ran after) →
+    ((client : List ℕ) (t : Tables) (trail : List Event) (made : List Change) →
+    ObeysData (at_rest t) (deeds_of trail made) → KeepsNotes client t trail made) →
+    Acts verb before ran status after → Does verb before ran status after
+does_of verb before after ran status exact unsaved joined h = record {
   answers = h.answers;
   explained = h.explained;
   complete = completes verb before after ran status h.explained;
@@ -328,6 +343,12 @@ does_of verb before after ran status exact unsaved h = record {
   unsaved = unsaved;
   sessions = h.sessions;
   tables = h.tables;
+  notes = λ k told tells.
+      let obeys = h.licensed k told tells in
+      record {
+        obeys = obeys;
+        kept = λ client. joined client k.tables ran.trail ran.made obeys;
+      };
   target = h.target;
   alone = h.alone;
   out = prints_of verb before after ran status h.answers;

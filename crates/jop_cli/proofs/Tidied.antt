@@ -16,7 +16,8 @@ use Rattle.jop_cli.proofs.Runs.{acts_quiet, explained_emit}
 use Rattle.jop_cli.specs.Commands.Tidy.{IsAnswerTo, StandsFor, TIDY_LIMIT, Tidies, TidiesBytes, TidiesInput, bytes_outcome, item_err, outcome_of, read_err, status_of}
 use Rattle.jop_cli.specs.Commands.Sessions.{Outcome}
 use Rattle.jop_cli.specs.Outside.{Outside, Ran, did}
-use Rattle.jop_cli.specs.Run.{Acts, Answers, Emits, IsExplained, Obeys, TidiesTold}
+use Rattle.jop_cli.specs.Causes.{IsExplained}
+use Rattle.jop_cli.specs.Run.{Acts, Answers, Emits, Obeys, TidiesTold}
 use Rattle.jop_cli.specs.Statuses.{is_early}
 use Rattle.jop_cli.specs.declared.command.Verb.{Verb}
 use Rattle.jop_cli.specs.declared.command.Verb.TheVariants.{Tidy}

@@ -1,20 +1,14 @@
 -- What an upgrade comes to.
-use Rattle.std.proofs.Common.{◌≡◌, ◌∙◌, refl, sym, ap, subst, inl, inr, ℕ, List, [], ◌∷◌, true, Option, Some, None, Result, Ok, Err, false}
-use Rattle.std.specs.Prelude.{option_map}
-use Rattle.std.proofs.lemmas.List.Elements.{All-cons, All-nil}
+use Rattle.std.proofs.Common.{◌≡◌, refl, sym, subst, inl, inr, ℕ, List, [], true, Some, None, Result, Ok, Err, false}
+use Rattle.std.proofs.lemmas.List.Elements.{All-nil}
 use Rattle.jop_base.specs.Outside.{SinkNow}
-use Rattle.jop_base.specs.Random.{EntropyNow}
 use Rattle.jop_base.specs.declared.lock_name.LockKind.TheVariants.{Exclusive}
 use Rattle.jop_target.specs.Replies.{TargetNow}
 use Rattle.jop_target.specs.declared.event.Event.{Event}
-use Rattle.jop_target.specs.declared.event.Event.TheVariants.{Made}
 use Rattle.lease.specs.Phase.{Asked, Renewing}
-use Rattle.local_store.specs.Changing.{after_all}
-use Rattle.local_store.specs.Keepers.{KeeperNow, Kept, changed}
+use Rattle.local_store.specs.Keepers.{KeeperNow}
 use Rattle.local_store.specs.declared.change.Change.{Change}
-use Rattle.local_store.specs.declared.change.Change.TheVariants.{Named}
-use Rattle.site.specs.Owning.{NamesClient, OwnNow, Owns, own}
-use Rattle.site.specs.Sites.{IsAsBefore, SiteNow}
+use Rattle.site.specs.Owning.{NamesClient, Owns, own}
 use Rattle.site.specs.declared.own_err.OwnErr.{OwnErr}
 use Rattle.site.specs.declared.own_err.OwnErr.TheVariants as own_errors
 use Rattle.sync_run.specs.Sessions.{IsMarkOr}
@@ -22,12 +16,15 @@ use Rattle.sync_run.specs.declared.session_err.SessionErr.{SessionErr}
 use Rattle.sync_run.specs.declared.session_err.SessionErr.TheVariants.{Busy, LeaseLost, TargetNewer, BadInfo, TargetFault, NoMemory}
 use Rattle.target_upgrade.specs.Answers.{IsCall}
 use Rattle.target_upgrade.specs.Runs.{LeavesUpgraded}
+use Rattle.jop_cli.proofs.Heard.{bad_left, newer_left}
+use Rattle.jop_cli.proofs.Owned.{early_own, owned, unowned}
 use Rattle.jop_cli.proofs.Runs.{explained_emit, keeps_none, uses_behind, uses_none}
 use Rattle.jop_cli.proofs.Sessions.{busy_result, early_session, failed_session}
-use Rattle.jop_cli.specs.Commands.Sessions.{Redoes, outcome_by, session_status}
-use Rattle.jop_cli.specs.Commands.Upgrade.{HasRun, UpgradeNow, UpgradesBy, outcome_of, own_status, side, status_of, version_line}
+use Rattle.jop_cli.specs.Causes.{IsExplained}
+use Rattle.jop_cli.specs.Commands.Sessions.{ClientNow, IsChange, IsUncalled, Redoes, outcome_by, own_status, session_status, side}
+use Rattle.jop_cli.specs.Commands.Upgrade.{HasRun, UpgradesBy, outcome_of, status_of, version_line}
 use Rattle.jop_cli.specs.Outside.{Outside, did}
-use Rattle.jop_cli.specs.Run.{Acts, Emits, IsChange, IsExplained, IsUncalled, KeepsChanges, UsesTarget, with_changes}
+use Rattle.jop_cli.specs.Run.{Acts, Emits, KeepsChanges, UsesTarget}
 use Rattle.jop_cli.specs.Statuses.{is_early}
 use Rattle.jop_cli.specs.declared.command.Verb.TheVariants.{Upgrade}
 use Rattle.jop_cli.specs.declared.command.upgrade.UpgradeErr.{UpgradeErr}
@@ -36,61 +33,11 @@ use Rattle.jop_cli.specs.declared.status.Status.{Status}
 use Rattle.jop_cli.specs.declared.status.Status.TheVariants as statuses
 use Rattle.jop_cli.specs.declared.target_name.TargetName.{TargetName}
 
-early_own : (error : OwnErr) → is_early (own_status error) ≡ true
-early_own own_errors.KeeperFault = refl
-early_own own_errors.EntropyFault = refl
-early_own own_errors.NoMemory = refl
-
 pub early_upgrade : (error : UpgradeErr) → is_early (status_of error) ≡ true
 early_upgrade (Own error) = early_own error
 early_upgrade (Session error) = early_session error
 
--- ---- the client is known
-
--- what is known of a side that began with nothing, once its client is known
-record IsOwned (client : List ℕ) (keeper : KeeperNow) (named : OwnNow) : Type 0 where
-  pub uncalled : IsUncalled named.site.trail
-  pub tables : KeepsChanges false keeper named.site.made named.site.keeper
-  pub names : NamesClient named.site.keeper.kept (Some client)
-
-named_kept : (client : List ℕ) (kept : Option Kept) →
-    option_map (changed (Named client)) kept ≡ option_map (with_changes (Named client ∷ [])) kept
-unfolding after_all
-named_kept client None = refl
-named_kept client (Some kept) = refl
-
-names_itself : (client : List ℕ) (kept : Option Kept) →
-    NamesClient (option_map (changed (Named client)) kept) (Some client)
-names_itself client None = tt
-names_itself client (Some kept) = refl
-
-owned : (client : List ℕ) (keeper : KeeperNow) (entropy : EntropyNow) (named : OwnNow) →
-    Owns (own keeper entropy [] []) (Ok client) named → IsOwned client keeper named
-owned client keeper entropy named (inl was) = rw (was.same) (record {
-  uncalled = All-nil IsChange;
-  tables = keeps_none keeper keeper refl;
-  names = was.named;
-})
-owned client keeper entropy named (inr is) = record {
-  uncalled = subst IsUncalled (sym is.made.trail)
-      (All-cons IsChange (Made 0) [] tt (All-nil IsChange));
-  tables = subst (λ (m : List Change). KeepsChanges false keeper m named.site.keeper) (sym is.made.made)
-      (is.made.kept ∙ named_kept client keeper.kept);
-  names = subst (λ (k : Option Kept). NamesClient k (Some client)) (sym is.made.kept)
-      (names_itself client keeper.kept);
-}
-
--- ---- or it isn't
-
-unowned : (before after : OwnNow) (error : OwnErr) → Owns before (Err error) after →
-    IsAsBefore before.site after.site
-unowned before after own_errors.KeeperFault h = h.1
-unowned before after own_errors.EntropyFault h = record {
-  kept = ap (λ (s : SiteNow). s.keeper.kept) h.1;
-  trail = ap (λ (s : SiteNow). s.trail) h.1;
-  made = ap (λ (s : SiteNow). s.made) h.1;
-}
-unowned before after own_errors.NoMemory h = h
+-- ---- the client isn't known
 
 explained_unowned : (target : TargetName) (before after : Outside) (trail : List Event)
     (made : List Change) (error : OwnErr) →
@@ -127,6 +74,7 @@ acts_unowned target before after trail made error status input clock h emits =
           (subst (λ (t : TargetNow). UsesTarget before.target [] t) (sym h.1)
           (uses_none before.target));
       alone = record { input = input; target = tt; tables = tt; clock = clock; random = tt };
+      licensed = λ k told tells. cc (tells);
     }
 
 -- ---- a session was added
@@ -162,18 +110,20 @@ explained_refusal target before after trail made (LeaseLost seen) run uncalled n
     | inr lapsed ↦ (Renewing Exclusive lapsed.0, lapsed.1)
   ];
 }
-explained_refusal target before after trail made (TargetNewer version) run uncalled names uses =
-    record {
-      session = record { kind = Exclusive; client = None };
-      uses = refl;
-      client = run.client;
-      of = names;
-      before = run.named.site.trail;
-      changes = uncalled;
-      calls = run.session.whole.middle;
-      whole = run.session.whole.trail;
-      came = run.session.because;
-    }
+explained_refusal target before after trail made (TargetNewer version) run uncalled names uses = (
+  run.session.because.was.newer,
+  record {
+    session = record { kind = Exclusive; client = None };
+    uses = refl;
+    client = run.client;
+    of = names;
+    before = run.named.site.trail;
+    changes = uncalled;
+    calls = run.session.whole.middle;
+    whole = run.session.whole.trail;
+    came = newer_left run.client _ version run.session.because;
+  },
+)
 explained_refusal target before after trail made BadInfo run uncalled names uses = record {
   session = record { kind = Exclusive; client = None };
   uses = refl;
@@ -183,7 +133,7 @@ explained_refusal target before after trail made BadInfo run uncalled names uses
   changes = uncalled;
   calls = run.session.whole.middle;
   whole = run.session.whole.trail;
-  came = run.session.because;
+  came = bad_left run.client _ run.session.because;
 }
 explained_refusal target before after trail made TargetFault run uncalled names uses =
     let failed = failed_session IsCall run.client run.named.site.trail trail run.session.whole
@@ -229,7 +179,7 @@ abbrev as_upgrade : Result ℕ SessionErr → Result ℕ UpgradeErr
 as_upgrade (Ok version) = Ok version
 as_upgrade (Err error) = Err (Session error)
 
-same_run : (before after : UpgradeNow) (result : Result ℕ SessionErr) →
+same_run : (before after : ClientNow) (result : Result ℕ SessionErr) →
     HasRun before result after → UpgradesBy before (as_upgrade result) after
 same_run before after (Ok version) run = run
 same_run before after (Err error) run = run
@@ -286,6 +236,7 @@ acts_run target before after trail made result status input clock run emits =
           (sym run.kept) known.tables);
       target = uses;
       alone = record { input = input; target = tt; tables = tt; clock = clock; random = tt };
+      licensed = λ k told tells. cc (tells);
     }
 
 -- ---- the command

@@ -3,12 +3,13 @@ pub mod Sessions
 pub mod Check
 pub mod Help
 pub mod Local
+pub mod Sync
 pub mod Tidy
 pub mod Upgrade
 use Rattle.std.specs.Prelude.{ℕ, ◌≡◌, List, [], ◌∷◌, codes, Bool, true, false, bytes_eq, if◌then◌else◌}
 use Rattle.std.specs.Prelude.{Option, Some, None, option_map, Result}
 use Rattle.jop_base.specs.declared.lock_name.LockKind.{LockKind}
-use Rattle.jop_base.specs.declared.lock_name.LockKind.TheVariants.{Sync, Exclusive}
+use Rattle.jop_base.specs.declared.lock_name.LockKind.TheVariants as kinds
 use Rattle.local_commands.specs.Following.{saves_bytes}
 use Rattle.local_commands.specs.Plans.{IsWellFormed, plan_of}
 use Rattle.local_commands.specs.Sparing.{draws_ids, limit_of}
@@ -24,6 +25,7 @@ use Rattle.jop_cli.specs.Commands.Check.{check_words, Checks}
 use Rattle.jop_cli.specs.Commands.Help.{help_words, Helps}
 use Rattle.jop_cli.specs.Commands.Local.{local_words, DoesLocally}
 use Rattle.jop_cli.specs.Commands.Sessions.{Outcome, Session}
+use Rattle.jop_cli.specs.Commands.Sync.{sync_words, Syncs}
 use Rattle.jop_cli.specs.Commands.Tidy.{TIDY_LIMIT, tidy_words, Tidies}
 use Rattle.jop_cli.specs.Commands.Upgrade.{upgrade_words, Upgrades}
 use Rattle.jop_cli.specs.Outside.{Outside, Ran}
@@ -36,6 +38,7 @@ verb_of [] = None
 verb_of (word ∷ words) =
     if bytes_eq word (codes "check") then check_words words
     else if bytes_eq word (codes "help") then help_words words
+    else if bytes_eq word (codes "sync") then sync_words words
     else if bytes_eq word (codes "tidy") then tidy_words words
     else if bytes_eq word (codes "upgrade") then upgrade_words words
     else option_map verbs.Local (local_words word words)
@@ -62,6 +65,7 @@ meant words = verb_in (command_of words)
 -- the target that a command names
 abbrev pub target_in : Verb → Option TargetName
 target_in (verbs.Check target client) = Some target
+target_in (verbs.Sync target) = Some target
 target_in (verbs.Upgrade target) = Some target
 target_in verb = None
 
@@ -78,6 +82,7 @@ abbrev pub IsFit : Verb → Type 0
 IsFit (verbs.Check target client) = Unit {0}
 IsFit verbs.Help = Unit {0}
 IsFit (verbs.Local command) = IsWellFormed command
+IsFit (verbs.Sync target) = Unit {0}
 IsFit verbs.Tidy = Unit {0}
 IsFit (verbs.Upgrade target) = Unit {0}
 
@@ -116,12 +121,18 @@ uses_locally command = record {
 
 abbrev pub uses : Verb → Uses
 uses (verbs.Check target client) =
-    record nothing { session = Some (record { kind = Sync; client = Some client }) }
+    record nothing { session = Some (record { kind = kinds.Sync; client = Some client }) }
 uses verbs.Help = nothing
 uses verbs.Tidy = record nothing { input = Some TIDY_LIMIT }
 uses (verbs.Local command) = uses_locally command
+uses (verbs.Sync target) = record nothing {
+  session = Some (record { kind = kinds.Sync; client = None });
+  tables = true;
+  bytes = true;
+  random = true;
+}
 uses (verbs.Upgrade target) = record nothing {
-  session = Some (record { kind = Exclusive; client = None });
+  session = Some (record { kind = kinds.Exclusive; client = None });
   tables = true;
   random = true;
 }
@@ -156,4 +167,5 @@ ComesTo verbs.Help before ran outcome after = Helps outcome
 ComesTo verbs.Tidy before ran outcome after = Tidies before.input outcome after.input
 ComesTo (verbs.Local command) before ran outcome after =
     DoesLocally command before ran outcome after
+ComesTo (verbs.Sync target) before ran outcome after = Syncs before ran outcome after
 ComesTo (verbs.Upgrade target) before ran outcome after = Upgrades before ran outcome after

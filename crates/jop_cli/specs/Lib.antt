@@ -3,4 +3,5 @@ pub mod Pieces
 pub mod Words
 pub mod Statuses
 pub mod Commands
+pub mod Causes
 pub mod Run

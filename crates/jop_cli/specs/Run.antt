@@ -1,35 +1,29 @@
 -- What a run of the program comes to.
-use Rattle.std.specs.Prelude.{ℕ, ◌+◌, ◌≤◌, ◌≡◌, ◌⊎◌, List, [], ◌∷◌, ◌++◌, All, Bool, true, false}
+use Rattle.std.specs.Prelude.{ℕ, ◌≤◌, ◌≡◌, ◌⊎◌, List, [], ◌++◌, Bool, true, false}
 use Rattle.std.specs.Prelude.{Option, Some, None, Ok, Err, option_map}
-use Rattle.jop_base.specs.Outside.{HasRisen, SinkNow, SourceNow}
-use Rattle.jop_base.specs.Reading.{WasTooLarge}
+use Rattle.jop_base.specs.Outside.{HasRisen, SinkNow}
 use Rattle.jop_base.specs.Writing.{WasCut, WasWritten}
-use Rattle.jop_base.specs.declared.lock_name.LockKind.{LockKind}
 use Rattle.jop_target.specs.declared.event.Event.{Event}
-use Rattle.jop_target.specs.declared.event.Event.TheVariants.{Began, Ended, Made}
 use Rattle.jop_target.specs.Runs.{TellsRun, has_failed}
 use Rattle.jop_target.specs.Replies.{TargetNow}
-use Rattle.lease.specs.Outcomes.{HasMissed, IsBlocked}
-use Rattle.lease.specs.Phase.{Phase}
-use Rattle.lease.specs.declared.error.Seen.{Seen}
-use Rattle.lease.specs.declared.lock.Lock.{Lock}
+use Rattle.kept_tables.specs.Trails.{KeepsNotes}
+use Rattle.licences.specs.Deeds.{deeds_of}
+use Rattle.licences.specs.Licences.{ObeysData}
+use Rattle.licences.specs.Views.{at_rest}
 use Rattle.local_commands.specs.Following.{numbered}
 use Rattle.local_commands.specs.Keeping.{Act, changes_in, kept_after_all}
 use Rattle.local_commands.specs.Sparing.{SparesClock, SparesInput, SparesRandom}
 use Rattle.local_commands.specs.declared.local_command.LocalCommand.{LocalCommand}
-use Rattle.local_commands.specs.declared.local_err.LocalErr.{LocalErr}
-use Rattle.local_commands.specs.declared.local_err.LocalErr.TheVariants.{NotFound, Sealed, TimeEnd, TooLarge, NoConflict, NotEmpty, NotText}
 use Rattle.local_store.specs.Changing.{after_all}
 use Rattle.local_store.specs.Keepers.{KeeperNow, Kept}
 use Rattle.local_store.specs.declared.change.Change.{Change}
-use Rattle.sync_run.specs.Outcomes.{ReadsBadInfo, ReadsNewer}
-use Rattle.sync_run.specs.Upgrades.{HasLeft}
+use Rattle.local_store.specs.declared.tables.Tables.{Tables}
+use Rattle.jop_cli.specs.Causes.{HasNoCause, IsExplained}
 use Rattle.jop_cli.specs.Commands.{ComesTo, Uses, used}
-use Rattle.jop_cli.specs.Commands.Local.{RunsLocally}
-use Rattle.jop_cli.specs.Commands.Sessions.{IsClientOf, KeepsLease, Outcome, Session}
-use Rattle.jop_cli.specs.Commands.Tidy.{IsFaulty, StandsFor, IsAnswerTo}
+use Rattle.jop_cli.specs.Commands.Sessions.{IsClientOf, IsUncalled, KeepsLease, Outcome, Session}
+use Rattle.jop_cli.specs.Commands.Tidy.{StandsFor, IsAnswerTo}
 use Rattle.jop_cli.specs.Outside.{Outside, Ran}
-use Rattle.jop_cli.specs.Statuses.{is_early, is_refusal, row_of}
+use Rattle.jop_cli.specs.Statuses.{is_early, row_of}
 use Rattle.jop_cli.specs.declared.command.Verb.{Verb}
 use Rattle.jop_cli.specs.declared.command.Verb.TheVariants as verbs
 use Rattle.jop_cli.specs.declared.status.Status.{Status}
@@ -116,14 +110,6 @@ KeepsChanges true before made after = KeepsActs before made after
 
 -- ---- sessions
 
-abbrev pub IsChange : Event → Type 0
-IsChange (Made number) = Unit {0}
-IsChange event = ⊥
-
--- a trail in which nothing is called: only changes are made
-abbrev pub IsUncalled : List Event → Type 0
-IsUncalled trail = All IsChange trail
-
 -- the trail is changes, and then one session of the client, which keeps what a lease promises
 pub record RunsSession (session : Session) (keeper : KeeperNow) (trail : List Event)
     (status : Status) : Type 0 where
@@ -140,109 +126,6 @@ abbrev pub Sessions : Option Session → KeeperNow → List Event → Status →
 Sessions None keeper trail status = IsUncalled trail
 Sessions (Some session) keeper trail status =
     IsUncalled trail ⊎ RunsSession session keeper trail status
-
--- ---- why it ends so
-
--- a call was answered `Failed`, and the target's count rose
-abbrev pub HasFailed : TargetNow → List Event → TargetNow → Type 0
-HasFailed before trail after = (has_failed trail ≡ true) × HasRisen before.faults after.faults
-
--- the command reads the input, which is past its limit; the number is the limit and one
-pub record IsTooLong (verb : Option Verb) (before : SourceNow) (number : ℕ) (after : SourceNow)
-    : Type 0 where
-  pub limit : ℕ
-  pub uses : (used verb).input ≡ Some limit
-  pub past : WasTooLarge limit before after
-  pub is : number ≡ limit + 1
-
--- the command is one on the tables, and is refused so
-pub record IsRefusedLocally (verb : Option Verb) (before : Outside) (ran : Ran) (refusal : LocalErr)
-    (after : Outside) : Type 0 where
-  pub command : LocalCommand
-  pub is : verb ≡ Some (verbs.Local command)
-  pub runs : RunsLocally command before ran (Err refusal) after
-
--- The trail ends with one session, whole, of the client that the command has; its calls came to this
--- before it ended.
-pub record HasEnded (verb : Option Verb) (keeper : KeeperNow) (trail : List Event)
-    (Came : LockKind → List ℕ → List Event → Type 0) : Type 0 where
-  pub session : Session
-  pub uses : (used verb).session ≡ Some session
-  pub client : List ℕ
-  pub of : IsClientOf session.client keeper client
-  pub before : List Event
-  pub changes : IsUncalled before
-  pub calls : List Event
-  pub whole : trail ≡ before ++ Began ∷ (calls ++ Ended ∷ [])
-  pub came : Came session.kind client (before ++ Began ∷ calls)
-
--- the last answer told of a lock in its way
-abbrev pub WasBlocked : Option Verb → KeeperNow → List Event → Lock → ℕ → Type 0
-WasBlocked verb keeper trail lock now =
-    HasEnded verb keeper trail (λ kind client events. IsBlocked kind client events lock now)
-
--- its lock wasn't shown in time, or was renewed too late
-abbrev pub HasLost : Option Verb → KeeperNow → List Event → Seen → Type 0
-HasLost verb keeper trail seen =
-    HasEnded verb keeper trail
-    (λ kind client events. (at : Phase) × HasMissed kind client at events seen)
-
--- it left the lease under which it last got an info of this version, which is newer than 3
-abbrev pub HasReadNewer : Option Verb → KeeperNow → List Event → ℕ → Type 0
-HasReadNewer verb keeper trail version =
-    HasEnded verb keeper trail
-    (λ kind client events. HasLeft client events (λ held. ReadsNewer held version))
-
--- it left the lease under which it last got an `info.json` that is too large or holds no info
-abbrev pub HasReadBadInfo : Option Verb → KeeperNow → List Event → Type 0
-HasReadBadInfo verb keeper trail =
-    HasEnded verb keeper trail (λ kind client events. HasLeft client events ReadsBadInfo)
-
--- a row for each status: its cause
-abbrev pub IsExplained : Option Verb → Outside → Ran → Status → Outside → Type 0
-IsExplained verb before ran statuses.Ok after = Unit {0}
-IsExplained verb before ran statuses.Usage after = verb ≡ None
-IsExplained verb before ran (statuses.Busy lock now) after =
-    WasBlocked verb after.keeper ran.trail lock now
-IsExplained verb before ran (statuses.LeaseLost seen) after =
-    HasLost verb after.keeper ran.trail seen
-IsExplained verb before ran (statuses.TargetNewer version) after =
-    HasReadNewer verb after.keeper ran.trail version
-IsExplained verb before ran statuses.BadInfo after = HasReadBadInfo verb after.keeper ran.trail
-IsExplained verb before ran statuses.TargetFault after =
-    HasFailed before.target ran.trail after.target
-IsExplained verb before ran statuses.KeeperFault after =
-    HasRisen before.keeper.faults after.keeper.faults
-IsExplained verb before ran statuses.SourceFault after =
-    HasRisen before.input.faults after.input.faults
-IsExplained verb before ran statuses.SinkFault after = HasRisen before.out.faults after.out.faults
-IsExplained verb before ran statuses.ClockFault after =
-    HasRisen before.clock.faults after.clock.faults
-IsExplained verb before ran statuses.EntropyFault after =
-    HasRisen before.entropy.faults after.entropy.faults
-IsExplained verb before ran (statuses.NotFound id) after =
-    IsRefusedLocally verb before ran (NotFound id) after
-IsExplained verb before ran (statuses.Sealed id) after =
-    IsRefusedLocally verb before ran (Sealed id) after
-IsExplained verb before ran (statuses.TimeEnd id) after =
-    IsRefusedLocally verb before ran (TimeEnd id) after
-IsExplained verb before ran (statuses.TooLarge number) after =
-    IsTooLong verb before.input number after.input
-    ⊎ IsRefusedLocally verb before ran (TooLarge number) after
-IsExplained verb before ran (statuses.BadItem bad) after =
-    (verb ≡ Some verbs.Tidy) × IsFaulty before.input after.input bad
-IsExplained verb before ran statuses.NoMemory after = Unit {0}
-IsExplained verb before ran (statuses.NoConflict number) after =
-    IsRefusedLocally verb before ran (NoConflict number) after
-IsExplained verb before ran (statuses.NotEmpty id) after =
-    IsRefusedLocally verb before ran (NotEmpty id) after
-IsExplained verb before ran statuses.NotText after =
-    IsRefusedLocally verb before ran NotText after
-
--- no refusal has its cause
-abbrev pub HasNoCause : Option Verb → Outside → Ran → Outside → Type 0
-HasNoCause verb before ran after =
-    (status : Status) → is_refusal status ≡ true → ¬ IsExplained verb before ran status after
 
 -- ---- an input that tells its bytes
 
@@ -289,6 +172,26 @@ WritesLine before line after = WasWritten before line after ⊎ WasCut before li
 abbrev pub Reports : SinkNow → Status → SinkNow → Type 0
 Reports before status after = WritesLine before (row_of status).line after
 
+-- ---- licences
+
+-- An upgrade's own calls have their own discipline: whether it deletes or puts an item is said nowhere so
+-- far. So this is told of every other run.
+abbrev pub tells_licences : Option Verb → Bool
+tells_licences (Some (verbs.Upgrade target)) = false
+tells_licences verb = true
+
+-- each call and each change has its licence, from the tables of its beginning on, if these are told
+abbrev pub HasLicences : Option Verb → Outside → Ran → Type 0
+HasLicences verb before ran =
+    (k : Kept) → before.keeper.kept ≡ Some k → tells_licences verb ≡ true →
+    ObeysData (at_rest k.tables) (deeds_of ran.trail ran.made)
+
+-- each call and each change has its licence, from these tables on; and no saved note is lost, whatever
+-- history the run is the client's last part of
+pub record KeepsLicences (t : Tables) (ran : Ran) : Type 0 where
+  pub obeys : ObeysData (at_rest t) (deeds_of ran.trail ran.made)
+  pub kept : (client : List ℕ) → KeepsNotes client t ran.trail ran.made
+
 -- ---- the whole
 
 -- what was done, and what it used
@@ -300,6 +203,7 @@ pub record Acts (verb : Option Verb) (before : Outside) (ran : Ran) (status : St
   pub tables : KeepsChanges (used verb).bytes before.keeper ran.made after.keeper
   pub target : UsesTarget before.target ran.trail after.target
   pub alone : LeavesAlone (used verb) before ran after
+  pub licensed : HasLicences verb before ran
 
 -- What a run is promised to do, whatever the outside answers.
 pub record Does (verb : Option Verb) (before : Outside) (ran : Ran) (status : Status)
@@ -322,6 +226,10 @@ pub record Does (verb : Option Verb) (before : Outside) (ran : Ran) (status : St
   pub sessions : Sessions (used verb).session after.keeper ran.trail status
   -- the tables at exit are those at entry with the changes that were made
   pub tables : KeepsChanges (used verb).bytes before.keeper ran.made after.keeper
+  -- if the tables at entry are told, each call and each change has its licence from them on, and no
+  -- saved note is lost
+  pub notes : (k : Kept) → before.keeper.kept ≡ Some k → tells_licences verb ≡ true →
+      KeepsLicences k.tables ran
   -- what is used of the outside, and what is left alone
   pub target : UsesTarget before.target ran.trail after.target
   pub alone : LeavesAlone (used verb) before ran after

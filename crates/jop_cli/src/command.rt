@@ -7,6 +7,7 @@ ghost use Rattle.jop_cli.specs.Commands.{target_in, target_words, uses, verb_of,
 pub(crate) mod check;
 pub(crate) mod help;
 pub(crate) mod local;
+pub(crate) mod sync;
 pub(crate) mod tidy;
 pub(crate) mod upgrade;
 
@@ -36,6 +37,10 @@ pub enum Verb {
     Help,
     /// Works on this machine's own tables.
     Local(LocalCommand),
+    /// Brings the tables and the target together, for the client that the tables name.
+    Sync {
+        target: TargetName,
+    },
     /// Reads the text of an item from the input and prints its canonical text.
     Tidy,
     /// Brings the target to the supported version.
@@ -64,7 +69,7 @@ impl From<AllocError> for WordsErr {
 
 /// What the words mean. `Usage` exactly when they mean nothing. Accepted are, each word at its place:
 ///
-/// - `help`; `tidy`; `check TARGET CLIENT`; `upgrade TARGET`;
+/// - `help`; `tidy`; `check TARGET CLIENT`; `sync TARGET`; `upgrade TARGET`;
 /// - `add BOOK TITLE`; `attach NAME MIME`; `cat ID`; `conflicts`; `conflicts --clear N`; `edit ID`;
 ///   `edit ID --title TITLE`; `ls`; `ls BOOK`; `mkbook TITLE`; `mkbook TITLE --in BOOK`; `rm ID`;
 ///   `tag ID TITLE`.
@@ -118,6 +123,7 @@ fn read_verb(alloc: Global, words: &[Text]) -> Result<Option<Verb>, AllocError>
     match word.as_str() {
         "check" => check::read(alloc, words),
         "help" => Ok(help::read(words)),
+        "sync" => sync::read(alloc, words),
         "tidy" => Ok(tidy::read(words)),
         "upgrade" => upgrade::read(alloc, words),
         _ => read_local(alloc, word, words),
@@ -151,6 +157,7 @@ fn target_in(verb: Verb) -> Option<TargetName>
 {
     match verb {
         Verb::Check { target, client: _ } => Some(target),
+        Verb::Sync { target } => Some(target),
         Verb::Upgrade { target } => Some(target),
         _ => None,
     }
@@ -172,7 +179,10 @@ pub fn profile_words(alloc: Global, words: &Words) -> Result<Profile, AllocError
 fn uses_tables(verb: &Verb) -> bool
     ensures { result ≡ (uses verb.now).tables }
 {
-    matches!(verb, Verb::Local(_) | Verb::Upgrade { target: _ })
+    matches!(
+        verb,
+        Verb::Local(_) | Verb::Sync { target: _ } | Verb::Upgrade { target: _ }
+    )
 }
 
 /// The file of a path, or that of the default.

@@ -5,16 +5,18 @@ ghost use Rattle.jop_cli.specs.Run.{Acts, Does, Reports};
 
 use crate::command::check::FREE_LINE;
 use crate::command::help::USAGE_LINE;
+use crate::command::sync::sync;
 use crate::command::tidy::tidy;
 use crate::command::upgrade::upgrade;
 use crate::command::{Verb, WordsErr, read_words};
-use crate::emit::{emit, emit_printed, emit_version};
+use crate::emit::{emit, emit_printed, emit_report, emit_version};
 use crate::piece::Piece;
 use crate::report::report;
 use crate::status::Status;
 use crate::words::Words;
 use jop_base::{Clock, Entropy, Sink, Source};
 use jop_target::{Diary, Target};
+use kept_tables::notes_are_kept_by_tables;
 use local_commands::obey as obey_locally;
 use local_store::{Changes, Keeper};
 use std::alloc::Global;
@@ -44,6 +46,7 @@ pub fn run<K: Keeper, T: Target, I: Source, O: Sink, E: Sink, C: Clock, N: Entro
         (O.state out.new) (C.state clock.new) (N.state entropy.new)) }
     ensures err { Reports (E.state err.old) result (E.state err.new) }
 {
+    notes_are_kept_by_tables();
     let status = answer(
         alloc, words, keeper, target, input, out, clock, entropy, diary, made,
     );
@@ -123,6 +126,12 @@ fn obey<K: Keeper, T: Target, I: Source, O: Sink, C: Clock, N: Entropy>(
         Verb::Local(command) => {
             match obey_locally(alloc, command, keeper, input, clock, entropy, diary, made) {
                 Ok(printed) => emit_printed(out, &printed),
+                Err(error) => Status::from(error),
+            }
+        }
+        Verb::Sync { target: _ } => {
+            match sync(alloc, keeper, target, entropy, diary, made) {
+                Ok(report) => emit_report(out, &report),
                 Err(error) => Status::from(error),
             }
         }

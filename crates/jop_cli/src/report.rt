@@ -34,7 +34,15 @@ fn write_line<E: Sink>(err: &mut E, status: &Status) -> Result<(), Failed>
                 Piece::Word("\n"),
             ],
         ),
-        Status::LeaseLost(_) => write_pieces(err, &[Piece::Word("lease lost\n")]),
+        Status::LeaseLost(_) => write_word(err, "lease lost"),
+        Status::TargetOlder(version) => write_pieces(
+            err,
+            &[
+                Piece::Word("target version "),
+                Piece::Number(*version),
+                Piece::Word(" is older than 3\n"),
+            ],
+        ),
         Status::TargetNewer(version) => write_pieces(
             err,
             &[
@@ -43,22 +51,32 @@ fn write_line<E: Sink>(err: &mut E, status: &Status) -> Result<(), Failed>
                 Piece::Word(" is newer than 3\n"),
             ],
         ),
-        Status::BadInfo => write_pieces(err, &[Piece::Word("info.json is not readable\n")]),
-        Status::TargetFault => write_pieces(err, &[Piece::Word("target fault\n")]),
-        Status::KeeperFault => write_pieces(err, &[Piece::Word("keeper fault\n")]),
-        Status::SourceFault => write_pieces(err, &[Piece::Word("input fault\n")]),
-        Status::SinkFault => write_pieces(err, &[Piece::Word("output fault\n")]),
-        Status::ClockFault => write_pieces(err, &[Piece::Word("clock fault\n")]),
-        Status::EntropyFault => write_pieces(err, &[Piece::Word("random source fault\n")]),
+        Status::BadInfo => write_word(err, "info.json is not readable"),
+        Status::FailSafe(count) => write_pieces(
+            err,
+            &[
+                Piece::Word("no items on the target, "),
+                Piece::Number(*count),
+                Piece::Word(" kept here\n"),
+            ],
+        ),
+        Status::TargetFault => write_word(err, "target fault"),
+        Status::KeeperFault => write_word(err, "keeper fault"),
+        Status::SourceFault => write_word(err, "input fault"),
+        Status::SinkFault => write_word(err, "output fault"),
+        Status::ClockFault => write_word(err, "clock fault"),
+        Status::EntropyFault => write_word(err, "random source fault"),
         Status::NotFound(id) => write_id(err, "not found ", *id),
         Status::Sealed(id) => write_id(err, "sealed ", *id),
         Status::TimeEnd(id) => write_id(err, "time end ", *id),
         Status::TooLarge(len) => write_number(err, "too large ", *len),
+        Status::NoKey(None) => write_word(err, "no key"),
+        Status::NoKey(Some(id)) => write_id(err, "no key ", *id),
         Status::BadItem(bad) => write_bad_item(err, bad.line, why_text(bad.why)),
-        Status::NoMemory => write_pieces(err, &[Piece::Word("no memory\n")]),
+        Status::NoMemory => write_word(err, "no memory"),
         Status::NoConflict(number) => write_number(err, "no conflict ", *number),
         Status::NotEmpty(id) => write_id(err, "not empty ", *id),
-        Status::NotText => write_pieces(err, &[Piece::Word("input is not text\n")]),
+        Status::NotText => write_word(err, "input is not text"),
     }
 }
 
@@ -67,6 +85,13 @@ fn write_id<E: Sink>(err: &mut E, word: &str, id: Id) -> Result<(), Failed>
     ensures { WritesAll (E.state err.old) (line_of (word.now ++ id)) result (E.state err.new) }
 {
     write_pieces(err, &[Piece::Word(word), Piece::Id(id), Piece::Word("\n")])
+}
+
+/// Writes a line that is the same each time.
+fn write_word<E: Sink>(err: &mut E, word: &str) -> Result<(), Failed>
+    ensures { WritesAll (E.state err.old) (line_of word.now) result (E.state err.new) }
+{
+    write_pieces(err, &[Piece::Word(word), Piece::Word("\n")])
 }
 
 /// Writes a word and the number that it is about.

@@ -1,6 +1,7 @@
 ghost use Rattle.std.specs.Prelude.{◌≡◌};
 ghost use Rattle.jop_cli.specs.Statuses.{row_of};
 
+use crate::command::sync::SyncRefusal;
 use crate::command::tidy::{TIDY_LIMIT, TidyErr};
 use crate::command::upgrade::UpgradeErr;
 use item_text::BadItem;
@@ -9,6 +10,7 @@ use lease::{Lock, Seen};
 use local_commands::LocalErr;
 use site::OwnErr;
 use sync_run::SessionErr;
+use sync_session::SyncErr;
 
 /// How a run of the program ended.
 #[derive(Clone, Copy, Debug, PartialEq, Eq)]
@@ -21,10 +23,14 @@ pub enum Status {
     Busy { lock: Lock, now: u64 },
     /// Its own lock wasn't shown in time, or was renewed too late.
     LeaseLost(Seen),
+    /// The target has this version, which is older than the supported one.
+    TargetOlder(u64),
     /// The target has this version, which is newer than the supported one.
     TargetNewer(u64),
     /// `info.json` of the target is too large, or is no info.
     BadInfo,
+    /// The target shows no item, and the tables have a base of so many.
+    FailSafe(u64),
     /// A call of the target failed.
     TargetFault,
     /// The tables couldn't be read or changed.
@@ -46,6 +52,8 @@ pub enum Status {
     /// The input is longer than its limit: so many bytes were read, one more than the limit. Or the
     /// text of the item is too long, and has so many bytes.
     TooLarge(u64),
+    /// Items are to be sealed with this key, which isn't known here; none if the info names none.
+    NoKey(Option<Id>),
     /// The input is no text of an item. This is the first reason.
     BadItem(BadItem),
     NoMemory,
@@ -67,8 +75,10 @@ impl Status {
             Status::Usage => 2,
             Status::Busy { lock: _, now: _ } => 3,
             Status::LeaseLost(_) => 4,
+            Status::TargetOlder(_) => 5,
             Status::TargetNewer(_) => 6,
             Status::BadInfo => 7,
+            Status::FailSafe(_) => 8,
             Status::TargetFault => 9,
             Status::KeeperFault => 10,
             Status::SourceFault => 11,
@@ -79,6 +89,7 @@ impl Status {
             Status::Sealed(_) => 16,
             Status::TimeEnd(_) => 17,
             Status::TooLarge(_) => 18,
+            Status::NoKey(_) => 20,
             Status::BadItem(_) => 21,
             Status::NoMemory => 22,
             Status::NoConflict(_) => 23,
@@ -106,9 +117,31 @@ impl From<SessionErr> for Status {
     }
 }
 
+impl From<SyncErr> for Status {
+    ghost use Rattle.std.specs.Prelude.{◌≡◌};
+    ghost use Rattle.jop_cli.specs.Commands.Sync.{sync_status};
+
+    ghost from_gives = { λ s e. e ≡ sync_status s };
+
+    fn from(error: SyncErr) -> Status {
+        match error {
+            SyncErr::Busy { lock, now } => Status::Busy { lock, now },
+            SyncErr::LeaseLost(seen) => Status::LeaseLost(seen),
+            SyncErr::TargetOlder(version) => Status::TargetOlder(version),
+            SyncErr::TargetNewer(version) => Status::TargetNewer(version),
+            SyncErr::BadInfo => Status::BadInfo,
+            SyncErr::FailSafe(count) => Status::FailSafe(count),
+            SyncErr::NoKey(key) => Status::NoKey(key),
+            SyncErr::TargetFault => Status::TargetFault,
+            SyncErr::KeeperFault => Status::KeeperFault,
+            SyncErr::NoMemory => Status::NoMemory,
+        }
+    }
+}
+
 impl From<OwnErr> for Status {
     ghost use Rattle.std.specs.Prelude.{◌≡◌};
-    ghost use Rattle.jop_cli.specs.Commands.Upgrade.{own_status};
+    ghost use Rattle.jop_cli.specs.Commands.Sessions.{own_status};
 
     ghost from_gives = { λ o e. e ≡ own_status o };
 
@@ -131,6 +164,20 @@ impl From<UpgradeErr> for Status {
         match error {
             UpgradeErr::Own(error) => Status::from(error),
             UpgradeErr::Session(error) => Status::from(error),
+        }
+    }
+}
+
+impl From<SyncRefusal> for Status {
+    ghost use Rattle.std.specs.Prelude.{◌≡◌};
+    ghost use Rattle.jop_cli.specs.Commands.Sync.{status_of};
+
+    ghost from_gives = { λ r e. e ≡ status_of r };
+
+    fn from(error: SyncRefusal) -> Status {
+        match error {
+            SyncRefusal::Own(error) => Status::from(error),
+            SyncRefusal::Session(error) => Status::from(error),
         }
     }
 }

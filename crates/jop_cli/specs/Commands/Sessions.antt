@@ -1,20 +1,26 @@
 -- Commands that run a session on a target.
-use Rattle.std.specs.Prelude.{ℕ, ◌≡◌, List, Option, Some, None, Result, Ok, Err}
+use Rattle.std.specs.Prelude.{ℕ, ◌≡◌, List, All, Option, Some, None, Result, Ok, Err}
 use Rattle.exclusion.specs.Exclusive.{KeepsExclusive}
 use Rattle.jop_base.specs.declared.lock_name.LockKind.{LockKind}
 use Rattle.jop_base.specs.declared.lock_name.LockKind.TheVariants.{Exclusive}
+use Rattle.jop_target.specs.Replies.{TargetNow}
+use Rattle.jop_target.specs.Trail.{LineNow}
 use Rattle.jop_target.specs.declared.event.Event.{Event}
+use Rattle.jop_target.specs.declared.event.Event.TheVariants.{Made}
 use Rattle.lease.specs.Blocked.{NamesALiveLock}
 use Rattle.lease.specs.Exclusion.{KeepsApart}
 use Rattle.lease.specs.declared.lock.Lock.{Lock}
 use Rattle.local_store.specs.Keepers.{KeeperNow}
-use Rattle.site.specs.Owning.{NamesClient}
+use Rattle.site.specs.Owning.{NamesClient, OwnNow, own}
+use Rattle.site.specs.declared.own_err.OwnErr.{OwnErr}
+use Rattle.site.specs.declared.own_err.OwnErr.TheVariants as own_errors
 use Rattle.sync_run.specs.declared.session_err.SessionErr.{SessionErr}
 use Rattle.sync_run.specs.declared.session_err.SessionErr.TheVariants as session_errors
 use Rattle.target_upgrade.specs.Course.{ObeysLease}
 use Rattle.target_upgrade.specs.Runs.{LeavesUpgraded}
 use Rattle.jop_cli.specs.declared.status.Status.{Status}
 use Rattle.jop_cli.specs.declared.status.Status.TheVariants as statuses
+use Rattle.jop_cli.specs.Outside.{Outside, Ran}
 
 -- ---- what a command comes to
 
@@ -35,6 +41,38 @@ session_status session_errors.NoMemory = statuses.NoMemory
 abbrev pub outcome_by : {T : Type 0} → (T → List ℕ) → Result T SessionErr → Outcome
 outcome_by text (Ok value) = Ok (text value)
 outcome_by text (Err error) = Err (session_status error)
+
+-- ---- a client's own side
+
+-- a client's own side, and the target
+pub record ClientNow : Type 0 where
+  pub own : OwnNow
+  pub target : TargetNow
+
+abbrev pub line_at : OwnNow → TargetNow → LineNow
+line_at own target = record { trail = own.site.trail; target = target }
+
+abbrev pub side : Outside → Ran → ClientNow
+side outside ran = record {
+  own = own outside.keeper outside.entropy ran.trail ran.made;
+  target = outside.target;
+}
+
+-- why there is no client's id, as a status
+abbrev pub own_status : OwnErr → Status
+own_status own_errors.KeeperFault = statuses.KeeperFault
+own_status own_errors.EntropyFault = statuses.EntropyFault
+own_status own_errors.NoMemory = statuses.NoMemory
+
+-- ---- a trail without a session
+
+abbrev pub IsChange : Event → Type 0
+IsChange (Made number) = Unit {0}
+IsChange event = ⊥
+
+-- a trail in which nothing is called: only changes are made
+abbrev pub IsUncalled : List Event → Type 0
+IsUncalled trail = All IsChange trail
 
 -- ---- whose session it is
 

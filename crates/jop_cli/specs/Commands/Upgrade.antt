@@ -3,16 +3,12 @@
 use Rattle.std.specs.Prelude.{ℕ, ◌≡◌, List, [], ◌∷◌, ◌++◌, codes, Option, Some, None, Result, Ok, Err}
 use Rattle.std.specs.Fmt.{decimal}
 use Rattle.exclusion.specs.Exclusive.{KeepsExclusive}
-use Rattle.jop_target.specs.Replies.{TargetNow}
 use Rattle.jop_target.specs.Runs.{Continues}
-use Rattle.jop_target.specs.Trail.{LineNow}
 use Rattle.jop_base.specs.declared.lock_name.LockKind.TheVariants.{Exclusive}
 use Rattle.lease.specs.Blocked.{NamesALiveLock}
 use Rattle.lease.specs.Exclusion.{KeepsApart}
 use Rattle.lease.specs.declared.lock.Lock.{Lock}
-use Rattle.site.specs.Owning.{OwnNow, Owns, own}
-use Rattle.site.specs.declared.own_err.OwnErr.{OwnErr}
-use Rattle.site.specs.declared.own_err.OwnErr.TheVariants as own_errors
+use Rattle.site.specs.Owning.{OwnNow, Owns}
 use Rattle.sync_run.specs.Sessions.{IsMarkOr}
 use Rattle.sync_run.specs.Upgrades.{AddsUpgrade}
 use Rattle.sync_run.specs.declared.session_err.SessionErr.{SessionErr}
@@ -25,10 +21,9 @@ use Rattle.jop_cli.specs.declared.command.Verb.TheVariants.{Upgrade}
 use Rattle.jop_cli.specs.declared.command.upgrade.UpgradeErr.{UpgradeErr}
 use Rattle.jop_cli.specs.declared.command.upgrade.UpgradeErr.TheVariants as upgrade_errors
 use Rattle.jop_cli.specs.declared.status.Status.{Status}
-use Rattle.jop_cli.specs.declared.status.Status.TheVariants as statuses
 use Rattle.jop_cli.specs.declared.target_name.TargetName.{TargetName}
-use Rattle.jop_cli.specs.Commands.Sessions.{Outcome, session_status}
-use Rattle.jop_cli.specs.Outside.{Outside, Ran}
+use Rattle.jop_cli.specs.Commands.Sessions.{ClientNow, Outcome, line_at, own_status, session_status, side}
+use Rattle.jop_cli.specs.Outside.{Outside, Ran, did}
 use Rattle.jop_cli.specs.Words.{target_of}
 
 -- ---- words
@@ -44,17 +39,9 @@ upgrade_words words = None
 
 -- ---- the room
 
--- a client's own side, and the target
-pub record UpgradeNow : Type 0 where
-  pub own : OwnNow
-  pub target : TargetNow
-
-abbrev pub line_at : OwnNow → TargetNow → LineNow
-line_at own target = record { trail = own.site.trail; target = target }
-
 -- The client was known or named, and then its session was added, which touched its own side no more.
 -- In every history its events keep what a lease promises.
-pub record HasRun (before : UpgradeNow) (result : Result ℕ SessionErr) (after : UpgradeNow)
+pub record HasRun (before : ClientNow) (result : Result ℕ SessionErr) (after : ClientNow)
     : Type 0 where
   pub client : List ℕ
   pub named : OwnNow
@@ -72,7 +59,7 @@ pub record HasRun (before : UpgradeNow) (result : Result ℕ SessionErr) (after 
   pub made : after.own.site.made ≡ named.site.made
   pub random : after.own.entropy ≡ named.entropy
 
-abbrev pub UpgradesBy : UpgradeNow → Result ℕ UpgradeErr → UpgradeNow → Type 0
+abbrev pub UpgradesBy : ClientNow → Result ℕ UpgradeErr → ClientNow → Type 0
 UpgradesBy before (Ok version) after = HasRun before (Ok version) after
 UpgradesBy before (Err (upgrade_errors.Own error)) after =
     Owns before.own (Err error) after.own × (after.target ≡ before.target)
@@ -83,11 +70,6 @@ UpgradesBy before (Err (upgrade_errors.Session error)) after = HasRun before (Er
 abbrev pub version_line : ℕ → List ℕ
 version_line version = codes "version " ++ (decimal version ++ 10 ∷ [])
 
-abbrev pub own_status : OwnErr → Status
-own_status own_errors.KeeperFault = statuses.KeeperFault
-own_status own_errors.EntropyFault = statuses.EntropyFault
-own_status own_errors.NoMemory = statuses.NoMemory
-
 abbrev pub status_of : UpgradeErr → Status
 status_of (upgrade_errors.Own error) = own_status error
 status_of (upgrade_errors.Session error) = session_status error
@@ -96,16 +78,10 @@ abbrev pub outcome_of : Result ℕ UpgradeErr → Outcome
 outcome_of (Ok version) = Ok (version_line version)
 outcome_of (Err error) = Err (status_of error)
 
-abbrev pub side : Outside → Ran → UpgradeNow
-side outside ran = record {
-  own = own outside.keeper outside.entropy ran.trail ran.made;
-  target = outside.target;
-}
-
 -- the client is known or named, its session was added, and the version is printed when that went
 -- well
 pub record Upgrades (before : Outside) (ran : Ran) (outcome : Outcome) (after : Outside)
     : Type 0 where
   pub result : Result ℕ UpgradeErr
-  pub upgrades : UpgradesBy (side before (record { trail = []; made = [] })) result (side after ran)
+  pub upgrades : UpgradesBy (side before (did [] [])) result (side after ran)
   pub is : outcome ≡ outcome_of result

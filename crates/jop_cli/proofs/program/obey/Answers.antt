@@ -4,9 +4,10 @@ use Rattle.local_commands.specs.Lines.{printed_text}
 use Rattle.jop_cli.proofs.Local.{acts_local, early_local}
 use Rattle.jop_cli.proofs.Runs.{acts_as, acts_help}
 use Rattle.jop_cli.proofs.Sessions.{early_session}
+use Rattle.jop_cli.proofs.Synced.{acts_synced, early_sync}
 use Rattle.jop_cli.proofs.Tidied.{acts_tidied}
 use Rattle.jop_cli.proofs.Upgraded.{acts_upgraded, early_upgrade}
-use Rattle.jop_cli.specs.declared.command.Verb.TheVariants.{Check, Help, Local, Tidy, Upgrade}
+use Rattle.jop_cli.specs.declared.command.Verb.TheVariants.{Check, Help, Local, Sync, Tidy, Upgrade}
 use Rattle.jop_cli.proofs.program.obey.Goals as goal
 
 -- ---- check
@@ -59,6 +60,23 @@ returns-in-Local g c =
     (Err c.in-Err-obey_locally.error) _ c.requires.unwritten c.requires.unchanged
     c.in-Err-obey_locally.ensures.runs c.in-Err-obey_locally.ensures.spares refl
     (c.from-in-Err-obey_locally.ensures, early_local c.in-Err-obey_locally.error, refl))
+
+-- ---- sync
+
+pub returns-in-Ok-sync : goal.returns-in-Ok-sync
+returns-in-Ok-sync g c =
+    acts_as _ (Sync c.in-Sync.target) _ _ _ _ c.in-Sync.is
+    (acts_synced c.in-Sync.target _ _ c.args.diary.now.events _ c.args.made.now.changes _
+    (Ok c.in-Ok-sync.report) _ c.requires.unwritten c.requires.unchanged refl
+    refl c.in-Ok-sync.ensures c.emit_report.ensures)
+
+pub returns-in-Sync : goal.returns-in-Sync
+returns-in-Sync g c =
+    acts_as _ (Sync c.in-Sync.target) _ _ _ _ c.in-Sync.is
+    (acts_synced c.in-Sync.target _ _ c.args.diary.now.events _ c.args.made.now.changes _
+    (Err c.in-Err-sync.error) _ c.requires.unwritten c.requires.unchanged refl
+    refl c.in-Err-sync.ensures
+    (c.from-in-Err-sync.ensures, early_sync c.in-Err-sync.error, refl))
 
 -- ---- upgrade
 

@@ -1,0 +1,337 @@
+-- What a sync leaves of a client's own side.
+use Rattle.std.proofs.Common.{◌≡◌, ◌⊎◌, ◌∙◌, refl, sym, ap, subst, inl, inr, ℕ, ◌+◌, List, [], ◌∷◌, ◌++◌, append-nil, append_assoc, length, map, All}
+use Rattle.std.proofs.Common.{Bool, true, false, Option, Some, None, Result, Ok, Err}
+use Rattle.std.specs.Prelude.{option_map}
+use Rattle.std.proofs.lemmas.List.{append_cancel_left}
+use Rattle.std.proofs.lemmas.List.Elements.{All-head, All-tail}
+use Rattle.conflicts.specs.declared.report.SyncReport.{SyncReport}
+use Rattle.jop_target.specs.declared.call.Call.{Call}
+use Rattle.jop_target.specs.declared.event.Event.{Event}
+use Rattle.jop_target.specs.declared.event.Event.TheVariants.{Began, Called, Ended, Made, Sent}
+use Rattle.licences.proofs.Settled.{made_inside, stays_inside}
+use Rattle.licences.specs.Deeds.{Deed, Begins, Asks, Makes, MakesUntold, Ends, Stops, changes_in, deeds_of, events_of}
+use Rattle.licences.specs.Licences.{Each, IsInside, MayChange, MayDo, MergesInfo, ObeysData}
+use Rattle.licences.specs.Views.{View, at_rest, changed, heard, seen}
+use Rattle.local_commands.specs.Keeping.{Act, MakeChange, SaveBlob, kept_after_all}
+use Rattle.local_commands.specs.Keeping as keeping
+use Rattle.local_store.specs.Changing.{after, after_all, conflicted, noted_if, opened, uploaded, with_remote}
+use Rattle.local_store.specs.Keepers.{KeeperNow, Kept, with_blob}
+use Rattle.local_store.specs.Keepers as keepers
+use Rattle.local_store.specs.Tables.{row_at}
+use Rattle.local_store.specs.declared.blob.Blob.{Blob}
+use Rattle.local_store.specs.declared.change.Change.{Change}
+use Rattle.local_store.specs.declared.change.Change.TheVariants.{Conflict, ContextIs, Dropped, Gone, InfoIs, Moved, Taken, Uploaded}
+use Rattle.local_store.specs.declared.content.Content.{Content}
+use Rattle.local_store.specs.declared.row.Row.{Row}
+use Rattle.local_store.specs.declared.tables.Tables.{Tables}
+use Rattle.session_steps.proofs.Joins.{kept_after-append}
+use Rattle.session_steps.specs.Saving.{kept_after, saved_all}
+use Rattle.session_steps.specs.Steps.{IsStep}
+use Rattle.site.specs.Owning.{NamesClient}
+use Rattle.sync_session.specs.Syncing.{AddsFrom, AddsSync, IsOpenSync, IsUnread, IsUnsynced, IsWholeSync, SyncNow, desk_at}
+use Rattle.sync_session.specs.Telling.{Tells}
+use Rattle.sync_session.specs.Working.{is_sync}
+use Rattle.sync_session.specs.declared.sync_err.SyncErr.{SyncErr}
+use Rattle.sync_session.specs.declared.sync_err.SyncErr.TheVariants.{KeeperFault, NoMemory}
+use Rattle.jop_cli.specs.Run.{KeepsChanges, with_changes}
+
+-- ---- what was made
+
+-- a session made these changes, and had these bytes of resources saved, and they are kept
+pub record IsAdded (old new : SyncNow) : Type 0 where
+  pub changes : List Change
+  pub saves : List Blob
+  pub made : new.made ≡ old.made ++ changes
+  pub kept : new.keeper.kept ≡ option_map (kept_after changes saves) old.keeper.kept
+
+none_kept : (kept : Option Kept) → kept ≡ option_map (kept_after [] []) kept
+unfolding after_all saved_all
+none_kept None = refl
+none_kept (Some k) = refl
+
+pub unread : (old new : SyncNow) (result : Result SyncReport SyncErr) → IsUnread old result new →
+    IsUnsynced old new
+unread old new (Err KeeperFault) h = h.0
+unread old new (Err NoMemory) h = h
+unread old new result h = absurd h
+
+of_none : (old new : SyncNow) → IsUnsynced old new → IsAdded old new
+of_none old new h = record {
+  changes = [];
+  saves = [];
+  made = h.made ∙ sym (append-nil old.made);
+  kept = h.kept ∙ none_kept old.keeper.kept;
+}
+
+of_tale : (t : Tables) (old new : SyncNow) → Tells (at_rest t) (desk_at t old) (desk_at t new) →
+    IsAdded old new
+of_tale t old new h =
+    record { changes = changes_in h.deeds; saves = h.saves; made = h.made; kept = h.kept }
+
+added_from : (client : List ℕ) (t : Tables) (old new : SyncNow) (result : Result SyncReport SyncErr) →
+    AddsFrom client t old result new → IsAdded old new
+added_from client t old new (Err NoMemory) h = of_tale t old new h.tells
+added_from client t old new result h = of_tale t old new h.tells
+
+pub added : (client : List ℕ) (old new : SyncNow) (result : Result SyncReport SyncErr) →
+    AddsSync client old result new → IsAdded old new
+added client old new result (inl none) = of_none old new (unread old new result none)
+added client old new result (inr adds) = added_from client adds.0 old new result adds.2
+
+-- ---- as acts
+
+-- changes, and then bytes that are saved
+abbrev acts_of : List Change → List Blob → List Act
+acts_of changes saves = map MakeChange changes ++ map SaveBlob saves
+
+only_saves : (saves : List Blob) → keeping.changes_in (map SaveBlob saves) ≡ []
+only_saves [] = refl
+only_saves (b ∷ saves) = only_saves saves
+
+acts_changes : (changes : List Change) (saves : List Blob) →
+    keeping.changes_in (acts_of changes saves) ≡ changes
+acts_changes [] saves = only_saves saves
+acts_changes (c ∷ changes) saves = ap (λ (cs : List Change). c ∷ cs) (acts_changes changes saves)
+
+saves_kept : (saves : List Blob) (k : Kept) →
+    kept_after_all (map SaveBlob saves) k ≡ kept_after [] saves k
+unfolding after_all saved_all
+saves_kept [] k = refl
+saves_kept (b ∷ saves) k = saves_kept saves (with_blob b.id b.bytes k)
+
+acts_kept : (changes : List Change) (saves : List Blob) (k : Kept) →
+    kept_after_all (acts_of changes saves) k ≡ kept_after changes saves k
+unfolding after_all
+acts_kept [] saves k = saves_kept saves k
+acts_kept (c ∷ changes) saves k = acts_kept changes saves (keepers.changed c k)
+
+all_kept : (changes : List Change) (saves : List Blob) (kept : Option Kept) →
+    option_map (kept_after_all (acts_of changes saves)) kept
+    ≡ option_map (kept_after changes saves) kept
+all_kept changes saves None = refl
+all_kept changes saves (Some k) = ap (λ (x : Kept). Some x) (acts_kept changes saves k)
+
+as_kept : (changes : List Change) (kept : Option Kept) →
+    option_map (with_changes changes) kept ≡ option_map (kept_after changes []) kept
+unfolding saved_all
+as_kept changes None = refl
+as_kept changes (Some k) = refl
+
+-- behind changes alone, those of a session are kept with them
+pub keeps_acts : (keeper : KeeperNow) (old new : SyncNow) →
+    KeepsChanges false keeper old.made old.keeper → IsAdded old new →
+    KeepsChanges true keeper new.made new.keeper
+keeps_acts keeper old new before more = record {
+  acts = acts_of (old.made ++ more.changes) more.saves;
+  changes = more.made ∙ sym (acts_changes (old.made ++ more.changes) more.saves);
+  kept = more.kept
+      ∙ (ap (option_map (kept_after more.changes more.saves)) (before ∙ as_kept old.made keeper.kept)
+      ∙ (kept_after-append keeper.kept old.made more.changes [] more.saves
+      ∙ sym (all_kept (old.made ++ more.changes) more.saves keeper.kept)));
+}
+
+-- ---- a session's events
+
+-- nothing stands behind the end, and nothing begins
+unfoldable EndsOnce : List Event → Type 0
+EndsOnce [] = Unit {0}
+EndsOnce (Began ∷ es) = ⊥
+EndsOnce (Sent call ∷ es) = EndsOnce es
+EndsOnce (Called call reply ∷ es) = EndsOnce es
+EndsOnce (Made number ∷ es) = EndsOnce es
+EndsOnce (Ended ∷ es) = es ≡ []
+
+-- one session, or none
+unfoldable IsOneSession : List Event → Type 0
+IsOneSession [] = Unit {0}
+IsOneSession (Began ∷ es) = EndsOnce es
+IsOneSession (e ∷ es) = ⊥
+
+ends_once : (client : List ℕ) (es fs : List Event) → All (IsStep is_sync client) es → EndsOnce fs →
+    EndsOnce (es ++ fs)
+unfolding EndsOnce
+ends_once client [] fs each once = once
+ends_once client (Sent call ∷ es) fs each once =
+    ends_once client es fs (All-tail (IsStep is_sync client) (Sent call) es each) once
+ends_once client (Called call reply ∷ es) fs each once =
+    ends_once client es fs (All-tail (IsStep is_sync client) (Called call reply) es each) once
+ends_once client (Made number ∷ es) fs each once =
+    ends_once client es fs (All-tail (IsStep is_sync client) (Made number) es each) once
+ends_once client (Began ∷ es) fs each once =
+    absurd (All-head (IsStep is_sync client) Began es each)
+ends_once client (Ended ∷ es) fs each once =
+    absurd (All-head (IsStep is_sync client) Ended es each)
+
+one_whole : (client : List ℕ) (middle : List Event) → All (IsStep is_sync client) middle →
+    IsOneSession (Began ∷ (middle ++ Ended ∷ []))
+unfolding IsOneSession EndsOnce
+one_whole client middle each = ends_once client middle (Ended ∷ []) each refl
+
+one_open : (client : List ℕ) (middle : List Event) → All (IsStep is_sync client) middle →
+    IsOneSession (Began ∷ (middle ++ []))
+unfolding IsOneSession EndsOnce
+one_open client middle each = ends_once client middle [] each tt
+
+one_none : IsOneSession []
+unfolding IsOneSession
+one_none = tt
+
+-- what was told of a session, and its events
+record HasTold (t : Tables) (old new : SyncNow) (more : List Event) : Type 0 where
+  pub tells : Tells (at_rest t) (desk_at t old) (desk_at t new)
+  pub one : IsOneSession more
+
+told_whole : (client : List ℕ) (t : Tables) (old new : SyncNow) (result : Result SyncReport SyncErr)
+    (more : List Event) → new.line.trail ≡ old.line.trail ++ more →
+    IsWholeSync client t old result new → HasTold t old new more
+told_whole client t old new result more is h =
+    let same : more ≡ Began ∷ (h.whole.middle ++ Ended ∷ []) =
+    append_cancel_left old.line.trail more (Began ∷ (h.whole.middle ++ Ended ∷ []))
+    (sym is ∙ h.whole.trail) in
+    record {
+      tells = h.tells;
+      one = subst IsOneSession (sym same) (one_whole client h.whole.middle h.whole.each);
+    }
+
+told_open : (client : List ℕ) (t : Tables) (old new : SyncNow) (more : List Event) →
+    new.line.trail ≡ old.line.trail ++ more → IsOpenSync client t old new → HasTold t old new more
+told_open client t old new more is h =
+    let same : more ≡ h.begun.more =
+    append_cancel_left old.line.trail more h.begun.more (sym is ∙ h.begun.trail) in
+    record {
+      tells = h.tells;
+      one = subst IsOneSession (sym same) (elim h.begun.begun [
+        | inl none ↦ subst IsOneSession (sym none) one_none
+        | inr begun ↦
+            subst IsOneSession
+            (ap (λ (es : List Event). Began ∷ es) (append-nil begun.0) ∙ sym begun.1)
+            (one_open client begun.0 begun.2)
+      ]);
+    }
+
+told_from : (client : List ℕ) (t : Tables) (old new : SyncNow) (result : Result SyncReport SyncErr)
+    (more : List Event) → new.line.trail ≡ old.line.trail ++ more →
+    AddsFrom client t old result new → HasTold t old new more
+told_from client t old new (Err NoMemory) more is h = told_open client t old new more is h
+told_from client t old new (Ok report) more is h = told_whole client t old new (Ok report) more is h
+told_from client t old new (Err error) more is h =
+    told_whole client t old new (Err error) more is h
+
+-- ---- the client's name
+
+uploaded_name : (t : Tables) (id bytes : List ℕ) (row : Option Row) →
+    (uploaded t id bytes row).client ≡ t.client
+uploaded_name t id bytes None = refl
+uploaded_name t id bytes (Some r) = refl
+
+conflicted_name : (t : Tables) (id : List ℕ) (remote : Option (List ℕ × Content)) (copies : Bool)
+    (row : Option Row) → (conflicted t id remote copies row).client ≡ t.client
+conflicted_name t id remote copies None = refl
+conflicted_name t id None true (Some r) = refl
+conflicted_name t id None false (Some r) = refl
+conflicted_name t id (Some remote) true (Some r) = refl
+conflicted_name t id (Some remote) false (Some r) = refl
+
+-- no change of a session names another client
+keeps_name : (v : View) (c : Change) (t : Tables) → MayChange v c → (after t c).client ≡ t.client
+keeps_name v (Uploaded id bytes) t may = uploaded_name t id bytes (row_at t id)
+keeps_name v (Dropped id) t may = refl
+keeps_name v (Taken id bytes content) t may = refl
+keeps_name v (Conflict id remote copies) t may = conflicted_name t id remote copies (row_at t id)
+keeps_name v (Moved id) t may = conflicted_name t id None true (row_at t id)
+keeps_name v (Gone id) t may = refl
+keeps_name v (InfoIs info) t may = refl
+keeps_name v (ContextIs context) t may = refl
+keeps_name v c t may = absurd may
+
+no_changes : (n : ℕ) (ds : List Deed) → events_of n ds ≡ [] → changes_in ds ≡ []
+unfolding events_of changes_in
+no_changes n [] none = refl
+no_changes n (Stops ∷ ds) none = no_changes n ds none
+no_changes n (Begins ∷ ds) none = cc
+no_changes n (Asks call None ∷ ds) none = cc
+no_changes n (Asks call (Some reply) ∷ ds) none = cc
+no_changes n (Makes c ∷ ds) none = cc
+no_changes n (MakesUntold ∷ ds) none = cc
+no_changes n (Ends ∷ ds) none = cc
+
+nothing_named : (t : Tables) (cs : List Change) → cs ≡ [] → (after_all t cs).client ≡ t.client
+unfolding after_all
+nothing_named t cs none = ap (λ (xs : List Change). (after_all t xs).client) none
+
+inside_name : (n : ℕ) (v w : View) (t : Tables) (ds : List Deed) → IsInside v.stage →
+    Each MayDo w ds → EndsOnce (events_of n ds) →
+    Each MayDo v (deeds_of (events_of n ds) (changes_in ds)) →
+    (after_all t (changes_in ds)).client ≡ t.client
+unfolding Each deeds_of events_of changes_in after_all EndsOnce
+inside_name n v w t [] inside may once each = refl
+inside_name n v w t (Stops ∷ ds) inside may once each =
+    inside_name n v (seen w Stops) t ds inside may.1 once each
+inside_name n v w t (Asks call None ∷ ds) inside may once each =
+    inside_name n (heard v call None) (seen w (Asks call None)) t ds inside may.1 once each.1
+inside_name n v w t (Asks call (Some reply) ∷ ds) inside may once each =
+    inside_name n (heard v call (Some reply)) (seen w (Asks call (Some reply))) t ds inside may.1
+    once each.1
+inside_name n v w t (Makes c ∷ ds) inside may once each =
+    inside_name (n + 1) (changed v c) (seen w (Makes c)) (after t c) ds
+    (stays_inside v.stage c inside) may.1 once each.1
+    ∙ keeps_name v c t (made_inside v.stage v c inside each.0)
+inside_name n v w t (MakesUntold ∷ ds) inside may once each = absurd may.0
+inside_name n v w t (Begins ∷ ds) inside may once each = absurd once
+inside_name n v w t (Ends ∷ ds) inside may once each =
+    nothing_named t (changes_in ds) (no_changes n ds once)
+
+session_name : (n : ℕ) (w : View) (t : Tables) (ds : List Deed) → Each MayDo w ds →
+    IsOneSession (events_of n ds) → ObeysData (at_rest t) (deeds_of (events_of n ds) (changes_in ds)) →
+    (after_all t (changes_in ds)).client ≡ t.client
+unfolding Each deeds_of events_of changes_in after_all IsOneSession
+session_name n w t [] may one each = refl
+session_name n w t (Stops ∷ ds) may one each = session_name n (seen w Stops) t ds may.1 one each
+session_name n w t (Begins ∷ ds) may one each =
+    inside_name n (seen (at_rest t) Begins) (seen w Begins) t ds tt may.1 one each.1
+session_name n w t (Asks call None ∷ ds) may one each = absurd one
+session_name n w t (Asks call (Some reply) ∷ ds) may one each = absurd one
+session_name n w t (Makes c ∷ ds) may one each = absurd one
+session_name n w t (MakesUntold ∷ ds) may one each = absurd one
+session_name n w t (Ends ∷ ds) may one each = absurd one
+
+-- each call and change of what was added has its licence, from the tables that are kept, if they are
+-- told
+abbrev pub IsLicensed : SyncNow → SyncNow → List Event → Type 0
+IsLicensed old new more =
+    (k : Kept) (changes : List Change) → old.keeper.kept ≡ Some k → new.made ≡ old.made ++ changes →
+    ObeysData (at_rest k.tables) (deeds_of more changes)
+    × MergesInfo (at_rest k.tables) (deeds_of more changes)
+
+named_still : (t : Tables) (old new : SyncNow) (more : List Event) →
+    new.line.trail ≡ old.line.trail ++ more → HasTold t old new more → IsLicensed old new more →
+    (client : List ℕ) → NamesClient old.keeper.kept (Some client) →
+    NamesClient new.keeper.kept (Some client)
+named_still t old new more is h licensed client names =
+    subst (λ (k : Option Kept). NamesClient k (Some client)) (sym h.tells.kept)
+    (by old.keeper.kept refl names) where
+      by : (kept : Option Kept) → old.keeper.kept ≡ kept → NamesClient kept (Some client) →
+          NamesClient (option_map (kept_after (changes_in h.tells.deeds) h.tells.saves) kept)
+          (Some client)
+      by None told names = tt
+      by (Some k) told names =
+          let n = length old.made in
+          let ds = h.tells.deeds in
+          let same : more ≡ events_of n ds =
+          append_cancel_left old.line.trail more (events_of n ds) (sym is ∙ h.tells.trail) in
+          session_name n (at_rest t) k.tables ds h.tells.obeys (subst IsOneSession same h.one)
+          (subst (λ (es : List Event). ObeysData (at_rest k.tables) (deeds_of es (changes_in ds))) same
+          (licensed k (changes_in ds) told h.tells.made).0)
+          ∙ names
+
+-- the tables name the client still
+pub names_after : (client : List ℕ) (old new : SyncNow) (result : Result SyncReport SyncErr)
+    (more : List Event) → new.line.trail ≡ old.line.trail ++ more → IsLicensed old new more →
+    AddsSync client old result new → NamesClient old.keeper.kept (Some client) →
+    NamesClient new.keeper.kept (Some client)
+names_after client old new result more is licensed (inl none) names =
+    subst (λ (k : Option Kept). NamesClient k (Some client)) (sym (unread old new result none).kept)
+    names
+names_after client old new result more is licensed (inr adds) names =
+    named_still adds.0 old new more is (told_from client adds.0 old new result more is adds.2) licensed
+    client names

@@ -1,0 +1,222 @@
+-- Why a run ends so: the cause of each status.
+use Rattle.std.specs.Prelude.{ℕ, ◌+◌, ◌<◌, ◌≡◌, ◌⊎◌, List, [], ◌∷◌, ◌++◌, Bool, true, Option, Some, None, Err}
+use Rattle.delta.specs.Page.{fail_safe}
+use Rattle.jop_base.specs.Outside.{HasRisen, SourceNow}
+use Rattle.jop_base.specs.Reading.{WasTooLarge}
+use Rattle.jop_base.specs.declared.dir.Dir.TheVariants.{Root}
+use Rattle.jop_base.specs.declared.lock_name.LockKind.{LockKind}
+use Rattle.jop_base.specs.declared.path.Path.TheVariants.{Info as InfoFile, Lock as LockFile, OldVersion}
+use Rattle.jop_target.specs.Replies.{TargetNow}
+use Rattle.jop_target.specs.Runs.{has_failed}
+use Rattle.jop_target.specs.declared.call.Call.{Call}
+use Rattle.jop_target.specs.declared.call.Call.TheVariants.{Delete, Get, List as ListDir}
+use Rattle.jop_target.specs.declared.event.Event.{Event}
+use Rattle.jop_target.specs.declared.event.Event.TheVariants.{Began, Called, Ended}
+use Rattle.jop_target.specs.declared.reply.Listing.{Listing}
+use Rattle.jop_target.specs.declared.reply.Reply.{Reply}
+use Rattle.jop_target.specs.declared.reply.Reply.TheVariants.{Absent, Listed}
+use Rattle.lease.specs.Locks.{own_name}
+use Rattle.lease.specs.Outcomes.{HasMissed, IsBlocked}
+use Rattle.lease.specs.Phase.{Held, Phase}
+use Rattle.lease.specs.Standing.{StandsIn}
+use Rattle.lease.specs.declared.error.Seen.{Seen}
+use Rattle.lease.specs.declared.lock.Lock.{Lock}
+use Rattle.licences.specs.Trails.{session_calls}
+use Rattle.licences.specs.Views.{Heard, synced_ids}
+use Rattle.local_commands.specs.declared.local_command.LocalCommand.{LocalCommand}
+use Rattle.local_commands.specs.declared.local_err.LocalErr.{LocalErr}
+use Rattle.local_commands.specs.declared.local_err.LocalErr.TheVariants.{NotFound, Sealed, TimeEnd, TooLarge, NoConflict, NotEmpty, NotText}
+use Rattle.local_store.specs.Keepers.{IsOfKept, KeeperNow}
+use Rattle.local_store.specs.declared.tables.Tables.{Tables}
+use Rattle.opening.specs.Opening.{IsOldVersion}
+use Rattle.sync_info.specs.declared.info.Info.{Info}
+use Rattle.sync_session.specs.Keys.{IsActiveKey, needs_key}
+use Rattle.target_upgrade.specs.Reading.{Gives, IsBadReply}
+use Rattle.target_upgrade.specs.Steps.{SUPPORTED}
+use Rattle.jop_cli.specs.Commands.{used}
+use Rattle.jop_cli.specs.Commands.Local.{RunsLocally}
+use Rattle.jop_cli.specs.Commands.Sessions.{IsClientOf, IsUncalled, Session}
+use Rattle.jop_cli.specs.Commands.Tidy.{IsFaulty}
+use Rattle.jop_cli.specs.Outside.{Outside, Ran}
+use Rattle.jop_cli.specs.Statuses.{is_refusal}
+use Rattle.jop_cli.specs.declared.command.Verb.{Verb}
+use Rattle.jop_cli.specs.declared.command.Verb.TheVariants as verbs
+use Rattle.jop_cli.specs.declared.status.Status.{Status}
+use Rattle.jop_cli.specs.declared.status.Status.TheVariants as statuses
+
+-- ---- calls, input, and commands on the tables
+
+-- a call was answered `Failed`, and the target's count rose
+abbrev pub HasFailed : TargetNow → List Event → TargetNow → Type 0
+HasFailed before trail after = (has_failed trail ≡ true) × HasRisen before.faults after.faults
+
+-- the command reads the input, which is past its limit; the number is the limit and one
+pub record IsTooLong (verb : Option Verb) (before : SourceNow) (number : ℕ) (after : SourceNow)
+    : Type 0 where
+  pub limit : ℕ
+  pub uses : (used verb).input ≡ Some limit
+  pub past : WasTooLarge limit before after
+  pub is : number ≡ limit + 1
+
+-- the command is one on the tables, and is refused so
+pub record IsRefusedLocally (verb : Option Verb) (before : Outside) (ran : Ran) (refusal : LocalErr)
+    (after : Outside) : Type 0 where
+  pub command : LocalCommand
+  pub is : verb ≡ Some (verbs.Local command)
+  pub runs : RunsLocally command before ran (Err refusal) after
+
+-- ---- the end of a session
+
+-- The trail ends with one session, whole, of the client that the command has; its calls came to this
+-- before it ended.
+pub record HasEnded (verb : Option Verb) (keeper : KeeperNow) (trail : List Event)
+    (Came : LockKind → List ℕ → List Event → Type 0) : Type 0 where
+  pub session : Session
+  pub uses : (used verb).session ≡ Some session
+  pub client : List ℕ
+  pub of : IsClientOf session.client keeper client
+  pub before : List Event
+  pub changes : IsUncalled before
+  pub calls : List Event
+  pub whole : trail ≡ before ++ Began ∷ (calls ++ Ended ∷ [])
+  pub came : Came session.kind client (before ++ Began ∷ calls)
+
+-- the last answer told of a lock in its way
+abbrev pub WasBlocked : Option Verb → KeeperNow → List Event → Lock → ℕ → Type 0
+WasBlocked verb keeper trail lock now =
+    HasEnded verb keeper trail (λ kind client events. IsBlocked kind client events lock now)
+
+-- its lock wasn't shown in time, or was renewed too late
+abbrev pub HasLost : Option Verb → KeeperNow → List Event → Seen → Type 0
+HasLost verb keeper trail seen =
+    HasEnded verb keeper trail
+    (λ kind client events. (at : Phase) × HasMissed kind client at events seen)
+
+-- ---- what a session was told under its lease
+
+-- this is the call that was heard last, with its reply
+abbrev pub IsLast : Call → Reply → List Heard → Type 0
+IsLast call reply calls =
+    (earlier : List Heard) × (calls ≡ record { call = call; reply = Some reply } ∷ earlier)
+
+-- an info of this version was got last
+pub record HasGot (version : ℕ) (calls : List Heard) : Type 0 where
+  pub info : Info
+  pub reply : Reply
+  pub last : IsLast (Get InfoFile) reply calls
+  pub gives : Gives info reply
+  pub version_is : info.version ≡ version
+
+-- there was no info, and the old version's file, which was got last, told this version
+pub record HasGotOld (version : ℕ) (calls : List Heard) : Type 0 where
+  pub now : ℕ
+  pub reply : Reply
+  pub earlier : List Heard
+  pub last : calls ≡ record { call = Get OldVersion; reply = Some reply }
+      ∷ record { call = Get InfoFile; reply = Some (Absent now) } ∷ earlier
+  pub tells : IsOldVersion version reply
+
+-- the target was found to have this version
+abbrev pub HasFound : ℕ → List Heard → Type 0
+HasFound version calls = HasGot version calls ⊎ HasGotOld version calls
+
+-- an `info.json` that is too large or holds no info was got last
+abbrev pub HasGotBad : List Heard → Type 0
+HasGotBad calls = (reply : Reply) × IsLast (Get InfoFile) reply calls × IsBadReply reply
+
+-- The root was listed last, and shows no item, while the tables have a base of so many. They are those
+-- that are kept, if that is told.
+pub record HasListedNone (keeper : KeeperNow) (count : ℕ) (calls : List Heard) : Type 0 where
+  pub listing : Listing
+  pub last : IsLast (ListDir Root) (Listed listing) calls
+  pub tables : Tables
+  pub told : IsOfKept keeper.kept tables
+  pub rows : fail_safe listing (synced_ids tables) ≡ Some count
+
+-- Something waits that is to be sealed with this key, which isn't known. The tables are those that are
+-- kept, if that is told.
+pub record LacksKey (keeper : KeeperNow) (key : Option (List ℕ)) : Type 0 where
+  pub tables : Tables
+  pub told : IsOfKept keeper.kept tables
+  pub needs : needs_key tables ≡ true
+  pub active : IsActiveKey tables.info.active.value key
+
+-- It held its lease, and its calls but those about locks, the last one first, had come to this; then
+-- its lock was deleted, which is the last call.
+pub record HasLeft (Had : List Heard → Type 0) (kind : LockKind) (client : List ℕ)
+    (trail : List Event) : Type 0 where
+  pub before : List Event
+  pub stamp : ℕ
+  pub held : StandsIn client before (Held kind stamp)
+  pub had : Had (session_calls before)
+  pub reply : Reply
+  pub ends : trail ≡ before ++ Called (Delete (LockFile (own_name kind client))) reply ∷ []
+
+-- the session left its lease once its calls had come to this
+abbrev pub HasLeftBehind : Option Verb → KeeperNow → List Event → (List Heard → Type 0) → Type 0
+HasLeftBehind verb keeper trail Had = HasEnded verb keeper trail (HasLeft Had)
+
+-- the target was found to have this version, which is older than 3
+abbrev pub HasReadOlder : Option Verb → KeeperNow → List Event → ℕ → Type 0
+HasReadOlder verb keeper trail version =
+    (version < SUPPORTED) × HasLeftBehind verb keeper trail (HasFound version)
+
+-- or newer than 3
+abbrev pub HasReadNewer : Option Verb → KeeperNow → List Event → ℕ → Type 0
+HasReadNewer verb keeper trail version =
+    (SUPPORTED < version) × HasLeftBehind verb keeper trail (HasFound version)
+
+-- ---- each status
+
+-- a row for each status: its cause
+abbrev pub IsExplained : Option Verb → Outside → Ran → Status → Outside → Type 0
+IsExplained verb before ran statuses.Ok after = Unit {0}
+IsExplained verb before ran statuses.Usage after = verb ≡ None
+IsExplained verb before ran (statuses.Busy lock now) after =
+    WasBlocked verb after.keeper ran.trail lock now
+IsExplained verb before ran (statuses.LeaseLost seen) after =
+    HasLost verb after.keeper ran.trail seen
+IsExplained verb before ran (statuses.TargetOlder version) after =
+    HasReadOlder verb after.keeper ran.trail version
+IsExplained verb before ran (statuses.TargetNewer version) after =
+    HasReadNewer verb after.keeper ran.trail version
+IsExplained verb before ran statuses.BadInfo after =
+    HasLeftBehind verb after.keeper ran.trail HasGotBad
+IsExplained verb before ran (statuses.FailSafe count) after =
+    HasLeftBehind verb after.keeper ran.trail (HasListedNone after.keeper count)
+IsExplained verb before ran statuses.TargetFault after =
+    HasFailed before.target ran.trail after.target
+IsExplained verb before ran statuses.KeeperFault after =
+    HasRisen before.keeper.faults after.keeper.faults
+IsExplained verb before ran statuses.SourceFault after =
+    HasRisen before.input.faults after.input.faults
+IsExplained verb before ran statuses.SinkFault after = HasRisen before.out.faults after.out.faults
+IsExplained verb before ran statuses.ClockFault after =
+    HasRisen before.clock.faults after.clock.faults
+IsExplained verb before ran statuses.EntropyFault after =
+    HasRisen before.entropy.faults after.entropy.faults
+IsExplained verb before ran (statuses.NotFound id) after =
+    IsRefusedLocally verb before ran (NotFound id) after
+IsExplained verb before ran (statuses.Sealed id) after =
+    IsRefusedLocally verb before ran (Sealed id) after
+IsExplained verb before ran (statuses.TimeEnd id) after =
+    IsRefusedLocally verb before ran (TimeEnd id) after
+IsExplained verb before ran (statuses.TooLarge number) after =
+    IsTooLong verb before.input number after.input
+    ⊎ IsRefusedLocally verb before ran (TooLarge number) after
+IsExplained verb before ran (statuses.NoKey key) after =
+    HasLeftBehind verb after.keeper ran.trail (λ calls. LacksKey after.keeper key)
+IsExplained verb before ran (statuses.BadItem bad) after =
+    (verb ≡ Some verbs.Tidy) × IsFaulty before.input after.input bad
+IsExplained verb before ran statuses.NoMemory after = Unit {0}
+IsExplained verb before ran (statuses.NoConflict number) after =
+    IsRefusedLocally verb before ran (NoConflict number) after
+IsExplained verb before ran (statuses.NotEmpty id) after =
+    IsRefusedLocally verb before ran (NotEmpty id) after
+IsExplained verb before ran statuses.NotText after =
+    IsRefusedLocally verb before ran NotText after
+
+-- no refusal has its cause
+abbrev pub HasNoCause : Option Verb → Outside → Ran → Outside → Type 0
+HasNoCause verb before ran after =
+    (status : Status) → is_refusal status ≡ true → ¬ IsExplained verb before ran status after

@@ -1,0 +1,129 @@
+ghost use Rattle.std.specs.Prelude.{◌≡◌, ◌≤◌, [], IfOk, None};
+ghost use Rattle.site.specs.Owning.{NamesClient, Owns, own};
+ghost use Rattle.jop_cli.specs.Commands.Sync.{SyncsBy, sync_of, sync_words};
+ghost use Rattle.jop_cli.specs.Words.{target_of};
+
+use crate::command::Verb;
+use crate::words::read_target;
+use conflicts::SyncReport;
+use jop_base::{ClientId, Entropy, Text};
+use jop_target::{Diary, Target};
+use local_store::{Change, Changes, Keeper};
+use site::{OwnErr, commit, draw_id};
+use std::alloc::{AllocError, Global};
+use sync_session::{SyncErr, sync_on};
+
+/// Why a sync didn't go well.
+#[derive(Clone, Copy, Debug, PartialEq, Eq)]
+pub(crate) enum SyncRefusal {
+    /// There is no client's id.
+    Own(OwnErr),
+    Session(SyncErr),
+}
+
+impl From<OwnErr> for SyncRefusal {
+    ghost use Rattle.std.specs.Prelude.{◌≡◌};
+    ghost use Rattle.jop_cli.specs.declared.command.sync.SyncRefusal.TheVariants.{Own};
+
+    ghost from_gives = { λ o e. e ≡ Own o };
+
+    fn from(error: OwnErr) -> SyncRefusal {
+        SyncRefusal::Own(error)
+    }
+}
+
+impl From<SyncErr> for SyncRefusal {
+    ghost use Rattle.std.specs.Prelude.{◌≡◌};
+    ghost use Rattle.jop_cli.specs.declared.command.sync.SyncRefusal.TheVariants.{Session};
+
+    ghost from_gives = { λ s e. e ≡ Session s };
+
+    fn from(error: SyncErr) -> SyncRefusal {
+        SyncRefusal::Session(error)
+    }
+}
+
+/// A target.
+pub(crate) fn read(alloc: Global, words: &[Text]) -> Result<Option<Verb>, AllocError>
+    ensures { IfOk result (λ verb. verb ≡ sync_words words.now) }
+{
+    match words {
+        [target] => read_one(alloc, target),
+        _ => Ok(None),
+    }
+}
+
+fn read_one(alloc: Global, target: &Text) -> Result<Option<Verb>, AllocError>
+    ensures { IfOk result (λ verb. verb ≡ sync_of (target_of target.now)) }
+{
+    match read_target(alloc, target)? {
+        Some(target) => Ok(Some(Verb::Sync { target })),
+        None => Ok(None),
+    }
+}
+
+/// The client that the tables name. Where they name none its id is drawn, and `Named` is committed.
+/// What is refused changes nothing; the keeper's count of faults doesn't fall.
+fn known_client<K: Keeper, N: Entropy>(
+    alloc: Global,
+    keeper: &mut K,
+    entropy: &mut N,
+    diary: &mut Diary,
+    made: &mut Changes,
+) -> Result<ClientId, OwnErr>
+    ensures owns { Owns
+        (own (K.state keeper.old) (N.state entropy.old) diary.old.events made.old.changes)
+        result
+        (own (K.state keeper.new) (N.state entropy.new) diary.new.events made.new.changes) }
+    ensures later { (K.state keeper.old).faults ≤ (K.state keeper.new).faults }
+{
+    match keeper.read(alloc)?.client {
+        Some(client) => Ok(client),
+        None => name_client(alloc, keeper, entropy, diary, made),
+    }
+}
+
+/// Draws the client's id, and commits it.
+fn name_client<K: Keeper, N: Entropy>(
+    alloc: Global,
+    keeper: &mut K,
+    entropy: &mut N,
+    diary: &mut Diary,
+    made: &mut Changes,
+) -> Result<ClientId, OwnErr>
+    requires unnamed { NamesClient (K.state keeper.old).kept None }
+    ensures owns { Owns
+        (own (K.state keeper.old) (N.state entropy.old) diary.old.events made.old.changes)
+        result
+        (own (K.state keeper.new) (N.state entropy.new) diary.new.events made.new.changes) }
+    ensures later { (K.state keeper.old).faults ≤ (K.state keeper.new).faults }
+{
+    let client = draw_id(entropy)?;
+    commit(alloc, keeper, diary, made, Change::Named(client))?;
+    Ok(client)
+}
+
+/// Brings the tables and the target together, in a session of the client that the tables name, and
+/// answers what was done. Where they name none, it is named before anything else is changed or called.
+pub(crate) fn sync<T: Target, K: Keeper, N: Entropy>(
+    alloc: Global,
+    keeper: &mut K,
+    target: &mut T,
+    entropy: &mut N,
+    diary: &mut Diary,
+    made: &mut Changes,
+) -> Result<SyncReport, SyncRefusal>
+    ensures { SyncsBy
+        (record {
+          own = own (K.state keeper.old) (N.state entropy.old) diary.old.events made.old.changes;
+          target = T.state target.old;
+        })
+        result
+        (record {
+          own = own (K.state keeper.new) (N.state entropy.new) diary.new.events made.new.changes;
+          target = T.state target.new;
+        }) }
+{
+    let client = known_client(alloc, keeper, entropy, diary, made)?;
+    Ok(sync_on(alloc, target, keeper, &client, diary, made)?)
+}
