@@ -35,31 +35,16 @@ fn write_line<E: Sink>(err: &mut E, status: &Status) -> Result<(), Failed>
             ],
         ),
         Status::LeaseLost(_) => write_word(err, "lease lost"),
-        Status::TargetOlder(version) => write_pieces(
-            err,
-            &[
-                Piece::Word("target version "),
-                Piece::Number(*version),
-                Piece::Word(" is older than 3\n"),
-            ],
-        ),
-        Status::TargetNewer(version) => write_pieces(
-            err,
-            &[
-                Piece::Word("target version "),
-                Piece::Number(*version),
-                Piece::Word(" is newer than 3\n"),
-            ],
-        ),
+        Status::TargetOlder(version) => {
+            write_within(err, "target version ", *version, " is older than 3")
+        }
+        Status::TargetNewer(version) => {
+            write_within(err, "target version ", *version, " is newer than 3")
+        }
         Status::BadInfo => write_word(err, "info.json is not readable"),
-        Status::FailSafe(count) => write_pieces(
-            err,
-            &[
-                Piece::Word("no items on the target, "),
-                Piece::Number(*count),
-                Piece::Word(" kept here\n"),
-            ],
-        ),
+        Status::FailSafe(count) => {
+            write_within(err, "no items on the target, ", *count, " kept here")
+        }
         Status::TargetFault => write_word(err, "target fault"),
         Status::KeeperFault => write_word(err, "keeper fault"),
         Status::SourceFault => write_word(err, "input fault"),
@@ -85,6 +70,27 @@ fn write_id<E: Sink>(err: &mut E, word: &str, id: Id) -> Result<(), Failed>
     ensures { WritesAll (E.state err.old) (line_of (word.now ++ id)) result (E.state err.new) }
 {
     write_pieces(err, &[Piece::Word(word), Piece::Id(id), Piece::Word("\n")])
+}
+
+/// Writes a number between two words.
+fn write_within<'w, E: Sink>(
+    err: &mut E,
+    word: &'w str,
+    number: u64,
+    behind: &'w str,
+) -> Result<(), Failed>
+    ensures { let text = word.now ++ (decimal number ++ behind.now) in
+        WritesAll (E.state err.old) (line_of text) result (E.state err.new) }
+{
+    write_pieces(
+        err,
+        &[
+            Piece::Word(word),
+            Piece::Number(number),
+            Piece::Word(behind),
+            Piece::Word("\n"),
+        ],
+    )
 }
 
 /// Writes a line that is the same each time.
