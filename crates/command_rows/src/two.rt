@@ -95,7 +95,10 @@ fn two_clients_have_a_day(rt: HostRuntime) -> Result<(), Fail> {
     let mut two = Two::new(alloc)?;
     assert_eq!(rt; two.first_surprise(alloc, DAY)?, None);
     let kept = two.two.keeper.tables().conflicts.as_slice();
-    assert_eq!(rt; kept.first().ok_or("a conflict note")?.item.body.as_str(), "three");
+    assert_eq!(rt;
+        kept.first().ok_or("a conflict note")?.item.body.as_str(),
+        "three"
+    );
     two.target = MemTarget::new(alloc, 0, 1);
     assert_eq!(rt; two.first_surprise(alloc, REFUSALS)?, None);
     Ok(())
@@ -106,11 +109,7 @@ fn a_file_that_is_no_items_is_named(rt: HostRuntime) -> Result<(), Fail> {
     let alloc = rt.alloc();
     let mut two = Two::new(alloc)?;
     let id = Id::read(b"aaaaaaaaaaaaaaaaaaaaaaaaaaaaaaaa").ok_or("an id")?;
-    two.target.place(
-        Path::Item(id),
-        Bytes::from_vec(b"hello".to_vec(alloc)?),
-        3,
-    )?;
+    two.target.place(Path::Item(id), Bytes::from_vec(b"hello".to_vec(alloc)?), 3)?;
     assert_eq!(rt; two.first_surprise(alloc, BAD)?, None);
     Ok(())
 }
