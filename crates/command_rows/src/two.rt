@@ -1,5 +1,5 @@
 use crate::client::Client;
-use crate::due::{has_come_out, read_due};
+use crate::due::comes_out;
 use jop_base::{Bytes, Id, MemEntropy, Path};
 use jop_target::MemTarget;
 use local_store::MemKeeper;
@@ -67,14 +67,11 @@ impl Two {
     /// Whether the command comes out as it is to.
     fn comes_out(&mut self, alloc: Global, line: &str) -> Result<bool, AllocError> {
         let (number, rest) = line.split_once('|').unwrap_or(("", ""));
-        let due = read_due(rest);
-        let client = if number == "1" {
-            &mut self.one
+        if number == "1" {
+            comes_out(&mut self.one, alloc, &mut self.target, rest)
         } else {
-            &mut self.two
-        };
-        let exit = client.play_on(alloc, &mut self.target, due.words, due.input.as_bytes())?;
-        Ok(has_come_out(client, exit, &due))
+            comes_out(&mut self.two, alloc, &mut self.target, rest)
+        }
     }
 
     /// The first of these lines that comes out otherwise, counted from 0.
