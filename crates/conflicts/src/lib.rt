@@ -1,5 +1,5 @@
-//! What becomes of a client's rows where they meet another client's work, what a session has done in numbers, and why one
-//! of its steps gives nothing.
+//! What becomes of a client's rows where they meet another client's work, what a session has done
+//! in numbers, and why one of its steps gives nothing.
 //!
 //! Begin with [`must_copy`] and [`conflict_change`]; `specs/Rules.antt` says what they answer, over the words of the
 //! licences. It stands on `local_store`.

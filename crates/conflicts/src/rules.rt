@@ -35,8 +35,9 @@ fn is_same_note(item: &Item, remote: &Content) -> bool
     }
 }
 
-/// Whether the row's text is lost if the remote content takes its place: it is a readable note, and the remote is sealed,
-/// or isn't a note, or differs in title or body. An absent title equals an empty one.
+/// Whether the row's text is lost if the remote content takes its place: it is a readable note, and
+/// the remote is sealed, or isn't a note, or differs in title or body. An absent title equals an
+/// empty one.
 pub fn must_copy(row: &Content, remote: &Content) -> bool
     ensures { result ≡ must_copy row.now remote.now }
 {
@@ -65,8 +66,8 @@ fn copies_for(row: &Content, remote: &Option<(Bytes, Content)>) -> bool
     }
 }
 
-/// The change by which a row gives way to what its file holds, or to nothing. Its own text becomes a conflict note if it
-/// must be copied, or, if there is no file, if it is a readable note.
+/// The change by which a row gives way to what its file holds, or to nothing. Its own text becomes
+/// a conflict note if it must be copied, or, if there is no file, if it is a readable note.
 pub fn conflict_change(row: &Row, remote: Option<(Bytes, Content)>) -> Change
     ensures { result ≡ conflict_change row.now remote }
 {

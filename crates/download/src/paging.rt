@@ -151,9 +151,10 @@ fn apply<S: Desk>(
     Ok(())
 }
 
-/// Lists the root, reads what other clients have written since this one listed it last, and lets go what they have
-/// deleted. If the root shows no item while some rows have a base, all would be taken for deleted, where more likely the
-/// target was emptied or is another one: then nothing is done.
+/// Lists the root, reads what other clients have written since this one listed it last, and lets go
+/// what they have deleted. If the root shows no item while some rows have a base, all would be
+/// taken for deleted, where more likely the target was emptied or is another one: then nothing is
+/// done.
 pub fn apply_page<S: Desk>(
     alloc: Global,
     site: &mut S,

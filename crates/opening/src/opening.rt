@@ -12,9 +12,9 @@ use desk::Desk;
 use lease::Lease;
 use std::alloc::Global;
 
-/// Opens a session under a sync lease: reads the target's info, which is of the supported version, and makes one of it and
-/// the client's own, on the target and here. If there is no `info.json`, the version is 1 if `.sync/version.txt` is there
-/// in any form, and else 0.
+/// Opens a session under a sync lease: reads the target's info, which is of the supported version,
+/// and makes one of it and the client's own, on the target and here. If there is no `info.json`,
+/// the version is 1 if `.sync/version.txt` is there in any form, and else 0.
 pub fn open<S: Desk>(
     alloc: Global,
     site: &mut S,

@@ -24,9 +24,10 @@ use Rattle.session_steps.specs.Saving.{Told, blobs_got, kept_after, tale_of}
 use Rattle.session_steps.specs.Steps.{IsStep, works_by}
 use Rattle.session_steps.specs.Work.{Fits, IsReady, WorkNow, view_of}
 
--- A session has gone on by these deeds: calls and changes, each with its licence. Its work is of this sort, and else
--- only its lease calls. The changes are kept, if the keeper tells, and the bytes of resources that were saved: those that
--- were got, in that order, but for the last ones, which are still owed.
+-- A session has gone on by these deeds: calls and changes, each with its licence. Its work is of
+-- this sort, and else only its lease calls. The changes are kept, if the keeper tells, and the
+-- bytes of resources that were saved: those that were got, in that order, but for the last ones,
+-- which are still owed.
 pub record Went (sort : Call → Bool) (old new : WorkNow) : Type 0 where
   pub deeds : List Deed
   pub saves : List Blob

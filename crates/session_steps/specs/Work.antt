@@ -7,8 +7,8 @@ use Rattle.lease.specs.declared.lease.Lease.{Lease}
 use Rattle.licences.specs.Trails.{session_calls}
 use Rattle.licences.specs.Views.{Shown, View, Working}
 
--- the client at its desk, the lease under which it works, what it has done so far, and what its session was shown, if that
--- matters
+-- the client at its desk, the lease under which it works, what it has done so far, and what its
+-- session was shown, if that matters
 pub record WorkNow : Type 0 where
   pub desk : DeskNow
   pub lease : Lease

@@ -17,8 +17,8 @@ use jop_target::Call;
 use lease::{Lease, LeaseErr, call_held};
 use std::alloc::Global;
 
-/// Makes a call of a part of a session, under its lease, which is renewed before it if it is due. The call has its licence,
-/// whatever the session was shown.
+/// Makes a call of a part of a session, under its lease, which is renewed before it if it is due.
+/// The call has its licence, whatever the session was shown.
 pub fn ask<S: Desk>(
     alloc: Global,
     site: &mut S,

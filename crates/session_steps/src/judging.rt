@@ -21,7 +21,8 @@ fn note(report: &mut SyncReport, id: &Id, finding: &Finding) -> Result<(), Alloc
     }
 }
 
-/// How the file of this id stands to a row with this base, by the reply to a get of it. If it can't be read, that is noted.
+/// How the file of this id stands to a row with this base, by the reply to a get of it. If it can't
+/// be read, that is noted.
 pub fn judge(
     alloc: Global,
     report: &mut SyncReport,

@@ -1,5 +1,5 @@
-//! The steps of a session's parts: a call under the lease, and a change; how a file that was got stands to its row; and how
-//! parts are put together.
+//! The steps of a session's parts: a call under the lease, and a change; how a file that was got
+//! stands to its row; and how parts are put together.
 //!
 //! `specs/Doing.antt` says what a part leaves by each of its answers, and `specs/Parts.antt` how a session is told as a
 //! sentence. Begin with [`ask`] and [`make`].

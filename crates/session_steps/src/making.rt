@@ -57,8 +57,8 @@ pub fn make_shown<S: Desk>(
     }
 }
 
-/// Makes a change of a part of a session, and counts it. The change has its licence, whatever the session was shown, and
-/// isn't its last one.
+/// Makes a change of a part of a session, and counts it. The change has its licence, whatever the
+/// session was shown, and isn't its last one.
 pub fn make<S: Desk>(
     alloc: Global,
     site: &mut S,

@@ -104,7 +104,8 @@ pub record HasBegunSync (client : List ℕ) (trail : List Event) : Type 0 where
 abbrev pub begun_view : Tables → View
 begun_view t = record { tables = t; calls = []; shown = None; stage = Working }
 
--- a session has gone on by work of a sync, by changes and by its lease's calls, and has done under its lease what is allowed
+-- a session has gone on by work of a sync, by changes and by its lease's calls, and has done under
+-- its lease what is allowed
 pub record SyncGoesOn (client : List ℕ) (old new : LineNow) : Type 0 where
   pub goes : GoesOn (IsStep is_sync client) client old new
   pub work : (course_of client new.trail).lawful ≡ true

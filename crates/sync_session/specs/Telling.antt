@@ -7,9 +7,9 @@ use Rattle.licences.specs.Views.{View}
 use Rattle.local_store.specs.declared.blob.Blob.{Blob}
 use Rattle.session_steps.specs.Saving.{kept_after}
 
--- A client has gone on by these deeds, which its trail and its changes tell. Each call and each change has its licence, by
--- what one saw of the client before them, and so has each put of the info. The changes are kept, if the keeper tells, and
--- the bytes of resources that were saved.
+-- A client has gone on by these deeds, which its trail and its changes tell. Each call and each
+-- change has its licence, by what one saw of the client before them, and so has each put of the
+-- info. The changes are kept, if the keeper tells, and the bytes of resources that were saved.
 pub record Tells (v : View) (old new : DeskNow) : Type 0 where
   pub deeds : List Deed
   pub saves : List Blob

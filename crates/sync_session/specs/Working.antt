@@ -31,8 +31,8 @@ is_exchange call = is_upload call || (is_deletion call || is_download call)
 abbrev pub is_sync : Call → Bool
 is_sync call = is_opening call || is_exchange call
 
--- What was saved here is uploaded, and what was removed here is deleted. The bytes of resources are those that are kept,
--- if the keeper tells.
+-- What was saved here is uploaded, and what was removed here is deleted. The bytes of resources are
+-- those that are kept, if the keeper tells.
 abbrev pub Sends : Option Kept → Part
 Sends kept = Then (Uploads kept) Deletes
 

@@ -39,13 +39,15 @@ use lease::{Lease, LeaseErr, acquire, blocked, held_apart};
 use local_store::{Changes, Keeper, Tables};
 use std::alloc::Global;
 
-/// A session that brings a client's tables and a target together. It takes a sync lock for the client, reads the info of
-/// the target and merges it with the client's own, uploads what was saved here and deletes what was removed here, reads
-/// what others have done, and releases the lock. It answers what was done.
+/// A session that brings a client's tables and a target together. It takes a sync lock for the
+/// client, reads the info of the target and merges it with the client's own, uploads what was saved
+/// here and deletes what was removed here, reads what others have done, and releases the lock. It
+/// answers what was done.
 ///
-/// `Busy` and `LeaseLost` if there is no lease, or none any more; `TargetOlder`, `TargetNewer` and `BadInfo` by what was
-/// read of the info; `NoKey` if items wait that are to be sealed; `FailSafe` if the target looks as if it were emptied;
-/// `TargetFault` and `KeeperFault` if a call of theirs failed.
+/// `Busy` and `LeaseLost` if there is no lease, or none any more; `TargetOlder`, `TargetNewer` and
+/// `BadInfo` by what was read of the info; `NoKey` if items wait that are to be sealed; `FailSafe`
+/// if the target looks as if it were emptied; `TargetFault` and `KeeperFault` if a call of theirs
+/// failed.
 pub fn sync_on<T: Target, K: Keeper>(
     alloc: Global,
     target: &mut T,
@@ -71,8 +73,8 @@ pub fn sync_on<T: Target, K: Keeper>(
     ensures apart { (added : List Event) →
         diary.new.events ≡ diary.old.events ++ added → KeepsApart client.now added }
 
-    // If the other clients do under their leases what is allowed, each write of a synchroniser and each first write of an
-    // upgrade also lands on the version that its session has read.
+    // If the other clients do under their leases what is allowed, each write of a synchroniser and
+    // each first write of an upgrade also lands on the version that its session has read.
     ensures exclusive { (added : List Event) →
         diary.new.events ≡ diary.old.events ++ added → KeepsExclusive client.now added }
 
@@ -88,8 +90,9 @@ pub fn sync_on<T: Target, K: Keeper>(
         ObeysData (at_rest k.tables) (deeds_of added changes)
         × MergesInfo (at_rest k.tables) (deeds_of added changes) }
 
-    // Then no saved note is lost, in whatever history this is the client's last run, if no other upload of the note falls
-    // between a check and its write, and the other clients have their licences too.
+    // Then no saved note is lost, in whatever history this is the client's last run, if no other
+    // upload of the note falls between a check and its write, and the other clients have their
+    // licences too.
     ensures kept { (k : Kept) (added : List Event) (changes : List Change) →
         (K.state keeper.old).kept ≡ Some k → diary.new.events ≡ diary.old.events ++ added →
         made.new.changes ≡ made.old.changes ++ changes →

@@ -1,8 +1,8 @@
-//! The first two parts of a session: items that were saved here are uploaded, and the files of those that were removed here
-//! are deleted.
+//! The first two parts of a session: items that were saved here are uploaded, and the files of
+//! those that were removed here are deleted.
 //!
-//! Begin with [`upload_all`] and [`delete_all`]; `specs/Uploading.antt` and `specs/Deleting.antt` tell them as sentences,
-//! and `specs/Settled.antt` says what an upload leaves.
+//! Begin with [`upload_all`] and [`delete_all`]; `specs/Uploading.antt` and `specs/Deleting.antt`
+//! tell them as sentences, and `specs/Settled.antt` says what an upload leaves.
 #![tactic(auto)]
 
 mod checking;
