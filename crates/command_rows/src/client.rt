@@ -51,43 +51,26 @@ impl<K: Keeper> Client<K> {
         })
     }
 
-    /// Runs the program once, on a new target in memory. The words stand on one line.
+    /// Runs the program once, on a target in memory. The words stand on one line.
     pub(crate) fn play(
         &mut self,
         alloc: Global,
         line: &str,
         input: &[u8],
     ) -> Result<u8, AllocError> {
-        self.play_on(alloc, &mut MemTarget::new(alloc, 0, 1), line, input)
-    }
-
-    /// Runs the program once, on this target.
-    pub(crate) fn play_on(
-        &mut self,
-        alloc: Global,
-        target: &mut MemTarget,
-        line: &str,
-        input: &[u8],
-    ) -> Result<u8, AllocError> {
         let words = words_of(alloc, line)?;
         let mut input = source_of(alloc, input)?;
-        Ok(self.obey(alloc, target, &words, &mut input).exit())
+        Ok(self.obey(alloc, &words, &mut input).exit())
     }
 
-    fn obey(
-        &mut self,
-        alloc: Global,
-        target: &mut MemTarget,
-        words: &Words,
-        input: &mut MemSource,
-    ) -> Status {
+    fn obey(&mut self, alloc: Global, words: &Words, input: &mut MemSource) -> Status {
         self.out = MemSink::new(alloc);
         self.err = MemSink::new(alloc);
         run(
             alloc,
             words,
             &mut self.keeper,
-            target,
+            &mut MemTarget::new(alloc, 0, 1),
             input,
             &mut self.out,
             &mut self.err,

@@ -1,5 +1,4 @@
 use crate::client::Client;
-use crate::due::{has_come_out, read_due};
 use local_store::{Keeper, MemKeeper};
 use record_keeper::{MemRecords, RecordKeeper};
 use std::alloc::{AllocError, Global};
@@ -25,6 +24,38 @@ rm 101112131415161718191a1b1c1d1e1f||0|
 cat 101112131415161718191a1b1c1d1e1f||15|not found 101112131415161718191a1b1c1d1e1f~
 ls 000102030405060708090a0b0c0d0e0f||0|
 ";
+
+/// A command, and what is to become of it.
+#[derive(Clone, Copy)]
+struct Due<'a> {
+    words: &'a str,
+    input: &'a str,
+    exit: &'a str,
+    text: &'a str,
+}
+
+fn read_due(line: &str) -> Due<'_> {
+    let mut parts = line.split('|');
+    Due {
+        words: parts.next().unwrap_or(""),
+        input: parts.next().unwrap_or(""),
+        exit: parts.next().unwrap_or(""),
+        text: parts.next().unwrap_or(""),
+    }
+}
+
+/// Whether this was written, with `~` for each line feed.
+fn is_written(written: &[u8], due: &str) -> bool {
+    written.len() == due.len()
+        && written.iter().zip(due.as_bytes()).all(|(byte, other)| byte == other
+            || (*byte == b'\n' && *other == b'~'))
+}
+
+/// Whether it ended so, and wrote that.
+fn has_come_out<K: Keeper>(client: &Client<K>, exit: u8, due: &Due) -> bool {
+    let written = if exit == 0 { &client.out } else { &client.err };
+    due.exit.parse() == Ok(exit) && is_written(written.written.as_slice(), due.text)
+}
 
 /// The first line of the day that comes out otherwise, counted from 0.
 fn first_surprise<K: Keeper>(
