@@ -130,7 +130,7 @@ checked target client before late out trail result status adds line obeys apart 
         clock = refl;
         random = refl;
       };
-      licensed = λ k told tells. check_licensed client trail k.tables result adds;
+      licensed = λ k told. check_licensed client trail k.tables result adds;
     }
 
 -- a check that was added to an empty trail

@@ -10,7 +10,7 @@ mod Two
 mod Runs
 mod Sessions
 mod SyncCauses
-mod SyncLicences
+mod OwnLicences
 mod SyncSides
 mod Synced
 mod Three

@@ -208,7 +208,7 @@ acts_alone command before after trail made answer status runs spares same emits 
         clock = spares.clock;
         random = spares.random;
       };
-      licensed = λ k told tells.
+      licensed = λ k told.
           subst (λ (t : List Event). ObeysData (at_rest k.tables) (deeds_of t made)) (sym trail_is)
           (local_licensed 0 k.tables made (local_made command before after (did trail made) answer runs));
     }

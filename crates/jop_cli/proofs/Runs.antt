@@ -235,9 +235,9 @@ no_sessions : (session : Option Session) (keeper : KeeperNow) (status : Status) 
 no_sessions None keeper status = All-nil IsChange
 no_sessions (Some session) keeper status = inl (All-nil IsChange)
 
-pub none_licensed : (verb : Option Verb) (before : Outside) → HasLicences verb before (did [] [])
+pub none_licensed : (before : Outside) → HasLicences before (did [] [])
 unfolding deeds_of Each
-none_licensed verb before = λ k told tells. tt
+none_licensed before = λ k told. tt
 
 -- nothing was done, for this status
 acts_none : (verb : Option Verb) (before : Outside) (status : Status) →
@@ -250,7 +250,7 @@ acts_none verb before status answers explained = record {
   tables = keeps_nothing (used verb).bytes before.keeper;
   target = uses_none before.target;
   alone = leaves_all (used verb) before;
-  licensed = none_licensed verb before;
+  licensed = none_licensed before;
 }
 
 idle : (before : Outside) → IsIdle before (did [] []) before
@@ -305,7 +305,7 @@ acts_quiet v before after trail made status uncalled unchanged none nowhere same
       target = subst (λ (t : TargetNow). UsesTarget before.target [] t) (sym same)
           (uses_none before.target);
       alone = alone;
-      licensed = none_licensed (Some v) before;
+      licensed = none_licensed before;
     })
 
 -- a command that prints a constant
@@ -343,8 +343,8 @@ does_of verb before after ran status exact unsaved joined h = record {
   unsaved = unsaved;
   sessions = h.sessions;
   tables = h.tables;
-  notes = λ k told tells.
-      let obeys = h.licensed k told tells in
+  notes = λ k told.
+      let obeys = h.licensed k told in
       record {
         obeys = obeys;
         kept = λ client. joined client k.tables ran.trail ran.made obeys;

@@ -27,16 +27,16 @@ use Rattle.sync_session.specs.declared.sync_err.SyncErr.{SyncErr}
 use Rattle.sync_session.specs.declared.sync_err.SyncErr.TheVariants.{Busy, LeaseLost, TargetOlder, TargetNewer, BadInfo, FailSafe, NoKey, TargetFault, KeeperFault, NoMemory}
 use Rattle.local_commands.proofs.Acting.{none_kept}
 use Rattle.jop_cli.proofs.Owned.{early_own, owned, unowned}
-use Rattle.jop_cli.proofs.Runs.{explained_emit, none_licensed, uses_behind, uses_none}
+use Rattle.jop_cli.proofs.Runs.{explained_emit, uses_behind, uses_none}
 use Rattle.jop_cli.proofs.Sessions.{failed_session}
 use Rattle.jop_cli.proofs.SyncCauses.{bad_info, emptied, keyless, late_trail, newer, older}
-use Rattle.jop_cli.proofs.SyncLicences.{licensed_behind}
+use Rattle.jop_cli.proofs.OwnLicences.{licensed_behind, unowned_licensed}
 use Rattle.jop_cli.proofs.SyncSides.{added, keeps_acts, names_after}
 use Rattle.jop_cli.specs.Causes.{HasEnded, HasFound, HasGotBad, HasLeft, HasListedNone, IsExplained, LacksKey}
 use Rattle.jop_cli.specs.Commands.Sessions.{ClientNow, IsChange, IsUncalled, own_status, side}
 use Rattle.jop_cli.specs.Commands.Sync.{HasSynced, SyncsBy, outcome_of, report_text, status_of, sync_at, sync_status}
 use Rattle.jop_cli.specs.Outside.{Outside, did}
-use Rattle.jop_cli.specs.Run.{Acts, Emits, HasLicences, KeepsChanges, UsesTarget}
+use Rattle.jop_cli.specs.Run.{Acts, Emits, KeepsChanges, UsesTarget}
 use Rattle.jop_cli.specs.Statuses.{is_early}
 use Rattle.jop_cli.specs.declared.command.Verb.TheVariants.{Sync}
 use Rattle.jop_cli.specs.declared.command.sync.SyncRefusal.{SyncRefusal}
@@ -130,10 +130,7 @@ acts_unowned target before after trail made error status input clock h emits =
           (subst (λ (t : TargetNow). UsesTarget before.target [] t) (sym h.1)
           (uses_none before.target));
       alone = record { input = input; target = tt; tables = tt; clock = clock; random = tt };
-      licensed = subst (λ (t : List Event). HasLicences (Some (Sync target)) before (did t made))
-          (sym as_before.trail)
-          (subst (λ (m : List Change). HasLicences (Some (Sync target)) before (did [] m))
-          (sym as_before.made) (none_licensed (Some (Sync target)) before));
+      licensed = unowned_licensed before after trail made error h.0;
     }
 
 -- ---- why a session ended so
@@ -336,7 +333,7 @@ acts_run target before after trail made result status input clock run emits =
       tables = keeps_acts before.keeper old new known.tables more;
       target = uses;
       alone = record { input = input; target = tt; tables = tt; clock = clock; random = tt };
-      licensed = λ k told tells.
+      licensed = λ k told.
           licensed_behind run.client before.keeper before.entropy run.named trail made run.line.more
           run.line.trail run.owns (λ k changes told is. (run.licensed k changes told is).0)
           more.changes more.made k told;

@@ -17,6 +17,8 @@ use Rattle.sync_run.specs.declared.session_err.SessionErr.TheVariants.{Busy, Lea
 use Rattle.target_upgrade.specs.Answers.{IsCall}
 use Rattle.target_upgrade.specs.Runs.{LeavesUpgraded}
 use Rattle.jop_cli.proofs.Heard.{bad_left, newer_left}
+use Rattle.jop_cli.proofs.Licensed.{upgrade_licensed}
+use Rattle.jop_cli.proofs.OwnLicences.{licensed_as_named, unowned_licensed}
 use Rattle.jop_cli.proofs.Owned.{early_own, owned, unowned}
 use Rattle.jop_cli.proofs.Runs.{explained_emit, keeps_none, uses_behind, uses_none}
 use Rattle.jop_cli.proofs.Sessions.{busy_result, early_session, failed_session}
@@ -74,7 +76,7 @@ acts_unowned target before after trail made error status input clock h emits =
           (subst (λ (t : TargetNow). UsesTarget before.target [] t) (sym h.1)
           (uses_none before.target));
       alone = record { input = input; target = tt; tables = tt; clock = clock; random = tt };
-      licensed = λ k told tells. cc (tells);
+      licensed = unowned_licensed before after trail made error h.0;
     }
 
 -- ---- a session was added
@@ -236,7 +238,8 @@ acts_run target before after trail made result status input clock run emits =
           (sym run.kept) known.tables);
       target = uses;
       alone = record { input = input; target = tt; tables = tt; clock = clock; random = tt };
-      licensed = λ k told tells. cc (tells);
+      licensed = licensed_as_named run.client before.keeper before.entropy run.named trail made
+          (upgrade_licensed run.client run.named.site.trail trail result run.session) run.owns run.made;
     }
 
 -- ---- the command

@@ -174,16 +174,10 @@ Reports before status after = WritesLine before (row_of status).line after
 
 -- ---- licences
 
--- An upgrade's own calls have their own discipline: whether it deletes or puts an item is said nowhere so
--- far. So this is told of every other run.
-abbrev pub tells_licences : Option Verb → Bool
-tells_licences (Some (verbs.Upgrade target)) = false
-tells_licences verb = true
-
 -- each call and each change has its licence, from the tables of its beginning on, if these are told
-abbrev pub HasLicences : Option Verb → Outside → Ran → Type 0
-HasLicences verb before ran =
-    (k : Kept) → before.keeper.kept ≡ Some k → tells_licences verb ≡ true →
+abbrev pub HasLicences : Outside → Ran → Type 0
+HasLicences before ran =
+    (k : Kept) → before.keeper.kept ≡ Some k →
     ObeysData (at_rest k.tables) (deeds_of ran.trail ran.made)
 
 -- each call and each change has its licence, from these tables on; and no saved note is lost, whatever
@@ -203,7 +197,7 @@ pub record Acts (verb : Option Verb) (before : Outside) (ran : Ran) (status : St
   pub tables : KeepsChanges (used verb).bytes before.keeper ran.made after.keeper
   pub target : UsesTarget before.target ran.trail after.target
   pub alone : LeavesAlone (used verb) before ran after
-  pub licensed : HasLicences verb before ran
+  pub licensed : HasLicences before ran
 
 -- What a run is promised to do, whatever the outside answers.
 pub record Does (verb : Option Verb) (before : Outside) (ran : Ran) (status : Status)
@@ -228,8 +222,7 @@ pub record Does (verb : Option Verb) (before : Outside) (ran : Ran) (status : St
   pub tables : KeepsChanges (used verb).bytes before.keeper ran.made after.keeper
   -- if the tables at entry are told, each call and each change has its licence from them on, and no
   -- saved note is lost
-  pub notes : (k : Kept) → before.keeper.kept ≡ Some k → tells_licences verb ≡ true →
-      KeepsLicences k.tables ran
+  pub notes : (k : Kept) → before.keeper.kept ≡ Some k → KeepsLicences k.tables ran
   -- what is used of the outside, and what is left alone
   pub target : UsesTarget before.target ran.trail after.target
   pub alone : LeavesAlone (used verb) before ran after

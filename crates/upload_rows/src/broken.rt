@@ -1,8 +1,6 @@
-use crate::client::{OWN, Text, holds, id_of, prepared, row_of, session, target_of};
-use jop_target::MemTarget;
-use local_store::{MemKeeper, Tables};
 use std::alloc::Global;
 use std::test::Fail;
+use worked_client::{BrokenOff, Part, Place, Standing, Step, Text};
 
 const A: &str = "aaaaaaaaaaaaaaaaaaaaaaaaaaaaaaaa";
 
@@ -24,77 +22,50 @@ const OLD_C: &str = "C\n\nold\n\nid: cccccccccccccccccccccccccccccccc\ntype_: 1"
 
 const MY_C: &str = "C\n\nmine\n\nid: cccccccccccccccccccccccccccccccc\ntype_: 1";
 
-/// Three notes that are edited: the file of the second was edited too, and that of the third is gone.
-const TAKEN: [Text; 3] = [(A, OLD_A), (B, OLD_B), (C, OLD_C)];
+/// Three notes are edited.
+const STEPS: [Step; 6] = [
+    Step::Take(A, OLD_A),
+    Step::Take(B, OLD_B),
+    Step::Take(C, OLD_C),
+    Step::Save(A, MY_A),
+    Step::Save(B, MY_B),
+    Step::Save(C, MY_C),
+];
 
-const SAVED: [Text; 3] = [(A, MY_A), (B, MY_B), (C, MY_C)];
-
+/// The file of the second was edited too, and that of the third is gone.
 const FILES: [Text; 2] = [(A, OLD_A), (B, THEIR_B)];
 
-/// What a session meets.
-#[derive(Drop)]
-struct Place {
-    keeper: MemKeeper,
-    target: MemTarget,
+/// The first note is put, and the others become conflict notes.
+const SETTLED: Standing = Standing {
+    rows: &[(A, MY_A, false), (B, THEIR_B, false)],
+    copies: &[(B, MY_B), (C, MY_C)],
+};
+
+fn make_place(alloc: Global) -> Result<Place, BrokenOff> {
+    Place::new(alloc, STEPS.as_slice(), FILES.as_slice())
 }
 
-fn make_place(alloc: Global) -> Result<Place, Fail> {
-    let keeper = prepared(alloc, &TAKEN, &SAVED)?;
-    let target = target_of(alloc, &FILES)?;
-    Ok(Place { keeper, target })
-}
-
-/// Whether the row has this text, and waits no more.
-fn is_row(alloc: Global, tables: &Tables, id: &str, text: &str) -> Result<bool, Fail> {
-    match row_of(alloc, tables, id)? {
-        Some((own, waits)) => Ok(own.as_slice() == text.as_bytes() && !waits),
-        None => Ok(false),
-    }
-}
-
-/// Whether the first note was put, and the others became conflict notes.
-fn are_settled(alloc: Global, tables: &Tables) -> Result<bool, Fail> {
-    Ok(
-        tables.rows.len() == 2
-            && tables.conflicts.len() == 2
-            && is_row(alloc, tables, A, MY_A)?
-            && is_row(alloc, tables, B, THEIR_B)?,
-    )
-}
-
-impl Place {
-    fn is_settled(&self, alloc: Global) -> Result<bool, Fail> {
-        let tree = self.target.tree();
-        Ok(
-            are_settled(alloc, self.keeper.tables())?
-                && holds(tree, A, MY_A.as_bytes())?
-                && holds(tree, B, THEIR_B.as_bytes())?,
-        )
-    }
-
-    /// Whether a session breaks off, and all comes to the same once another is made.
-    fn comes_to_the_same(&mut self, alloc: Global) -> Result<bool, Fail> {
-        let own = id_of(OWN)?;
-        let broken_off = session(alloc, &own, &mut self.keeper, &mut self.target);
-        session(alloc, &own, &mut self.keeper, &mut self.target)?;
-        Ok(broken_off.is_err() && self.is_settled(alloc)?)
-    }
+/// Whether a session breaks off, and all comes to the same once another is made.
+fn comes_to_the_same(alloc: Global, place: &mut Place) -> Result<bool, BrokenOff> {
+    let once = place.breaks_off_once(alloc, Part::Upload);
+    let files = place.holds_alone(&[(A, MY_A), (B, THEIR_B)])?;
+    Ok(once && files && place.has(alloc, &SETTLED)?)
 }
 
 /// Whether a call that fails, landed or not, breaks a session off and all comes to the same. Eight calls
 /// are made in one: four for the lease, three gets and a put.
-fn is_mended(alloc: Global, nth: u64, landed: bool) -> Result<bool, Fail> {
+fn is_mended(alloc: Global, nth: u64, landed: bool) -> Result<bool, BrokenOff> {
     let mut place = make_place(alloc)?;
     place.target.fail(nth, landed)?;
-    place.comes_to_the_same(alloc)
+    comes_to_the_same(alloc, &mut place)
 }
 
-/// Whether a call of the keeper that fails breaks a session off, and all comes to the same. Six changes
-/// were made before; a session reads the tables, and makes three.
-fn is_kept(alloc: Global, nth: u64) -> Result<bool, Fail> {
+/// The same of a call of the keeper. Six changes were made before; a session reads the tables, and makes
+/// three.
+fn is_kept(alloc: Global, nth: u64) -> Result<bool, BrokenOff> {
     let mut place = make_place(alloc)?;
-    place.keeper.fail(nth)?;
-    place.comes_to_the_same(alloc)
+    place.client.keeper.fail(nth)?;
+    comes_to_the_same(alloc, &mut place)
 }
 
 #[test]

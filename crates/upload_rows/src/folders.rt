@@ -1,5 +1,5 @@
-use crate::client::{Text, target_of, uploaded};
 use std::test::Fail;
+use worked_client::{Case, Part, Standing, Step, first_other};
 
 const A: &str = "aaaaaaaaaaaaaaaaaaaaaaaaaaaaaaaa";
 
@@ -26,27 +26,49 @@ const NOTE_B: &str = concat!(
     "parent_id: ffffffffffffffffffffffffffffffff\ntype_: 1"
 );
 
-#[test]
-fn notes_leave_a_folder_that_is_gone(rt: HostRuntime) -> Result<(), Fail> {
-    let alloc = rt.alloc();
-    let taken: [Text; 3] = [(A, NOTE_A), (B, NOTE_B), (F, FOLDER)];
-    let mut target = target_of(alloc, &[(A, NOTE_A), (B, NOTE_B)])?;
-    let client = uploaded(alloc, &taken, &[(F, RENAMED)], &mut target)?;
-    assert_eq!(rt; client.keeper.tables().rows.len(), 0);
-    assert_eq!(rt; (client.report.put, client.report.conflicts), (0, 2));
-    assert_eq!(rt; client.keeper.tables().conflicts.len(), 2);
-    assert_eq!(rt; target.tree().files.len(), 3);
-    Ok(())
+/// A folder was renamed whose file is gone.
+fn cases() -> [Case; 2] {
+    [
+        Case {
+            name: "notes leave it",
+            steps: &[
+                Step::Take(A, NOTE_A),
+                Step::Take(B, NOTE_B),
+                Step::Take(F, FOLDER),
+                Step::Save(F, RENAMED),
+            ],
+            files: &[(A, NOTE_A), (B, NOTE_B)],
+            standing: Standing {
+                rows: &[],
+                copies: &[(A, NOTE_A), (B, NOTE_B)],
+            },
+            left: &[(A, NOTE_A), (B, NOTE_B)],
+            counts: [0, 0, 0, 0, 2, 0],
+        },
+        Case {
+            name: "an edited note is put before it leaves",
+            steps: &[
+                Step::Take(A, NOTE_A),
+                Step::Take(F, FOLDER),
+                Step::Save(A, EDITED_A),
+                Step::Save(F, RENAMED),
+            ],
+            files: &[(A, NOTE_A)],
+            standing: Standing {
+                rows: &[],
+                copies: &[(A, EDITED_A)],
+            },
+            left: &[(A, EDITED_A)],
+            counts: [1, 0, 0, 0, 1, 0],
+        },
+    ]
 }
 
 #[test]
-fn a_note_is_put_before_it_leaves_its_folder(rt: HostRuntime) -> Result<(), Fail> {
-    let alloc = rt.alloc();
-    let taken: [Text; 2] = [(A, NOTE_A), (F, FOLDER)];
-    let mut target = target_of(alloc, &[(A, NOTE_A)])?;
-    let saved: [Text; 2] = [(A, EDITED_A), (F, RENAMED)];
-    let client = uploaded(alloc, &taken, &saved, &mut target)?;
-    assert_eq!(rt; client.keeper.tables().rows.len(), 0);
-    assert_eq!(rt; (client.report.put, client.report.conflicts), (1, 1));
+fn notes_leave_a_folder_that_is_gone(rt: HostRuntime) -> Result<(), Fail> {
+    assert_eq!(rt;
+        first_other(rt.alloc(), Part::Upload, cases().as_slice())?,
+        ""
+    );
     Ok(())
 }

@@ -1,7 +1,5 @@
-use crate::client::{Client, Text, holds, row_of, target_of, uploaded};
-use jop_target::MemTarget;
-use std::alloc::Global;
 use std::test::Fail;
+use worked_client::{Case, Part, Standing, Step, first_other};
 
 const A: &str = "aaaaaaaaaaaaaaaaaaaaaaaaaaaaaaaa";
 
@@ -28,141 +26,141 @@ const MY_TAG: &str = "mine\n\nid: aaaaaaaaaaaaaaaaaaaaaaaaaaaaaaaa\ntype_: 5";
 
 const THEIR_TAG: &str = "theirs\n\nid: aaaaaaaaaaaaaaaaaaaaaaaaaaaaaaaa\ntype_: 5";
 
-/// An item that was saved over a file, what its file is by then, and what comes of it.
-#[derive(Clone, Copy)]
-struct Case {
-    name: &'static str,
-    base: Option<&'static str>,
-    saved: &'static str,
-    file: Option<&'static str>,
-    /// The row's text afterwards, and whether it still waits.
-    row: Option<(&'static str, bool)>,
-    put: u64,
-    conflicts: u64,
-    bad: usize,
-}
+/// The row is mine, and waits no more.
+const PUT: Standing = Standing {
+    rows: &[(A, MINE, false)],
+    copies: &[],
+};
 
-/// Another file than the client left, over which nothing is put.
-const fn yields(
-    name: &'static str,
-    texts: (&'static str, &'static str, &'static str),
-    conflicts: u64,
-) -> Case {
-    Case {
-        name,
-        base: Some(texts.0),
-        saved: texts.1,
-        file: Some(texts.2),
-        row: Some((texts.2, false)),
-        put: 0,
-        conflicts,
-        bad: 0,
-    }
-}
-
-fn cases() -> [Case; 9] {
+fn unchanged_files() -> [Case; 3] {
     [
         Case {
             name: "a new note",
-            base: None,
-            saved: MINE,
-            file: None,
-            row: Some((MINE, false)),
-            put: 1,
-            conflicts: 0,
-            bad: 0,
+            steps: &[Step::Save(A, MINE)],
+            files: &[],
+            standing: PUT,
+            left: &[(A, MINE)],
+            counts: [1, 0, 0, 0, 0, 0],
         },
         Case {
             name: "an edited note",
-            base: Some(OLD),
-            saved: MINE,
-            file: Some(OLD),
-            row: Some((MINE, false)),
-            put: 1,
-            conflicts: 0,
-            bad: 0,
+            steps: &[Step::Take(A, OLD), Step::Save(A, MINE)],
+            files: &[(A, OLD)],
+            standing: PUT,
+            left: &[(A, MINE)],
+            counts: [1, 0, 0, 0, 0, 0],
         },
         Case {
             name: "a new note whose put was never told",
-            base: None,
-            saved: MINE,
-            file: Some(MINE),
-            row: Some((MINE, false)),
-            put: 0,
-            conflicts: 0,
-            bad: 0,
+            steps: &[Step::Save(A, MINE)],
+            files: &[(A, MINE)],
+            standing: PUT,
+            left: &[(A, MINE)],
+            counts: [0, 0, 0, 0, 0, 0],
         },
-        Case {
-            name: "an edited note whose file is gone",
-            base: Some(OLD),
-            saved: MINE,
-            file: None,
-            row: None,
-            put: 0,
-            conflicts: 1,
-            bad: 0,
-        },
-        Case {
-            name: "a note whose file is no item",
-            base: None,
-            saved: MINE,
-            file: Some("hello"),
-            row: Some((MINE, true)),
-            put: 0,
-            conflicts: 0,
-            bad: 1,
-        },
-        yields("a note that was edited there too", (OLD, MINE, THEIRS), 1),
-        yields("a note that is sealed there", (OLD, MINE, SEALED), 1),
-        yields("a note that was edited alike", (OLD, MINE, ALIKE), 0),
-        yields("a tag", (OLD_TAG, MY_TAG, THEIR_TAG), 0),
     ]
 }
 
-fn texts(alloc: Global, text: Option<&'static str>) -> Result<Vec<Text>, Fail> {
-    let mut texts = Vec::new(alloc);
-    if let Some(text) = text {
-        texts.push((A, text))?;
-    }
-    Ok(texts)
+fn lost_files() -> [Case; 2] {
+    [
+        Case {
+            name: "an edited note whose file is gone",
+            steps: &[Step::Take(A, OLD), Step::Save(A, MINE)],
+            files: &[],
+            standing: Standing {
+                rows: &[],
+                copies: &[(A, MINE)],
+            },
+            left: &[],
+            counts: [0, 0, 0, 0, 1, 0],
+        },
+        Case {
+            name: "a note whose file is no item",
+            steps: &[Step::Save(A, MINE)],
+            files: &[(A, "hello")],
+            standing: Standing {
+                rows: &[(A, MINE, true)],
+                copies: &[],
+            },
+            left: &[(A, "hello")],
+            counts: [0, 0, 0, 0, 0, 1],
+        },
+    ]
 }
 
-/// Whether the client's row is this, and the file of what doesn't wait is the row's.
-fn is_as_told(
-    alloc: Global,
-    client: &Client,
-    target: &MemTarget,
-    row: Option<(&'static str, bool)>,
-) -> Result<bool, Fail> {
-    match (row_of(alloc, client.keeper.tables(), A)?, row) {
-        (Some((text, waits)), Some((own, waits_still))) => {
-            let same = text.as_slice() == own.as_bytes() && waits == waits_still;
-            Ok(same && holds(target.tree(), A, own.as_bytes())? != waits)
-        }
-        (None, None) => Ok(target.tree().files.len() == 1),
-        _ => Ok(false),
-    }
+/// Nothing is put over them.
+fn other_files() -> [Case; 4] {
+    [
+        Case {
+            name: "a note that was edited there too",
+            steps: &[Step::Take(A, OLD), Step::Save(A, MINE)],
+            files: &[(A, THEIRS)],
+            standing: Standing {
+                rows: &[(A, THEIRS, false)],
+                copies: &[(A, MINE)],
+            },
+            left: &[(A, THEIRS)],
+            counts: [0, 0, 0, 0, 1, 0],
+        },
+        Case {
+            name: "a note that is sealed there",
+            steps: &[Step::Take(A, OLD), Step::Save(A, MINE)],
+            files: &[(A, SEALED)],
+            standing: Standing {
+                rows: &[(A, SEALED, false)],
+                copies: &[(A, MINE)],
+            },
+            left: &[(A, SEALED)],
+            counts: [0, 0, 0, 0, 1, 0],
+        },
+        Case {
+            name: "a note that was edited alike",
+            steps: &[Step::Take(A, OLD), Step::Save(A, MINE)],
+            files: &[(A, ALIKE)],
+            standing: Standing {
+                rows: &[(A, ALIKE, false)],
+                copies: &[],
+            },
+            left: &[(A, ALIKE)],
+            counts: [0, 0, 0, 0, 0, 0],
+        },
+        Case {
+            name: "a tag",
+            steps: &[Step::Take(A, OLD_TAG), Step::Save(A, MY_TAG)],
+            files: &[(A, THEIR_TAG)],
+            standing: Standing {
+                rows: &[(A, THEIR_TAG, false)],
+                copies: &[],
+            },
+            left: &[(A, THEIR_TAG)],
+            counts: [0, 0, 0, 0, 0, 0],
+        },
+    ]
 }
 
 #[test]
-fn rows_that_wait_are_put_or_give_way(rt: HostRuntime) -> Result<(), Fail> {
-    let alloc = rt.alloc();
-    for case in cases() {
-        let mut target = target_of(alloc, texts(alloc, case.file)?.as_slice())?;
-        let taken = texts(alloc, case.base)?;
-        let client = uploaded(alloc, taken.as_slice(), &[(A, case.saved)], &mut target)?;
-        let told = is_as_told(alloc, &client, &target, case.row)?;
-        assert_eq!(rt; (case.name, told), (case.name, true));
-        assert_eq!(rt; (case.name, client.report.put), (case.name, case.put));
-        assert_eq!(rt;
-            (case.name, client.report.conflicts),
-            (case.name, case.conflicts)
-        );
-        assert_eq!(rt; (case.name, client.report.bad.len()), (case.name, case.bad));
-        assert_eq!(rt;
-            client.keeper.tables().conflicts.len() as u64,
-            case.conflicts
-        );
-    }
+fn rows_over_their_own_files_are_put(rt: HostRuntime) -> Result<(), Fail> {
+    assert_eq!(rt;
+        first_other(rt.alloc(), Part::Upload, unchanged_files().as_slice())?,
+        ""
+    );
+    Ok(())
+}
+
+#[test]
+fn rows_without_a_readable_file_are_not_put(rt: HostRuntime) -> Result<(), Fail> {
+    assert_eq!(rt;
+        first_other(rt.alloc(), Part::Upload, lost_files().as_slice())?,
+        ""
+    );
+    Ok(())
+}
+
+#[test]
+fn rows_give_way_to_other_files(rt: HostRuntime) -> Result<(), Fail> {
+    assert_eq!(rt;
+        first_other(rt.alloc(), Part::Upload, other_files().as_slice())?,
+        ""
+    );
     Ok(())
 }

@@ -1,6 +1,7 @@
--- The licences of a sync, from the tables on that were kept before its client was named.
-use Rattle.std.proofs.Common.{◌≡◌, ◌∙◌, refl, sym, ap, subst, inl, inr, ℕ, List, [], ◌∷◌, ◌++◌, Option, Some, None, Ok}
+-- The licences of a session, from the tables on that were kept before its client was named.
+use Rattle.std.proofs.Common.{◌≡◌, ◌∙◌, refl, sym, ap, subst, inl, inr, ℕ, List, [], ◌∷◌, ◌++◌, append-nil, Option, Some, None, Ok, Err}
 use Rattle.std.specs.Prelude.{option_map}
+use Rattle.std.proofs.lemmas.List.{append_cancel_left}
 use Rattle.jop_base.specs.Random.{EntropyNow}
 use Rattle.jop_target.specs.declared.event.Event.{Event}
 use Rattle.jop_target.specs.declared.event.Event.TheVariants.{Made}
@@ -11,6 +12,12 @@ use Rattle.local_store.specs.Keepers.{KeeperNow, Kept, changed}
 use Rattle.local_store.specs.declared.change.Change.{Change}
 use Rattle.local_store.specs.declared.change.Change.TheVariants.{Named}
 use Rattle.site.specs.Owning.{OwnNow, Owns, own}
+use Rattle.site.specs.declared.own_err.OwnErr.{OwnErr}
+use Rattle.jop_cli.proofs.Licensed.{AddsLicensed}
+use Rattle.jop_cli.proofs.Owned.{unowned}
+use Rattle.jop_cli.proofs.Runs.{none_licensed}
+use Rattle.jop_cli.specs.Outside.{Outside, did}
+use Rattle.jop_cli.specs.Run.{HasLicences}
 
 -- the naming of the client has its licence too
 named_first : (client : List ℕ) (k : Kept) (more : List Event) (changes : List Change) →
@@ -48,3 +55,27 @@ licensed_behind client keeper entropy named trail made more is (inr named_now) l
     (sym same_made)
     (named_first client k more changes
     (licensed (changed (Named client) k) changes kept made_is)))
+
+-- a session that changes nothing
+pub licensed_as_named : (client : List ℕ) (keeper : KeeperNow) (entropy : EntropyNow) (named : OwnNow)
+    (trail : List Event) (made : List Change) → AddsLicensed named.site.trail trail →
+    Owns (own keeper entropy [] []) (Ok client) named → made ≡ named.site.made → (k : Kept) →
+    keeper.kept ≡ Some k → ObeysData (at_rest k.tables) (deeds_of trail made)
+licensed_as_named client keeper entropy named trail made adds owns same k told =
+    licensed_behind client keeper entropy named trail made adds.more adds.is owns
+    (λ kept changes is split.
+    subst (λ (cs : List Change). ObeysData (at_rest kept.tables) (deeds_of adds.more cs))
+    (append_cancel_left named.site.made [] changes (append-nil named.site.made ∙ sym same ∙ split))
+    (adds.licensed kept.tables))
+    [] (same ∙ sym (append-nil named.site.made)) k told
+
+-- nothing was done, since the client isn't known
+pub unowned_licensed : (before after : Outside) (trail : List Event) (made : List Change)
+    (error : OwnErr) → Owns (own before.keeper before.entropy [] []) (Err error)
+    (own after.keeper after.entropy trail made) → HasLicences before (did trail made)
+unowned_licensed before after trail made error h =
+    let as_before = unowned (own before.keeper before.entropy [] [])
+    (own after.keeper after.entropy trail made) error h in
+    subst (λ (t : List Event). HasLicences before (did t made)) (sym as_before.trail)
+    (subst (λ (m : List Change). HasLicences before (did [] m)) (sym as_before.made)
+    (none_licensed before))

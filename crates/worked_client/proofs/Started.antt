@@ -17,7 +17,7 @@ use Rattle.local_store.specs.Sound.{IsSound}
 use Rattle.local_store.specs.declared.tables.Tables.{Tables}
 use Rattle.session_steps.proofs.Asked.{calls_locks}
 use Rattle.upload.specs.Conditions.{AreUnput}
-use Rattle.upload_rows.specs.Begun.{HasBegun}
+use Rattle.worked_client.specs.Begun.{HasBegun}
 
 session_begun : (client : List ℕ) (trail : List Event) → (h : HasBegun trail)
     → session_of client trail ≡ session_of client (h.before ++ Began ∷ [])

@@ -1,13 +1,12 @@
 use Rattle.std.specs.Prelude.{◌≡◌, false}
 use Rattle.std.proofs.Common.{◌∙◌, ap, inl, subst, sym}
 use Rattle.jop_target.specs.Trail.{LineNow}
-use Rattle.jop_target.specs.declared.event.Event.{Event}
 use Rattle.lease.specs.Calls.{LeaseGoesOn}
 use Rattle.lease.specs.Phase.{Free}
 use Rattle.lease.specs.Standing.{IsHeld, StandsIn}
 use Rattle.local_store.specs.declared.tables.Tables.{Tables}
-use Rattle.upload_rows.proofs.Started.{stands_begun, tidy_still, unput_begun}
-use Rattle.upload_rows.proofs.client.upload.Goals as goal
+use Rattle.worked_client.proofs.Started.{stands_begun, tidy_still, unput_begun}
+use Rattle.worked_client.proofs.parts.work.Goals as goal
 
 pub acquire-requires : goal.acquire-requires
 acquire-requires g c =
@@ -15,22 +14,22 @@ acquire-requires g c =
     (g.met.S.Desk.same_line c.args.site.now)
     (stands_begun c.args.client.now (g.S.Desk.desk c.args.site.now).line.trail c.requires.begun)
 
-pub upload_all-requires-clause-ready : goal.upload_all-requires-clause-ready
-upload_all-requires-clause-ready g c = record {
+pub perform-requires-clause-ready : goal.perform-requires-clause-ready
+perform-requires-clause-ready g c = record {
   tidy = tidy_still (g.S.Desk.desk c.args.site.now) (g.S.Desk.desk c.acquire.new.line)
       (g.met.S.Desk.keeps_desk _ _ c.acquire.ensures.keeps) c.requires.tidy;
   held = subst (λ (l : LineNow). IsHeld c.in_ok-lease.lease l.trail)
       (sym (g.met.S.Desk.same_line c.acquire.new.line)) c.in_ok-lease.ensures.gives.fresh.held;
 }
 
-pub upload_all-requires-clause-readable : goal.upload_all-requires-clause-readable
-upload_all-requires-clause-readable g c =
+pub perform-requires-clause-readable : goal.perform-requires-clause-readable
+perform-requires-clause-readable g c =
     inl (ap (λ (t : Tables). t.info.e2ee.value)
     (g.met.S.Desk.keeps_desk c.args.site.now c.acquire.new.line c.acquire.ensures.keeps).tables
     ∙ c.requires.readable)
 
-pub upload_all-requires-clause-first : goal.upload_all-requires-clause-first
-upload_all-requires-clause-first g c =
+pub perform-requires-clause-first : goal.perform-requires-clause-first
+perform-requires-clause-first g c =
     let old = g.S.Desk.desk c.args.site.now in
     let new = g.S.Desk.desk c.acquire.new.line in
     unput_begun c.args.client.now old new c.requires.begun

@@ -1,0 +1,69 @@
+use crate::texts::{A, B, OLD_A, OLD_B};
+use jop_base::Bytes;
+use std::alloc::Global;
+use std::test::Fail;
+use worked_client::{BrokenOff, Part, Place, Standing, Step, Text, place_bytes};
+
+const R: &str = "dddddddddddddddddddddddddddddddd";
+
+const RESOURCE: &str = "R\n\nid: dddddddddddddddddddddddddddddddd\ntype_: 4";
+
+/// A note and a resource were removed, and another note wasn't.
+const STEPS: [Step; 5] = [
+    Step::Take(A, OLD_A),
+    Step::Take(B, OLD_B),
+    Step::Take(R, RESOURCE),
+    Step::Remove(A),
+    Step::Remove(R),
+];
+
+const LEFT: Standing = Standing {
+    rows: &[(B, OLD_B, false)],
+    copies: &[],
+};
+
+fn place_with(alloc: Global, files: &[Text]) -> Result<Place, BrokenOff> {
+    let mut place = Place::new(alloc, STEPS.as_slice(), files)?;
+    let bytes = Bytes::from_vec(b"hello".to_vec(alloc)?);
+    place_bytes(&mut place.target, R, bytes)?;
+    Ok(place)
+}
+
+/// Whether the files of what was removed are gone, and the deletions with them.
+fn is_rid(alloc: Global, place: &Place) -> Result<bool, BrokenOff> {
+    let done = place.client.keeper.tables().deletions.is_empty();
+    Ok(done && place.holds_alone(&[(B, OLD_B)])? && place.has(alloc, &LEFT)?)
+}
+
+/// Whether a session deletes what was removed of these files.
+fn deletes(alloc: Global, files: &[Text]) -> Result<bool, BrokenOff> {
+    let mut place = place_with(alloc, files)?;
+    let counts = place.counts(alloc, Part::Whole)?;
+    Ok(counts == [0, 2, 0, 0, 0, 0] && is_rid(alloc, &place)?)
+}
+
+#[test]
+fn files_of_removed_items_are_deleted(rt: HostRuntime) -> Result<(), Fail> {
+    let alloc = rt.alloc();
+    assert!(rt; deletes(alloc, &[(A, OLD_A), (B, OLD_B), (R, RESOURCE)])?);
+    assert!(rt; deletes(alloc, &[(B, OLD_B), (R, RESOURCE)])?);
+    Ok(())
+}
+
+/// Whether all comes to the same if a call fails. Nine calls are made: four for the lease, three deletes, a listing
+/// and a get.
+fn is_mended(alloc: Global, nth: u64, landed: bool) -> Result<bool, BrokenOff> {
+    let mut place = place_with(alloc, &[(A, OLD_A), (B, OLD_B), (R, RESOURCE)])?;
+    place.target.fail(nth, landed)?;
+    Ok(place.breaks_off_once(alloc, Part::Whole) && is_rid(alloc, &place)?)
+}
+
+#[test]
+fn a_deletion_that_breaks_off_is_made_again(rt: HostRuntime) -> Result<(), Fail> {
+    let alloc = rt.alloc();
+    for nth in 1..=9 {
+        assert!(rt; is_mended(alloc, nth, false)?);
+        assert!(rt; is_mended(alloc, nth, true)?);
+    }
+    Ok(())
+}

@@ -1,0 +1,48 @@
+use std::alloc::Global;
+use std::test::Fail;
+use worked_client::{BrokenOff, Part, Place, Step, holds, size_of};
+
+const R: &str = "cccccccccccccccccccccccccccccccc";
+
+const RESOURCE: &str = "R\n\nid: cccccccccccccccccccccccccccccccc\ntype_: 4";
+
+/// A client that has a new resource with five bytes, and an empty target.
+fn make_place(alloc: Global) -> Result<Place, BrokenOff> {
+    let mut place = Place::new(alloc, &[Step::Save(R, RESOURCE)], &[])?;
+    place.client.attach(alloc, R, "hello")?;
+    Ok(place)
+}
+
+/// Whether an upload ends so.
+fn ends(alloc: Global, place: &mut Place, well: bool) -> bool {
+    place.counts(alloc, Part::Upload).is_ok() == well
+}
+
+/// Whether the target has so many bytes of the resource, and this item.
+fn has(place: &Place, size: Option<u64>, text: Option<&'static str>) -> Result<bool, BrokenOff> {
+    let tree = place.target.tree();
+    Ok(size_of(tree, R)? == size && holds(tree, R, text)?)
+}
+
+/// The sixth call puts the bytes, and the seventh the item.
+#[test]
+fn bytes_are_put_before_their_resource(rt: HostRuntime) -> Result<(), Fail> {
+    let alloc = rt.alloc();
+    let mut place = make_place(alloc)?;
+    place.target.fail(7, false)?;
+    assert!(rt; ends(alloc, &mut place, false));
+    assert!(rt; has(&place, Some(5), None)?);
+    assert!(rt; ends(alloc, &mut place, true));
+    assert!(rt; has(&place, Some(5), Some(RESOURCE))?);
+    Ok(())
+}
+
+#[test]
+fn a_resource_is_not_put_without_its_bytes(rt: HostRuntime) -> Result<(), Fail> {
+    let alloc = rt.alloc();
+    let mut place = make_place(alloc)?;
+    place.target.fail(6, false)?;
+    assert!(rt; ends(alloc, &mut place, false));
+    assert!(rt; has(&place, None, None)?);
+    Ok(())
+}
