@@ -19,8 +19,8 @@ const NOTE: &str = concat!(
 
 const RESOURCE: &str = "R\n\nid: dddddddddddddddddddddddddddddddd\ntype_: 4";
 
-/// The first note is edited, and was edited there too; the second note and the resource are new there; the third note
-/// and the folder of the last note are gone there.
+/// The first note is edited, and was edited there too; the second note and the resource are new
+/// there; the third note and the folder of the last note are gone there.
 const STEPS: [Step; 5] = [
     Step::Take(A, OLD_A),
     Step::Take(C, OLD_C),
@@ -92,16 +92,17 @@ fn comes_to_the_same(alloc: Global, place: &mut Place) -> Result<bool, BrokenOff
     Ok(place.breaks_off_once(alloc, Part::Download) && is_read(alloc, place)?)
 }
 
-/// Whether a call that fails, landed or not, breaks a session off and all comes to the same. Ten calls are made: four for
-/// the lease, a listing, four gets of items and one of bytes.
+/// Whether a call that fails, landed or not, breaks a session off and all comes to the same. Ten
+/// calls are made: four for the lease, a listing, four gets of items and one of bytes.
 fn is_mended(alloc: Global, nth: u64, landed: bool) -> Result<bool, BrokenOff> {
     let mut place = make_place(alloc)?;
     place.target.fail(nth, landed)?;
     comes_to_the_same(alloc, &mut place)
 }
 
-/// The same of a call of the keeper. Five steps were made before; a session reads the tables, saves the bytes, and makes
-/// seven changes, the last three of which move the note, let its folder go, and say how far the target was read.
+/// The same of a call of the keeper. Five steps were made before; a session reads the tables, saves
+/// the bytes, and makes seven changes, the last three of which move the note, let its folder go,
+/// and say how far the target was read.
 fn is_kept(alloc: Global, nth: u64) -> Result<bool, BrokenOff> {
     let mut place = make_place(alloc)?;
     place.client.keeper.fail(nth)?;
@@ -143,7 +144,8 @@ fn leaves(alloc: Global, nth: u64, standing: &Standing) -> Result<bool, BrokenOf
     Ok(place.breaks_off_once(alloc, Part::Download) && place.has(alloc, standing)?)
 }
 
-/// A note that has left its folder is new to the client, whose context is the old one yet: so its file is read again.
+/// A note that has left its folder is new to the client, whose context is the old one yet: so its
+/// file is read again.
 #[test]
 fn a_note_comes_again_if_it_left_its_folder_unread(rt: HostRuntime) -> Result<(), Fail> {
     let alloc = rt.alloc();

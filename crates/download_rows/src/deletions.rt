@@ -50,8 +50,8 @@ fn files_of_removed_items_are_deleted(rt: HostRuntime) -> Result<(), Fail> {
     Ok(())
 }
 
-/// Whether all comes to the same if a call fails. Nine calls are made: four for the lease, three deletes, a listing
-/// and a get.
+/// Whether all comes to the same if a call fails. Nine calls are made: four for the lease, three
+/// deletes, a listing and a get.
 fn is_mended(alloc: Global, nth: u64, landed: bool) -> Result<bool, BrokenOff> {
     let mut place = place_with(alloc, &[(A, OLD_A), (B, OLD_B), (R, RESOURCE)])?;
     place.target.fail(nth, landed)?;

@@ -1,5 +1,5 @@
-//! Worked cases of what a session reads: [`download::apply_page`] and [`upload::delete_all`] over a target and a keeper in
-//! memory, alone, broken off at each call, and of two clients in turns.
+//! Worked cases of what a session reads: [`download::apply_page`] and [`upload::delete_all`] over a
+//! target and a keeper in memory, alone, broken off at each call, and of two clients in turns.
 #![tactic(auto)]
 
 #[cfg(test)]

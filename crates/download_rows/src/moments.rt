@@ -6,7 +6,8 @@ use std::alloc::Global;
 use std::test::Fail;
 use worked_client::{BrokenOff, Client, OWN, Part, Place, Standing, Step, Text, target_at};
 
-/// The client has read the target up to moment 5000, and the first file with it. Both were written then.
+/// The client has read the target up to moment 5000, and the first file with it. Both were written
+/// then.
 const STEPS: [Step; 2] = [Step::Take(A, OLD_A), Step::Read(5000, A)];
 
 /// The first file differs from what the client read, which shows if it is read again.
@@ -17,8 +18,8 @@ const READ: Standing = Standing {
     copies: &[],
 };
 
-/// Whether of two files of one moment the one is read that wasn't, if the listing is of this moment, and whether the client
-/// then has read so many of that moment.
+/// Whether of two files of one moment the one is read that wasn't, if the listing is of this
+/// moment, and whether the client then has read so many of that moment.
 fn reads_the_other(alloc: Global, now: u64, seen: usize) -> Result<bool, BrokenOff> {
     let client = Client::after(alloc, OWN, STEPS.as_slice())?;
     let target = target_at(alloc, now, 0, FILES.as_slice(), 5000)?;

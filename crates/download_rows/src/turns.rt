@@ -37,7 +37,8 @@ fn make_pair(alloc: Global) -> Result<Pair, BrokenOff> {
 }
 
 impl Pair {
-    /// Whether a session of the first client puts so many items and takes none, and leaves it its own text.
+    /// Whether a session of the first client puts so many items and takes none, and leaves it its
+    /// own text.
     fn first_puts(&mut self, alloc: Global, put: u64) -> Result<bool, BrokenOff> {
         let report = self.one.sync(alloc, &mut self.target, Part::Whole)?;
         let done = counts(&report) == [put, 0, 0, 0, 0, 0];
@@ -62,7 +63,8 @@ fn the_second_of_two_gives_way(rt: HostRuntime) -> Result<(), Fail> {
     Ok(())
 }
 
-/// Whether a put that landed and wasn't told, the sixth call, breaks a session off, and the next one finds its own text.
+/// Whether a put that landed and wasn't told, the sixth call, breaks a session off, and the next
+/// one finds its own text.
 fn finds_its_own(alloc: Global) -> Result<bool, BrokenOff> {
     let mut place = Place::new(alloc, &[Step::Save(A, MY_A)], &[])?;
     place.target.fail(6, true)?;

@@ -53,7 +53,7 @@ use Rattle.sync_session.specs.declared.sync_err.SyncErr.TheVariants.{Busy, Lease
 
 pub went_worked : (a b : WorkNow) (result : Result (Unit {0}) SyncErr) → Works a result b
     → Went is_sync a b
-went_worked a b (Ok done) h = h.went
+went_worked a b (Ok done) h = h.0.went
 went_worked a b (Err (LeaseLost seen)) h = h.0.went
 went_worked a b (Err (TargetOlder version)) h = h.1.went
 went_worked a b (Err (TargetNewer version)) h = h.1.went
@@ -68,7 +68,7 @@ went_worked a b (Err (Busy lock now)) h = absurd h
 -- it is held still, but when it was lost, the target failed, or memory ran out
 pub held_worked : (a b : WorkNow) (result : Result (Unit {0}) SyncErr) → Works a result b
     → holds_lease result ≡ true → IsReady b.desk b.lease
-held_worked a b (Ok done) h holds = h.ready
+held_worked a b (Ok done) h holds = h.0.ready
 held_worked a b (Err (LeaseLost seen)) h holds = absurd cc
 held_worked a b (Err (TargetOlder version)) h holds = h.1.ready
 held_worked a b (Err (TargetNewer version)) h holds = h.1.ready
@@ -350,7 +350,7 @@ done_then_failed client lease old held late new e (Ok done) taken works gives re
 done_then_failed client lease old held late new e (Err lease_errors.TargetFault) taken works gives
     result ended is =
     let it : TargetFault ≡ e = cc in
-    let went = works.went in
+    let went = works.0.went in
     let fails = fails_as client late.lease.client old.line late.desk.line new.line
     (client_is lease late.lease went.same ∙ own_client client lease old held taken)
     (omega (arith, taken.goes.line.later, went.goes.line.later)) gives.fails in

@@ -1,6 +1,7 @@
 pub mod Wider
 pub mod Merging
 pub mod Telling
+pub mod Settled
 pub mod Exchanged
 pub mod Worked
 pub mod Left

@@ -1,8 +1,9 @@
 -- What a sync does under its lease.
-use Rattle.std.specs.Prelude.{ℕ, ◌≡◌, ◌<◌, List, Bool, true, ◌||◌, Option, Some, Result, Ok, Err}
+use Rattle.std.specs.Prelude.{ℕ, ◌≡◌, ◌<◌, List, [], Bool, true, ◌||◌, Option, Some, Result, Ok, Err}
 use Rattle.conflicts.specs.declared.error.StepErr.{StepErr}
 use Rattle.conflicts.specs.declared.error.StepErr.TheVariants as step_errors
 use Rattle.delta.specs.Page.{fail_safe}
+use Rattle.desk.specs.Desks.{DeskNow}
 use Rattle.download.specs.Downloading.{Downloads, is_download}
 use Rattle.jop_base.specs.declared.dir.Dir.TheVariants.{Root}
 use Rattle.jop_target.specs.declared.call.Call.{Call}
@@ -19,6 +20,7 @@ use Rattle.session_steps.specs.Parts.{Hears, Part, Then}
 use Rattle.session_steps.specs.Work.{WorkNow}
 use Rattle.target_upgrade.specs.Steps.{SUPPORTED}
 use Rattle.upload.specs.Deleting.{Deletes, is_deletion}
+use Rattle.upload.specs.Settled.{AreSettled}
 use Rattle.upload.specs.Uploading.{Uploads, is_upload}
 use Rattle.sync_session.specs.Keys.{IsActiveKey, needs_key}
 use Rattle.sync_session.specs.declared.sync_err.SyncErr.{SyncErr}
@@ -57,10 +59,16 @@ pub record IsEmptiedBehind (sort : Call → Bool) (Before : Listing → Part) (o
   pub listed : Does (Before listing) sort old new
   pub rows : fail_safe listing (synced_ids new.desk.tables) ≡ Some count
 
+-- What was saved and removed here is settled: each row that waits still has a file that this
+-- session saw and couldn't read, and no deletion is left.
+pub record LeavesNothing (d : DeskNow) : Type 0 where
+  pub settled : AreSettled d
+  pub deleted : d.tables.deletions ≡ []
+
 -- each answer behind the opening, by its cause
 abbrev pub ExchangesOr : WorkNow → Result (Unit {0}) StepErr → WorkNow → Type 0
 ExchangesOr old (Ok done) new =
-    Finishes (Exchanges old.desk.keeper.kept) is_exchange old new
+    Finishes (Exchanges old.desk.keeper.kept) is_exchange old new × LeavesNothing new.desk
 ExchangesOr old (Err (step_errors.FailSafe count)) new =
     IsEmptiedBehind is_exchange (ListsBehind old.desk.keeper.kept) old count new
 ExchangesOr old (Err e) new = GivesUp is_exchange old e new
@@ -77,7 +85,8 @@ Lapses old new seen = Stops is_sync old new × HasLapsed old.lease new seen
 
 -- each answer, by its cause
 abbrev pub Works : WorkNow → Result (Unit {0}) SyncErr → WorkNow → Type 0
-Works old (Ok done) new = Finishes (Syncs old.desk.keeper.kept) is_sync old new
+Works old (Ok done) new =
+    Finishes (Syncs old.desk.keeper.kept) is_sync old new × LeavesNothing new.desk
 Works old (Err (LeaseLost seen)) new = Lapses old new seen
 Works old (Err (TargetOlder version)) new =
     (version < SUPPORTED) × Does (ReadsVersion version) is_sync old new

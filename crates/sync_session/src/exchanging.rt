@@ -3,7 +3,7 @@ ghost use Rattle.lease.specs.Standing.{IsSameBut};
 ghost use Rattle.session_steps.specs.Doing.{Ends};
 ghost use Rattle.session_steps.specs.Work.{IsReady, work};
 ghost use Rattle.upload.specs.Conditions.{AreUnput, IsReadable};
-ghost use Rattle.sync_session.specs.Working.{ExchangesOr, Sends, is_exchange};
+ghost use Rattle.sync_session.specs.Working.{ExchangesOr, LeavesNothing, Sends, is_exchange};
 
 use conflicts::{StepErr, SyncReport};
 use desk::Desk;
@@ -25,6 +25,7 @@ fn send<S: Desk>(
 
     ensures ready { OnOk result (IsReady (S.desk site.new) lease.new) }
     ensures lease { IsSameBut lease.old lease.new }
+    ensures nothing { OnOk result (LeavesNothing (S.desk site.new)) }
     ensures sends { Ends (Sends (S.desk site.old).keeper.kept) is_exchange
         (work (S.desk site.old) lease.old report.old) result
         (work (S.desk site.new) lease.new report.new) }

@@ -58,9 +58,9 @@ enum Deed {
     DeletesFolder,
 }
 
-/// What another client does right before a call of the upload, the first and the last of these, and what comes of it. The
-/// upload makes four calls for its lease; the fifth gets the note and the sixth puts it; the seventh gets the folder and
-/// the eighth puts it.
+/// What another client does right before a call of the upload, the first and the last of these, and
+/// what comes of it. The upload makes four calls for its lease; the fifth gets the note and the
+/// sixth puts it; the seventh gets the folder and the eighth puts it.
 #[derive(Clone, Copy)]
 struct Case {
     name: &'static str,

@@ -1,5 +1,6 @@
-//! Worked cases of uploads, [`upload::upload_all`] over a target and a keeper in memory: of rows, of folders, broken off
-//! at each call, beside another client's calls, and of the bytes of resources.
+//! Worked cases of uploads, [`upload::upload_all`] over a target and a keeper in memory: of rows,
+//! of folders, broken off at each call, beside another client's calls, and of the bytes of
+//! resources.
 #![tactic(auto)]
 
 #[cfg(test)]

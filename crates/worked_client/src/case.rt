@@ -28,7 +28,8 @@ impl Case {
     }
 }
 
-/// The name of the first of these cases that doesn't come out by this part of a session. None has the empty name.
+/// The name of the first of these cases that doesn't come out by this part of a session. None has
+/// the empty name.
 pub fn first_other(alloc: Global, part: Part, cases: &[Case]) -> Result<&'static str, BrokenOff> {
     for case in cases {
         if !case.is_met(alloc, part)? {

@@ -21,8 +21,9 @@ fn place(alloc: Global, target: &mut MemTarget, file: &Text, stamp: u64) -> Resu
     Ok(())
 }
 
-/// A target that holds these items' files, written at this time, all in milliseconds since 1970. Its first call has the
-/// moment `start`, and each later one is as many milliseconds later as `step` says.
+/// A target that holds these items' files, written at this time, all in milliseconds since 1970.
+/// Its first call has the moment `start`, and each later one is as many milliseconds later as
+/// `step` says.
 pub fn target_at(
     alloc: Global,
     start: u64,

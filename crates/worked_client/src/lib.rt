@@ -1,5 +1,6 @@
-//! A client in memory for worked cases of sessions: what it has done before, a session or a part of one over any target,
-//! and what it has then. It is for tests: they try what it gives, and no contract promises it.
+//! A client in memory for worked cases of sessions: what it has done before, a session or a part of
+//! one over any target, and what it has then. It is for tests: they try what it gives, and no
+//! contract promises it.
 //!
 //! Begin with [`Client`], and with [`Case`] for tables of cases.
 #![tactic(auto)]

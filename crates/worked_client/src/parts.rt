@@ -20,7 +20,8 @@ pub enum Part {
     Upload,
     /// What others have written is read.
     Download,
-    /// Items are uploaded, the files of those that were removed here are deleted, and what others have written is read.
+    /// Items are uploaded, the files of those that were removed here are deleted, and what others
+    /// have written is read.
     Whole,
 }
 

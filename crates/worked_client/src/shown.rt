@@ -9,7 +9,8 @@ use std::alloc::Global;
 /// A row: its id, its text, and whether it waits to be uploaded.
 pub type RowText = (&'static str, &'static str, bool);
 
-/// What stands in a client's tables: its rows in the order of their ids, and its conflict notes in theirs.
+/// What stands in a client's tables: its rows in the order of their ids, and its conflict notes in
+/// theirs.
 #[derive(Clone, Copy)]
 pub struct Standing {
     pub rows: &'static [RowText],

@@ -17,7 +17,8 @@ pub enum Step {
     Save(&'static str, &'static str),
     /// Its user removes the item of this id.
     Remove(&'static str),
-    /// It has read the target up to this moment, in milliseconds since 1970, and of that moment the file of this id.
+    /// It has read the target up to this moment, in milliseconds since 1970, and of that moment the
+    /// file of this id.
     Read(u64, &'static str),
 }
 

@@ -72,7 +72,8 @@ returns-clause-works g c =
     let a = work (g.S.Desk.desk c.args.site.now) c.args.lease.now c.args.report.now in
     let b = work (g.S.Desk.desk c.open.new.site) c.open.new.lease c.open.new.report in
     let d = work (g.S.Desk.desk c.exchange.new.site) c.exchange.new.lease c.exchange.new.report in
-    works_both a b d c.in_ok-open.ensures.opens c.in_ok-exchange.ensures.exchanges
+    let exchanged = c.in_ok-exchange.ensures.exchanges in
+    (works_both a b d c.in_ok-open.ensures.opens exchanged.0, exchanged.1)
 
 pub returns-clause-merges : goal.returns-clause-merges
 returns-clause-merges g c =
@@ -87,7 +88,7 @@ returns-clause-merges g c =
       told = c.in_ok-open.ensures.told;
       merges = c.in_ok-open.ensures.merges;
     } in
-    merges_behind a b d opened c.in_ok-exchange.ensures.exchanges.went
+    merges_behind a b d opened c.in_ok-exchange.ensures.exchanges.0.went
 
 pub returns-clause-lawful : goal.returns-clause-lawful
 returns-clause-lawful g c =
@@ -102,4 +103,4 @@ returns-clause-lawful g c =
       told = c.in_ok-open.ensures.told;
       merges = c.in_ok-open.ensures.merges;
     } in
-    lawful_behind a b d opened c.in_ok-exchange.ensures.exchanges.went
+    lawful_behind a b d opened c.in_ok-exchange.ensures.exchanges.0.went
