@@ -6,6 +6,8 @@ use Rattle.sqlite.specs.declared.error.Error.TheVariants.{SqliteFailure}
 use Rattle.sqlite.specs.declared.error.ErrorCode.TheVariants.{OutOfMemory}
 use Rattle.local_store.specs.declared.keeper_err.KeeperErr.{KeeperErr}
 use Rattle.local_store.specs.declared.keeper_err.KeeperErr.TheVariants.{Fault, NoMemory}
+use Rattle.stored_records.specs.declared.record_err.RecordErr.{RecordErr}
+use Rattle.stored_records.specs.declared.record_err.RecordErr.TheVariants as record_errors
 use Rattle.keeper_sqlite.specs.declared.trouble.Trouble.{Trouble}
 use Rattle.keeper_sqlite.specs.declared.trouble.Trouble.TheVariants as trouble
 
@@ -13,6 +15,11 @@ use Rattle.keeper_sqlite.specs.declared.trouble.Trouble.TheVariants as trouble
 abbrev pub trouble_of : Error → Trouble
 trouble_of (SqliteFailure OutOfMemory) = trouble.NoMemory
 trouble_of error = trouble.Fault
+
+-- a record that can't be read back is a fault
+abbrev pub of_record : RecordErr → Trouble
+of_record record_errors.Bad = trouble.Fault
+of_record record_errors.NoMemory = trouble.NoMemory
 
 -- An answer stays as it is. A fault raises the count, and nothing else does.
 abbrev pub Counts : {T : Type 0} → ℕ → Result T Trouble → Result T KeeperErr → ℕ → Type 0

@@ -1,5 +1,5 @@
 ghost use Rattle.std.specs.Prelude.{◌≡◌};
-ghost use Rattle.keeper_sqlite.specs.Faults.{trouble_of};
+ghost use Rattle.keeper_sqlite.specs.Faults.{of_record, trouble_of};
 ghost use Rattle.keeper_sqlite.specs.declared.trouble.Trouble.TheVariants.{NoMemory};
 
 use sqlite::{Error, ErrorCode};
@@ -26,6 +26,8 @@ impl From<Error> for Trouble {
 }
 
 impl From<RecordErr> for Trouble {
+    ghost from_gives = { λ error trouble. trouble ≡ of_record error };
+
     fn from(error: RecordErr) -> Trouble {
         match error {
             RecordErr::Bad => Trouble::Fault,
