@@ -1,7 +1,7 @@
 use jop_base::{Bytes, MemClock, MemEntropy, MemSink, MemSource, Seq, Text};
 use jop_cli::{Status, Words, run};
 use jop_target::{Diary, MemTarget};
-use local_store::{Changes, Keeper};
+use local_store::{Changes, Keeper, MemKeeper};
 use std::alloc::{AllocError, Global};
 
 /// A client with all that is outside it. The sinks have what the last command wrote.
@@ -15,7 +15,7 @@ pub(crate) struct Client<K: Keeper> {
 }
 
 /// The bytes 0 to 255, so that the first id is 000102030405060708090a0b0c0d0e0f.
-fn random_bytes(alloc: Global) -> Result<MemEntropy, AllocError> {
+pub(crate) fn random_bytes(alloc: Global) -> Result<MemEntropy, AllocError> {
     let mut bytes = Bytes::new(alloc);
     for byte in 0..=255 {
         bytes.push(byte)?;
@@ -38,39 +38,61 @@ fn source_of(alloc: Global, input: &[u8]) -> Result<MemSource, AllocError> {
     Ok(MemSource::new(alloc, bytes))
 }
 
+/// A client that keeps its tables in memory.
+pub(crate) fn client_at(alloc: Global, now: u64) -> Result<Client<MemKeeper>, AllocError> {
+    let entropy = random_bytes(alloc)?;
+    Ok(Client::new(alloc, MemKeeper::new(alloc), now, entropy))
+}
+
 impl<K: Keeper> Client<K> {
     /// Its clock shows this time, in milliseconds since 1970, and goes on by one each time.
-    pub(crate) fn new(alloc: Global, keeper: K, now: u64) -> Result<Client<K>, AllocError> {
-        let entropy = random_bytes(alloc)?;
-        Ok(Client {
+    pub(crate) fn new(alloc: Global, keeper: K, now: u64, entropy: MemEntropy) -> Client<K> {
+        Client {
             keeper,
             clock: MemClock::new(alloc, now, 1),
             entropy,
             out: MemSink::new(alloc),
             err: MemSink::new(alloc),
-        })
+        }
     }
 
-    /// Runs the program once, on a target in memory. The words stand on one line.
+    /// Runs the program once, on a new target in memory. The words stand on one line.
     pub(crate) fn play(
         &mut self,
         alloc: Global,
         line: &str,
         input: &[u8],
     ) -> Result<u8, AllocError> {
-        let words = words_of(alloc, line)?;
-        let mut input = source_of(alloc, input)?;
-        Ok(self.obey(alloc, &words, &mut input).exit())
+        self.play_on(alloc, &mut MemTarget::new(alloc, 0, 1), line, input)
     }
 
-    fn obey(&mut self, alloc: Global, words: &Words, input: &mut MemSource) -> Status {
+    /// Runs the program once, on this target.
+    pub(crate) fn play_on(
+        &mut self,
+        alloc: Global,
+        target: &mut MemTarget,
+        line: &str,
+        input: &[u8],
+    ) -> Result<u8, AllocError> {
+        let words = words_of(alloc, line)?;
+        let mut input = source_of(alloc, input)?;
+        Ok(self.obey(alloc, target, &words, &mut input).exit())
+    }
+
+    fn obey(
+        &mut self,
+        alloc: Global,
+        target: &mut MemTarget,
+        words: &Words,
+        input: &mut MemSource,
+    ) -> Status {
         self.out = MemSink::new(alloc);
         self.err = MemSink::new(alloc);
         run(
             alloc,
             words,
             &mut self.keeper,
-            &mut MemTarget::new(alloc, 0, 1),
+            target,
             input,
             &mut self.out,
             &mut self.err,

@@ -1,5 +1,6 @@
-use crate::client::Client;
-use local_store::{Keeper, MemKeeper};
+use crate::client::{Client, client_at, random_bytes};
+use crate::due::{has_come_out, read_due};
+use local_store::Keeper;
 use record_keeper::{MemRecords, RecordKeeper};
 use std::alloc::{AllocError, Global};
 use std::test::Fail;
@@ -25,38 +26,6 @@ cat 101112131415161718191a1b1c1d1e1f||15|not found 101112131415161718191a1b1c1d1
 ls 000102030405060708090a0b0c0d0e0f||0|
 ";
 
-/// A command, and what is to become of it.
-#[derive(Clone, Copy)]
-struct Due<'a> {
-    words: &'a str,
-    input: &'a str,
-    exit: &'a str,
-    text: &'a str,
-}
-
-fn read_due(line: &str) -> Due<'_> {
-    let mut parts = line.split('|');
-    Due {
-        words: parts.next().unwrap_or(""),
-        input: parts.next().unwrap_or(""),
-        exit: parts.next().unwrap_or(""),
-        text: parts.next().unwrap_or(""),
-    }
-}
-
-/// Whether this was written, with `~` for each line feed.
-fn is_written(written: &[u8], due: &str) -> bool {
-    written.len() == due.len()
-        && written.iter().zip(due.as_bytes()).all(|(byte, other)| byte == other
-            || (*byte == b'\n' && *other == b'~'))
-}
-
-/// Whether it ended so, and wrote that.
-fn has_come_out<K: Keeper>(client: &Client<K>, exit: u8, due: &Due) -> bool {
-    let written = if exit == 0 { &client.out } else { &client.err };
-    due.exit.parse() == Ok(exit) && is_written(written.written.as_slice(), due.text)
-}
-
 /// The first line of the day that comes out otherwise, counted from 0.
 fn first_surprise<K: Keeper>(
     alloc: Global,
@@ -72,22 +41,32 @@ fn first_surprise<K: Keeper>(
     Ok(None)
 }
 
+/// The first surprise of a day, and how many rows there are at its end.
+type Outcome = (Option<usize>, usize);
+
+fn day_in_memory(alloc: Global) -> Result<Outcome, AllocError> {
+    let mut client = client_at(alloc, 5)?;
+    let surprise = first_surprise(alloc, &mut client)?;
+    Ok((surprise, client.keeper.tables().rows.len()))
+}
+
+fn day_over_records(alloc: Global) -> Result<Outcome, AllocError> {
+    let entropy = random_bytes(alloc)?;
+    let keeper = RecordKeeper::over(MemRecords::new(alloc));
+    let mut client = Client::new(alloc, keeper, 5, entropy);
+    let surprise = first_surprise(alloc, &mut client)?;
+    Ok((surprise, client.keeper.store.tables().rows.len()))
+}
+
 /// At its end there are the notebook, one tag, what says that the note bore it, and the resource.
 #[test]
 fn a_day_passes_in_memory(rt: HostRuntime) -> Result<(), Fail> {
-    let alloc = rt.alloc();
-    let mut client = Client::new(alloc, MemKeeper::new(alloc), 5)?;
-    assert_eq!(rt; first_surprise(alloc, &mut client)?, None);
-    assert_eq!(rt; client.keeper.tables().rows.len(), 4);
+    assert!(rt; day_in_memory(rt.alloc())? == (None, 4));
     Ok(())
 }
 
 #[test]
 fn a_day_passes_over_records(rt: HostRuntime) -> Result<(), Fail> {
-    let alloc = rt.alloc();
-    let keeper = RecordKeeper::over(MemRecords::new(alloc));
-    let mut client = Client::new(alloc, keeper, 5)?;
-    assert_eq!(rt; first_surprise(alloc, &mut client)?, None);
-    assert_eq!(rt; client.keeper.store.tables().rows.len(), 4);
+    assert!(rt; day_over_records(rt.alloc())? == (None, 4));
     Ok(())
 }

@@ -1,29 +1,49 @@
-use crate::client::Client;
+use crate::client::{Client, client_at, random_bytes};
 use jop_base::Bytes;
 use local_store::MemKeeper;
 use record_keeper::{MemRecords, RecordKeeper};
 use std::alloc::{AllocError, Global};
 use std::test::Fail;
 
-#[test]
-fn records_that_fail_are_told(rt: HostRuntime) -> Result<(), Fail> {
-    let alloc = rt.alloc();
+/// Records whose first call fails.
+fn failing_records(alloc: Global) -> Result<MemRecords, AllocError> {
     let mut records = MemRecords::new(alloc);
     records.fail(1)?;
-    let mut client = Client::new(alloc, RecordKeeper::over(records), 5)?;
-    assert_eq!(rt; client.play(alloc, "ls", b"")?, 10);
-    assert_eq!(rt; client.err.written.as_slice(), b"keeper fault\n".as_slice());
+    Ok(records)
+}
+
+/// Whether `ls` over records whose first call fails tells so.
+fn tells_a_failed_record(alloc: Global) -> Result<bool, AllocError> {
+    let entropy = random_bytes(alloc)?;
+    let records = failing_records(alloc)?;
+    let mut client = Client::new(alloc, RecordKeeper::over(records), 5, entropy);
+    let exit = client.play(alloc, "ls", b"")?;
+    Ok(exit == 10 && client.err.written.as_slice() == b"keeper fault\n".as_slice())
+}
+
+#[test]
+fn records_that_fail_are_told(rt: HostRuntime) -> Result<(), Fail> {
+    assert!(rt; tells_a_failed_record(rt.alloc())?);
     Ok(())
 }
 
 /// The exit status of `mkbook Home` where the clock and the random source fail at these calls, and how
 /// many rows there are then.
 fn made(alloc: Global, clock_fails: u64, entropy_fails: u64) -> Result<(u8, usize), AllocError> {
-    let mut client = Client::new(alloc, MemKeeper::new(alloc), 5)?;
+    let mut client = client_at(alloc, 5)?;
+    let exit = make(alloc, &mut client, clock_fails, entropy_fails)?;
+    Ok((exit, client.keeper.tables().rows.len()))
+}
+
+fn make(
+    alloc: Global,
+    client: &mut Client<MemKeeper>,
+    clock_fails: u64,
+    entropy_fails: u64,
+) -> Result<u8, AllocError> {
     client.clock.fail(clock_fails)?;
     client.entropy.fail(entropy_fails)?;
-    let exit = client.play(alloc, "mkbook Home", b"")?;
-    Ok((exit, client.keeper.tables().rows.len()))
+    client.play(alloc, "mkbook Home", b"")
 }
 
 #[test]
@@ -37,21 +57,30 @@ fn nothing_is_made_without_a_time_or_an_id(rt: HostRuntime) -> Result<(), Fail> 
 
 /// The exit status of `add` with this input, in a notebook that is there.
 fn added(alloc: Global, input: &[u8]) -> Result<u8, AllocError> {
-    let mut client = Client::new(alloc, MemKeeper::new(alloc), 5)?;
+    let mut client = client_at(alloc, 5)?;
+    add(alloc, &mut client, input)
+}
+
+fn add(alloc: Global, client: &mut Client<MemKeeper>, input: &[u8]) -> Result<u8, AllocError> {
     client.play(alloc, "mkbook Home", b"")?;
     client.play(alloc, "add 000102030405060708090a0b0c0d0e0f Milk", input)
 }
 
+/// A body of a byte more than its limit.
+fn long_body(alloc: Global) -> Result<Bytes, AllocError> {
+    Ok(Bytes::from_vec(vec![in alloc; b'x'; 1_048_577]?))
+}
+
 #[test]
-fn a_body_has_to_be_text_within_its_limit(rt: HostRuntime) -> Result<(), Fail> {
-    let alloc = rt.alloc();
-    let long = Bytes::from_vec(vec![in alloc; b'x'; 1_048_577]?);
-    for (input, exit) in [
-        (long.as_slice(), 18),
-        (b"\xff".as_slice(), 25),
-        (b"two".as_slice(), 0),
-    ] {
-        assert_eq!(rt; added(alloc, input)?, exit);
-    }
+fn a_body_has_its_limit(rt: HostRuntime) -> Result<(), Fail> {
+    let long = long_body(rt.alloc())?;
+    assert_eq!(rt; added(rt.alloc(), long.as_slice())?, 18);
+    Ok(())
+}
+
+#[test]
+fn a_body_has_to_be_text(rt: HostRuntime) -> Result<(), Fail> {
+    assert_eq!(rt; added(rt.alloc(), b"\xff")?, 25);
+    assert_eq!(rt; added(rt.alloc(), b"two")?, 0);
     Ok(())
 }

@@ -1,5 +1,5 @@
-//! Worked cases of the commands on this machine's own tables: days that are played through
-//! [`jop_cli::run`] over keepers in memory.
+//! Worked cases of the commands on this machine's own tables, and of syncs of two clients: days that
+//! are played through [`jop_cli::run`] over keepers and a target in memory.
 #![tactic(auto)]
 
 #[cfg(test)]
@@ -7,6 +7,10 @@ mod client;
 #[cfg(test)]
 mod day;
 #[cfg(test)]
+mod due;
+#[cfg(test)]
 mod faults;
 #[cfg(test)]
 mod times;
+#[cfg(test)]
+mod two;

@@ -1,16 +1,16 @@
-use crate::client::Client;
+use crate::client::{Client, client_at};
 use item_kinds::updated_of;
 use jop_base::{Id, MAX_TIME, MemClock};
 use local_store::{MemKeeper, Tables};
 use std::alloc::{AllocError, Global};
 use std::test::Fail;
 
-/// A notebook with a note, made from this time on.
-fn with_a_note(alloc: Global, now: u64) -> Result<Client<MemKeeper>, AllocError> {
-    let mut client = Client::new(alloc, MemKeeper::new(alloc), now)?;
+/// Makes a note in a notebook, and edits it at five milliseconds past 1970.
+fn make_and_edit(alloc: Global, client: &mut Client<MemKeeper>) -> Result<u8, AllocError> {
     client.play(alloc, "mkbook Home", b"")?;
     client.play(alloc, "add 000102030405060708090a0b0c0d0e0f Milk", b"two")?;
-    Ok(client)
+    client.clock = MemClock::new(alloc, 5, 0);
+    client.play(alloc, "edit 101112131415161718191a1b1c1d1e1f", b"three")
 }
 
 /// When the note was last changed, in milliseconds since 1970.
@@ -23,9 +23,8 @@ fn last_changed(tables: &Tables) -> Option<u64> {
 /// The exit status of an edit at five milliseconds past 1970, of a note that was made at this time, and when
 /// the note was last changed then.
 fn edited(alloc: Global, made: u64) -> Result<(u8, Option<u64>), AllocError> {
-    let mut client = with_a_note(alloc, made)?;
-    client.clock = MemClock::new(alloc, 5, 0);
-    let exit = client.play(alloc, "edit 101112131415161718191a1b1c1d1e1f", b"three")?;
+    let mut client = client_at(alloc, made)?;
+    let exit = make_and_edit(alloc, &mut client)?;
     Ok((exit, last_changed(client.keeper.tables())))
 }
 

@@ -1,8 +1,11 @@
 use crate::texts::{A, B, C, MY_A, OLD_A, OLD_B, OLD_C, THEIR_A};
 use jop_base::Bytes;
+use jop_target::MemTarget;
 use std::alloc::Global;
 use std::test::Fail;
-use worked_client::{BrokenOff, Part, Place, Standing, Step, Text, holds, place_bytes};
+use worked_client::{
+    BrokenOff, Client, OWN, Part, Place, Standing, Step, Text, holds, place_bytes, target_of,
+};
 
 const F: &str = "ffffffffffffffffffffffffffffffff";
 
@@ -53,11 +56,18 @@ const AGAIN: Standing = Standing {
     copies: &[(A, MY_A), (N, NOTE)],
 };
 
-fn make_place(alloc: Global) -> Result<Place, BrokenOff> {
-    let mut place = Place::new(alloc, STEPS.as_slice(), FILES.as_slice())?;
+/// A target with these files, and the bytes of the resource.
+fn target_with_bytes(alloc: Global) -> Result<MemTarget, BrokenOff> {
     let bytes = Bytes::from_vec(b"hello".to_vec(alloc)?);
-    place_bytes(&mut place.target, R, bytes)?;
-    Ok(place)
+    let mut target = target_of(alloc, FILES.as_slice())?;
+    place_bytes(&mut target, R, bytes)?;
+    Ok(target)
+}
+
+fn make_place(alloc: Global) -> Result<Place, BrokenOff> {
+    let target = target_with_bytes(alloc)?;
+    let client = Client::after(alloc, OWN, STEPS.as_slice())?;
+    Ok(Place { client, target })
 }
 
 /// Whether the client has the bytes of the resource.
@@ -92,12 +102,21 @@ fn comes_to_the_same(alloc: Global, place: &mut Place) -> Result<bool, BrokenOff
     Ok(place.breaks_off_once(alloc, Part::Download) && is_read(alloc, place)?)
 }
 
+fn mends(alloc: Global, place: &mut Place, nth: u64, landed: bool) -> Result<bool, BrokenOff> {
+    place.target.fail(nth, landed)?;
+    comes_to_the_same(alloc, place)
+}
+
+fn keeps(alloc: Global, place: &mut Place, nth: u64) -> Result<bool, BrokenOff> {
+    place.client.keeper.fail(nth)?;
+    comes_to_the_same(alloc, place)
+}
+
 /// Whether a call that fails, landed or not, breaks a session off and all comes to the same. Ten
 /// calls are made: four for the lease, a listing, four gets of items and one of bytes.
 fn is_mended(alloc: Global, nth: u64, landed: bool) -> Result<bool, BrokenOff> {
     let mut place = make_place(alloc)?;
-    place.target.fail(nth, landed)?;
-    comes_to_the_same(alloc, &mut place)
+    mends(alloc, &mut place, nth, landed)
 }
 
 /// The same of a call of the keeper. Five steps were made before; a session reads the tables, saves
@@ -105,16 +124,22 @@ fn is_mended(alloc: Global, nth: u64, landed: bool) -> Result<bool, BrokenOff> {
 /// and say how far the target was read.
 fn is_kept(alloc: Global, nth: u64) -> Result<bool, BrokenOff> {
     let mut place = make_place(alloc)?;
-    place.client.keeper.fail(nth)?;
-    comes_to_the_same(alloc, &mut place)
+    keeps(alloc, &mut place, nth)
+}
+
+fn reads_all(alloc: Global, place: &mut Place) -> Result<bool, BrokenOff> {
+    let done = place.counts(alloc, Part::Download)? == [0, 0, 2, 2, 2, 0];
+    Ok(done && is_read(alloc, place)?)
+}
+
+fn all_is_read(alloc: Global) -> Result<bool, BrokenOff> {
+    let mut place = make_place(alloc)?;
+    reads_all(alloc, &mut place)
 }
 
 #[test]
 fn a_session_reads_all(rt: HostRuntime) -> Result<(), Fail> {
-    let alloc = rt.alloc();
-    let mut place = make_place(alloc)?;
-    assert!(rt; place.counts(alloc, Part::Download)? == [0, 0, 2, 2, 2, 0]);
-    assert!(rt; is_read(alloc, &mut place)?);
+    assert!(rt; all_is_read(rt.alloc())?);
     Ok(())
 }
 
@@ -137,11 +162,20 @@ fn a_change_that_is_not_kept_is_made_again(rt: HostRuntime) -> Result<(), Fail> 
     Ok(())
 }
 
+fn comes_to(
+    alloc: Global,
+    place: &mut Place,
+    nth: u64,
+    standing: &Standing,
+) -> Result<bool, BrokenOff> {
+    place.client.keeper.fail(nth)?;
+    Ok(place.breaks_off_once(alloc, Part::Download) && place.has(alloc, standing)?)
+}
+
 /// Whether this comes of a call of the keeper that fails.
 fn leaves(alloc: Global, nth: u64, standing: &Standing) -> Result<bool, BrokenOff> {
     let mut place = make_place(alloc)?;
-    place.client.keeper.fail(nth)?;
-    Ok(place.breaks_off_once(alloc, Part::Download) && place.has(alloc, standing)?)
+    comes_to(alloc, &mut place, nth, standing)
 }
 
 /// A note that has left its folder is new to the client, whose context is the old one yet: so its

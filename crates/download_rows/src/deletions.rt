@@ -1,8 +1,11 @@
 use crate::texts::{A, B, OLD_A, OLD_B};
 use jop_base::Bytes;
+use jop_target::MemTarget;
 use std::alloc::Global;
 use std::test::Fail;
-use worked_client::{BrokenOff, Part, Place, Standing, Step, Text, place_bytes};
+use worked_client::{
+    BrokenOff, Client, OWN, Part, Place, Standing, Step, Text, place_bytes, target_of,
+};
 
 const R: &str = "dddddddddddddddddddddddddddddddd";
 
@@ -22,11 +25,18 @@ const LEFT: Standing = Standing {
     copies: &[],
 };
 
-fn place_with(alloc: Global, files: &[Text]) -> Result<Place, BrokenOff> {
-    let mut place = Place::new(alloc, STEPS.as_slice(), files)?;
+/// A target with these files, and the bytes of the resource.
+fn target_with(alloc: Global, files: &[Text]) -> Result<MemTarget, BrokenOff> {
     let bytes = Bytes::from_vec(b"hello".to_vec(alloc)?);
-    place_bytes(&mut place.target, R, bytes)?;
-    Ok(place)
+    let mut target = target_of(alloc, files)?;
+    place_bytes(&mut target, R, bytes)?;
+    Ok(target)
+}
+
+fn place_with(alloc: Global, files: &[Text]) -> Result<Place, BrokenOff> {
+    let target = target_with(alloc, files)?;
+    let client = Client::after(alloc, OWN, STEPS.as_slice())?;
+    Ok(Place { client, target })
 }
 
 /// Whether the files of what was removed are gone, and the deletions with them.
@@ -35,11 +45,15 @@ fn is_rid(alloc: Global, place: &Place) -> Result<bool, BrokenOff> {
     Ok(done && place.holds_alone(&[(B, OLD_B)])? && place.has(alloc, &LEFT)?)
 }
 
+fn rids(alloc: Global, place: &mut Place) -> Result<bool, BrokenOff> {
+    let done = place.counts(alloc, Part::Whole)? == [0, 2, 0, 0, 0, 0];
+    Ok(done && is_rid(alloc, place)?)
+}
+
 /// Whether a session deletes what was removed of these files.
 fn deletes(alloc: Global, files: &[Text]) -> Result<bool, BrokenOff> {
     let mut place = place_with(alloc, files)?;
-    let counts = place.counts(alloc, Part::Whole)?;
-    Ok(counts == [0, 2, 0, 0, 0, 0] && is_rid(alloc, &place)?)
+    rids(alloc, &mut place)
 }
 
 #[test]
@@ -50,12 +64,16 @@ fn files_of_removed_items_are_deleted(rt: HostRuntime) -> Result<(), Fail> {
     Ok(())
 }
 
+fn mends(alloc: Global, place: &mut Place, nth: u64, landed: bool) -> Result<bool, BrokenOff> {
+    place.target.fail(nth, landed)?;
+    Ok(place.breaks_off_once(alloc, Part::Whole) && is_rid(alloc, place)?)
+}
+
 /// Whether all comes to the same if a call fails. Nine calls are made: four for the lease, three
 /// deletes, a listing and a get.
 fn is_mended(alloc: Global, nth: u64, landed: bool) -> Result<bool, BrokenOff> {
     let mut place = place_with(alloc, &[(A, OLD_A), (B, OLD_B), (R, RESOURCE)])?;
-    place.target.fail(nth, landed)?;
-    Ok(place.breaks_off_once(alloc, Part::Whole) && is_rid(alloc, &place)?)
+    mends(alloc, &mut place, nth, landed)
 }
 
 #[test]

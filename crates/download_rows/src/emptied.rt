@@ -44,6 +44,15 @@ fn looks_emptied(alloc: Global, place: &mut Place, count: u64) -> bool {
     }
 }
 
+fn stays(
+    alloc: Global,
+    place: &mut Place,
+    count: u64,
+    standing: &Standing,
+) -> Result<bool, BrokenOff> {
+    Ok(looks_emptied(alloc, place, count) && place.has(alloc, standing)?)
+}
+
 /// Whether a client that has done these steps finds that, and keeps what it has.
 fn keeps(
     alloc: Global,
@@ -52,8 +61,7 @@ fn keeps(
     standing: &Standing,
 ) -> Result<bool, BrokenOff> {
     let mut place = Place::new(alloc, steps, &[])?;
-    let found = looks_emptied(alloc, &mut place, count);
-    Ok(found && place.has(alloc, standing)?)
+    stays(alloc, &mut place, count, standing)
 }
 
 #[test]

@@ -24,6 +24,10 @@ fn reads_the_other(alloc: Global, now: u64, seen: usize) -> Result<bool, BrokenO
     let client = Client::after(alloc, OWN, STEPS.as_slice())?;
     let target = target_at(alloc, now, 0, FILES.as_slice(), 5000)?;
     let mut place = Place { client, target };
+    reads(alloc, &mut place, seen)
+}
+
+fn reads(alloc: Global, place: &mut Place, seen: usize) -> Result<bool, BrokenOff> {
     let counts = place.counts(alloc, Part::Download)?;
     let context = &place.client.keeper.tables().context;
     let next = context.moment == 5000 && context.seen.len() == seen;

@@ -1,7 +1,8 @@
 use crate::overfull::Overfull;
+use jop_target::{MemTarget, Target};
 use std::alloc::Global;
 use std::test::Fail;
-use worked_client::{BrokenOff, Client, OWN, Part, Place, Standing, Step, counts, target_of};
+use worked_client::{BrokenOff, Client, OWN, Part, Standing, Step, counts, target_of};
 
 const R: &str = "dddddddddddddddddddddddddddddddd";
 
@@ -24,39 +25,72 @@ fn has(alloc: Global, client: &mut Client, bytes: Option<&str>) -> Result<bool, 
     }
 }
 
-/// A new client, where another has uploaded the resource with these bytes.
-fn place_with(alloc: Global, bytes: &str) -> Result<Place, BrokenOff> {
-    let mut place = Place::new(alloc, &[Step::Save(R, RESOURCE)], &[])?;
-    place.client.attach(alloc, R, bytes)?;
-    place.counts(alloc, Part::Upload)?;
-    place.client = Client::after(alloc, OTHER, &[])?;
-    Ok(place)
+/// Another client uploads the resource with these bytes.
+fn upload(alloc: Global, target: &mut MemTarget, bytes: &str) -> Result<(), BrokenOff> {
+    let mut client = Client::after(alloc, OTHER, &[Step::Save(R, RESOURCE)])?;
+    attach_and_sync(alloc, &mut client, target, bytes)
+}
+
+fn attach_and_sync(
+    alloc: Global,
+    client: &mut Client,
+    target: &mut MemTarget,
+    bytes: &str,
+) -> Result<(), BrokenOff> {
+    client.attach(alloc, R, bytes)?;
+    client.sync(alloc, target, Part::Upload)?;
+    Ok(())
+}
+
+/// A target with the resource, and these bytes of it.
+fn target_with(alloc: Global, bytes: &str) -> Result<MemTarget, BrokenOff> {
+    let mut target = target_of(alloc, &[])?;
+    upload(alloc, &mut target, bytes)?;
+    Ok(target)
+}
+
+/// Whether a new client takes the resource, with these bytes.
+fn takes<T: Target>(alloc: Global, target: &mut T, bytes: Option<&str>) -> Result<bool, BrokenOff> {
+    let mut client = Client::after(alloc, OWN, &[])?;
+    takes_it(alloc, &mut client, target, bytes)
+}
+
+fn takes_it<T: Target>(
+    alloc: Global,
+    client: &mut Client,
+    target: &mut T,
+    bytes: Option<&str>,
+) -> Result<bool, BrokenOff> {
+    let report = client.sync(alloc, target, Part::Download)?;
+    Ok(counts(&report) == [0, 0, 1, 0, 0, 0] && has(alloc, client, bytes)?)
+}
+
+fn takes_bytes(alloc: Global) -> Result<bool, BrokenOff> {
+    let mut target = target_with(alloc, "hello")?;
+    takes(alloc, &mut target, Some("hello"))
+}
+
+fn takes_it_without_bytes(alloc: Global) -> Result<bool, BrokenOff> {
+    let mut target = target_of(alloc, &[(R, RESOURCE)])?;
+    takes(alloc, &mut target, None)
+}
+
+/// The bytes are too many.
+fn takes_it_alone(alloc: Global) -> Result<bool, BrokenOff> {
+    let mut target = Overfull::over(target_of(alloc, &[(R, RESOURCE)])?);
+    takes(alloc, &mut target, None)
 }
 
 #[test]
 fn bytes_come_with_their_resource(rt: HostRuntime) -> Result<(), Fail> {
-    let alloc = rt.alloc();
-    let mut place = place_with(alloc, "hello")?;
-    assert!(rt; place.counts(alloc, Part::Download)? == [0, 0, 1, 0, 0, 0]);
-    assert!(rt; has(alloc, &mut place.client, Some("hello"))?);
+    assert!(rt; takes_bytes(rt.alloc())?);
     Ok(())
 }
 
 #[test]
 fn a_resource_without_bytes_is_taken(rt: HostRuntime) -> Result<(), Fail> {
-    let alloc = rt.alloc();
-    let mut place = Place::new(alloc, &[], &[(R, RESOURCE)])?;
-    assert!(rt; place.counts(alloc, Part::Download)? == [0, 0, 1, 0, 0, 0]);
-    assert!(rt; has(alloc, &mut place.client, None)?);
+    assert!(rt; takes_it_without_bytes(rt.alloc())?);
     Ok(())
-}
-
-/// Whether a client takes a resource without its bytes, which are too many.
-fn takes_it_alone(alloc: Global) -> Result<bool, BrokenOff> {
-    let mut client = Client::after(alloc, OWN, &[])?;
-    let mut target = Overfull::over(target_of(alloc, &[(R, RESOURCE)])?);
-    let report = client.sync(alloc, &mut target, Part::Download)?;
-    Ok(counts(&report) == [0, 0, 1, 0, 0, 0] && has(alloc, &mut client, None)?)
 }
 
 #[test]

@@ -51,39 +51,58 @@ impl Pair {
         let done = counts(&report) == [0, 0, 0, 0, 1, 0];
         Ok(done && YIELDED.is_of(alloc, self.two.keeper.tables())?)
     }
+
+    /// Whether the second to sync gives way, and the first has nothing to do then.
+    fn takes_turns(&mut self, alloc: Global) -> Result<bool, BrokenOff> {
+        let first = self.first_puts(alloc, 1)?;
+        let second = self.second_yields(alloc)?;
+        Ok(first && second && self.first_puts(alloc, 0)?)
+    }
+}
+
+fn two_take_turns(alloc: Global) -> Result<bool, BrokenOff> {
+    let mut pair = make_pair(alloc)?;
+    pair.takes_turns(alloc)
 }
 
 #[test]
 fn the_second_of_two_gives_way(rt: HostRuntime) -> Result<(), Fail> {
-    let alloc = rt.alloc();
-    let mut pair = make_pair(alloc)?;
-    assert!(rt; pair.first_puts(alloc, 1)?);
-    assert!(rt; pair.second_yields(alloc)?);
-    assert!(rt; pair.first_puts(alloc, 0)?);
+    assert!(rt; two_take_turns(rt.alloc())?);
     Ok(())
 }
 
 /// Whether a put that landed and wasn't told, the sixth call, breaks a session off, and the next
 /// one finds its own text.
-fn finds_its_own(alloc: Global) -> Result<bool, BrokenOff> {
-    let mut place = Place::new(alloc, &[Step::Save(A, MY_A)], &[])?;
+fn finds_its_own(alloc: Global, place: &mut Place) -> Result<bool, BrokenOff> {
     place.target.fail(6, true)?;
     let broken_off = place.counts(alloc, Part::Whole);
     let counts = place.counts(alloc, Part::Whole)?;
     Ok(broken_off.is_err() && counts == [0, 0, 0, 0, 0, 0] && place.has(alloc, &MINE)?)
 }
 
+fn its_own_is_found(alloc: Global) -> Result<bool, BrokenOff> {
+    let mut place = Place::new(alloc, &[Step::Save(A, MY_A)], &[])?;
+    finds_its_own(alloc, &mut place)
+}
+
 #[test]
 fn a_put_that_was_never_told_makes_no_copy(rt: HostRuntime) -> Result<(), Fail> {
-    assert!(rt; finds_its_own(rt.alloc())?);
+    assert!(rt; its_own_is_found(rt.alloc())?);
     Ok(())
 }
 
+fn notes_one(alloc: Global, place: &mut Place) -> Result<bool, BrokenOff> {
+    Ok(place.counts(alloc, Part::Whole)? == [0, 0, 0, 0, 0, 1])
+}
+
 /// Both parts of the session find that its file is no item.
+fn bad_file_is_noted(alloc: Global) -> Result<bool, BrokenOff> {
+    let mut place = Place::new(alloc, &[Step::Save(A, MY_A)], &[(A, "hello")])?;
+    notes_one(alloc, &mut place)
+}
+
 #[test]
 fn a_bad_file_is_noted_once(rt: HostRuntime) -> Result<(), Fail> {
-    let alloc = rt.alloc();
-    let mut place = Place::new(alloc, &[Step::Save(A, MY_A)], &[(A, "hello")])?;
-    assert!(rt; place.counts(alloc, Part::Whole)? == [0, 0, 0, 0, 0, 1]);
+    assert!(rt; bad_file_is_noted(rt.alloc())?);
     Ok(())
 }

@@ -201,11 +201,15 @@ struct Crossing {
     target: ScriptedTarget,
 }
 
-fn make_crossing(alloc: Global, deed: Deed, number: u64) -> Result<Crossing, BrokenOff> {
-    let client = Client::after(alloc, OWN, STEPS.as_slice())?;
-    let inner = target_of(alloc, FILES.as_slice())?;
+fn target_with(alloc: Global, deed: Deed, number: u64) -> Result<ScriptedTarget, BrokenOff> {
     let script = script(alloc, number, call_of(alloc, deed)?)?;
-    let target = ScriptedTarget::new(inner, script);
+    let inner = target_of(alloc, FILES.as_slice())?;
+    Ok(ScriptedTarget::new(inner, script))
+}
+
+fn make_crossing(alloc: Global, deed: Deed, number: u64) -> Result<Crossing, BrokenOff> {
+    let target = target_with(alloc, deed, number)?;
+    let client = Client::after(alloc, OWN, STEPS.as_slice())?;
     Ok(Crossing { client, target })
 }
 
@@ -229,15 +233,20 @@ impl Crossing {
     fn has(&self, alloc: Global, standing: &Standing) -> Result<bool, BrokenOff> {
         standing.is_of(alloc, self.client.keeper.tables())
     }
+
+    /// Whether an upload comes to what the case says.
+    fn comes_to(&mut self, alloc: Global, case: &Case) -> Result<bool, BrokenOff> {
+        let done = self.does(alloc, case.done)?;
+        let files = self.has_files(case.files.0, case.files.1)?;
+        Ok(done && files && self.has(alloc, &case.standing)?)
+    }
 }
 
 impl Case {
     /// Whether this comes of the deed right before the call of this number.
     fn is_met_at(&self, alloc: Global, number: u64) -> Result<bool, BrokenOff> {
         let mut crossing = make_crossing(alloc, self.deed, number)?;
-        let done = crossing.does(alloc, self.done)?;
-        let files = crossing.has_files(self.files.0, self.files.1)?;
-        Ok(done && files && crossing.has(alloc, &self.standing)?)
+        crossing.comes_to(alloc, self)
     }
 
     fn is_met(&self, alloc: Global) -> Result<bool, BrokenOff> {

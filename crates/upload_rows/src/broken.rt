@@ -52,20 +52,28 @@ fn comes_to_the_same(alloc: Global, place: &mut Place) -> Result<bool, BrokenOff
     Ok(once && files && place.has(alloc, &SETTLED)?)
 }
 
+fn mends(alloc: Global, place: &mut Place, nth: u64, landed: bool) -> Result<bool, BrokenOff> {
+    place.target.fail(nth, landed)?;
+    comes_to_the_same(alloc, place)
+}
+
+fn keeps(alloc: Global, place: &mut Place, nth: u64) -> Result<bool, BrokenOff> {
+    place.client.keeper.fail(nth)?;
+    comes_to_the_same(alloc, place)
+}
+
 /// Whether a call that fails, landed or not, breaks a session off and all comes to the same. Eight
 /// calls are made in one: four for the lease, three gets and a put.
 fn is_mended(alloc: Global, nth: u64, landed: bool) -> Result<bool, BrokenOff> {
     let mut place = make_place(alloc)?;
-    place.target.fail(nth, landed)?;
-    comes_to_the_same(alloc, &mut place)
+    mends(alloc, &mut place, nth, landed)
 }
 
 /// The same of a call of the keeper. Six changes were made before; a session reads the tables, and
 /// makes three.
 fn is_kept(alloc: Global, nth: u64) -> Result<bool, BrokenOff> {
     let mut place = make_place(alloc)?;
-    place.client.keeper.fail(nth)?;
-    comes_to_the_same(alloc, &mut place)
+    keeps(alloc, &mut place, nth)
 }
 
 #[test]

@@ -24,25 +24,38 @@ fn has(place: &Place, size: Option<u64>, text: Option<&'static str>) -> Result<b
     Ok(size_of(tree, R)? == size && holds(tree, R, text)?)
 }
 
-/// The sixth call puts the bytes, and the seventh the item.
+/// Whether an upload that fails at the item puts the bytes alone, and the next one the item. The
+/// sixth call puts the bytes, and the seventh the item.
+fn puts_bytes_first(alloc: Global, place: &mut Place) -> Result<bool, BrokenOff> {
+    place.target.fail(7, false)?;
+    let bytes_alone = ends(alloc, place, false) && has(place, Some(5), None)?;
+    Ok(bytes_alone && ends(alloc, place, true) && has(place, Some(5), Some(RESOURCE))?)
+}
+
+/// Whether an upload that fails at the bytes puts nothing.
+fn stops_at_bytes(alloc: Global, place: &mut Place) -> Result<bool, BrokenOff> {
+    place.target.fail(6, false)?;
+    Ok(ends(alloc, place, false) && has(place, None, None)?)
+}
+
+fn bytes_come_first(alloc: Global) -> Result<bool, BrokenOff> {
+    let mut place = make_place(alloc)?;
+    puts_bytes_first(alloc, &mut place)
+}
+
+fn bytes_are_needed(alloc: Global) -> Result<bool, BrokenOff> {
+    let mut place = make_place(alloc)?;
+    stops_at_bytes(alloc, &mut place)
+}
+
 #[test]
 fn bytes_are_put_before_their_resource(rt: HostRuntime) -> Result<(), Fail> {
-    let alloc = rt.alloc();
-    let mut place = make_place(alloc)?;
-    place.target.fail(7, false)?;
-    assert!(rt; ends(alloc, &mut place, false));
-    assert!(rt; has(&place, Some(5), None)?);
-    assert!(rt; ends(alloc, &mut place, true));
-    assert!(rt; has(&place, Some(5), Some(RESOURCE))?);
+    assert!(rt; bytes_come_first(rt.alloc())?);
     Ok(())
 }
 
 #[test]
 fn a_resource_is_not_put_without_its_bytes(rt: HostRuntime) -> Result<(), Fail> {
-    let alloc = rt.alloc();
-    let mut place = make_place(alloc)?;
-    place.target.fail(6, false)?;
-    assert!(rt; ends(alloc, &mut place, false));
-    assert!(rt; has(&place, None, None)?);
+    assert!(rt; bytes_are_needed(rt.alloc())?);
     Ok(())
 }

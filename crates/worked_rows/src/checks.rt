@@ -1,12 +1,40 @@
-use crate::ran::{Ran, run_once, words_of};
-use jop_base::{Bytes, Id, LockKind, LockName, MemSink, Path};
-use jop_cli::{Status, Words};
+use crate::ran::{Due, Ran, run_once, run_over};
+use jop_base::{Bytes, Id, LockKind, LockName, MemSink, MemSource, Path};
+use jop_cli::Status;
 use jop_target::MemTarget;
 use lease::Seen;
 use std::alloc::{AllocError, Global};
 use std::test::Fail;
 
 const ONE: &str = "11111111111111111111111111111111";
+
+const TWO: &str = "22222222222222222222222222222222";
+
+const CHECK: [&str; 3] = ["check", "mem:", ONE];
+
+const FREE: Due = Due {
+    exit: 0,
+    out: "free\n",
+    err: "",
+};
+
+const BUSY: Due = Due {
+    exit: 3,
+    out: "",
+    err: "busy 2_3_22222222222222222222222222222222.json 1000\n",
+};
+
+const TARGET_FAULT: Due = Due {
+    exit: 9,
+    out: "",
+    err: "target fault\n",
+};
+
+const OUTPUT_FAULT: Due = Due {
+    exit: 12,
+    out: "",
+    err: "output fault\n",
+};
 
 /// The trail of a check that went well.
 const WHOLE_CHECK: &str = concat!(
@@ -19,154 +47,167 @@ const WHOLE_CHECK: &str = concat!(
     "ended\n"
 );
 
-const TWO: &[u8] = b"22222222222222222222222222222222";
+const BUSY_CHECK: &str = concat!(
+    "began\n",
+    "make locks/: done at 180998\n",
+    "list locks/: listed at 180999, locks/2_3_22222222222222222222222222222222.json of 1000\n",
+    "ended\n"
+);
 
-fn check_words(alloc: Global) -> Result<Words, AllocError> {
-    words_of(alloc, &["check", "mem:", ONE])
-}
+const FAILED_CHECK: &str = concat!(
+    "began\n",
+    "make locks/: done at 0\n",
+    "list locks/: listed at 1\n",
+    "put locks/1_3_11111111111111111111111111111111.json, 71 bytes: failed\n",
+    "ended\n"
+);
 
-fn lock(kind: LockKind, client: &[u8]) -> Result<Path, Fail> {
+fn lock(kind: LockKind, client: &str) -> Result<Path, Fail> {
     Ok(Path::Lock(LockName {
         kind,
         client_type: 3,
-        client: Id::read(client).ok_or("an id")?,
+        client: Id::read(client.as_bytes()).ok_or("an id")?,
     }))
 }
 
-/// A check over this target, whose sink takes everything.
-fn check(alloc: Global, target: &mut MemTarget) -> Result<Ran, AllocError> {
-    run_once(
+/// A target with this lock of 1000, whose next moment is this one.
+fn target_with(alloc: Global, path: Path, next: u64) -> Result<MemTarget, AllocError> {
+    let mut target = MemTarget::new(alloc, next, 1);
+    target.place(path, Bytes::new(alloc), 1000)?;
+    Ok(target)
+}
+
+/// Whether a check of this target comes to that, by these events, and leaves so many files there.
+fn check(
+    alloc: Global,
+    target: &mut MemTarget,
+    due: &Due,
+    trail: &str,
+    left: usize,
+) -> Result<bool, AllocError> {
+    let ran = run_once(alloc, &CHECK, target)?;
+    let files = target.tree().files.len();
+    Ok(ran.is(due) && ran.trail.as_str() == trail && files == left)
+}
+
+fn takes_a_lock(alloc: Global) -> Result<bool, AllocError> {
+    check(
         alloc,
-        &check_words(alloc)?,
-        target,
-        &mut MemSink::new(alloc),
+        &mut MemTarget::new(alloc, 0, 1),
+        &FREE,
+        WHOLE_CHECK,
+        0,
     )
 }
 
 #[test]
 fn takes_a_lock_lists_again_and_releases_it(rt: HostRuntime) -> Result<(), Fail> {
-    let alloc = rt.alloc();
-    let mut out = MemSink::new(alloc);
-    let mut target = MemTarget::new(alloc, 0, 1);
-    let ran = run_once(alloc, &check_words(alloc)?, &mut target, &mut out)?;
-    assert_eq!(rt; ran.status.exit(), 0);
-    assert_eq!(rt; out.written.as_slice(), b"free\n".as_slice());
-    assert!(rt; ran.err.written.is_empty());
-    assert_eq!(rt; ran.trail.as_str(), WHOLE_CHECK);
+    assert!(rt; takes_a_lock(rt.alloc())?);
     Ok(())
+}
+
+fn finds_a_lock(alloc: Global) -> Result<bool, Fail> {
+    let mut target = target_with(alloc, lock(LockKind::Exclusive, TWO)?, 180_998)?;
+    Ok(check(alloc, &mut target, &BUSY, BUSY_CHECK, 1)?)
 }
 
 #[test]
 fn names_the_live_lock_in_the_way(rt: HostRuntime) -> Result<(), Fail> {
-    let alloc = rt.alloc();
-    let other = lock(LockKind::Exclusive, TWO)?;
-    let mut target = MemTarget::new(alloc, 180_998, 1);
-    target.place(other, Bytes::new(alloc), 1000)?;
-    let busy = check(alloc, &mut target)?;
-    assert_eq!(rt; busy.status.exit(), 3);
-    assert_eq!(rt;
-        busy.err.written.as_slice(),
-        b"busy 2_3_22222222222222222222222222222222.json 1000\n".as_slice()
-    );
-    assert_eq!(rt;
-        busy.trail.as_str(),
-        concat!(
-            "began\n",
-            "make locks/: done at 180998\n",
-            "list locks/: listed at 180999, locks/2_3_22222222222222222222222222222222.json of 1000\n",
-            "ended\n"
-        )
-    );
+    assert!(rt; finds_a_lock(rt.alloc())?);
     Ok(())
+}
+
+/// Whether a target with this lock of 1000 is free from this moment on, and so many files are left.
+fn is_free(alloc: Global, path: Path, next: u64, left: usize) -> Result<bool, AllocError> {
+    let mut target = target_with(alloc, path, next)?;
+    let free = run_once(alloc, &CHECK, &mut target)?.is(&FREE);
+    Ok(free && target.tree().files.len() == left)
 }
 
 #[test]
 fn passes_by_a_lock_at_the_end_of_its_life(rt: HostRuntime) -> Result<(), Fail> {
-    let alloc = rt.alloc();
-    let other = lock(LockKind::Exclusive, TWO)?;
-    let mut target = MemTarget::new(alloc, 180_999, 1);
-    target.place(other, Bytes::new(alloc), 1000)?;
-    assert_eq!(rt; check(alloc, &mut target)?.status, Status::Ok);
+    assert!(rt; is_free(rt.alloc(), lock(LockKind::Exclusive, TWO)?, 180_999, 1)?);
     Ok(())
 }
 
 #[test]
 fn overwrites_its_own_leftover(rt: HostRuntime) -> Result<(), Fail> {
-    let alloc = rt.alloc();
-    let own = lock(LockKind::Sync, ONE.as_bytes())?;
-    let mut target = MemTarget::new(alloc, 500, 1);
-    target.place(own, Bytes::new(alloc), 10)?;
-    assert_eq!(rt; check(alloc, &mut target)?.status, Status::Ok);
-    assert!(rt; target.tree().files.is_empty());
+    assert!(rt; is_free(rt.alloc(), lock(LockKind::Sync, ONE)?, 1500, 0)?);
     Ok(())
+}
+
+fn stops_at_the_third_call(alloc: Global) -> Result<bool, AllocError> {
+    let mut target = MemTarget::new(alloc, 0, 1);
+    target.fail(3, true)?;
+    check(alloc, &mut target, &TARGET_FAULT, FAILED_CHECK, 1)
 }
 
 #[test]
 fn calls_nothing_more_after_a_failed_call(rt: HostRuntime) -> Result<(), Fail> {
-    let alloc = rt.alloc();
-    let mut target = MemTarget::new(alloc, 0, 1);
-    target.fail(3, true)?;
-    let ran = check(alloc, &mut target)?;
-    assert_eq!(rt; ran.status.exit(), 9);
-    assert_eq!(rt; ran.err.written.as_slice(), b"target fault\n".as_slice());
-    assert_eq!(rt;
-        ran.trail.as_str(),
-        concat!(
-            "began\n",
-            "make locks/: done at 0\n",
-            "list locks/: listed at 1\n",
-            "put locks/1_3_11111111111111111111111111111111.json, 71 bytes: failed\n",
-            "ended\n"
-        )
-    );
-    assert_eq!(rt; target.tree().files.len(), 1);
+    assert!(rt; stops_at_the_third_call(rt.alloc())?);
     Ok(())
+}
+
+/// Whether these words mean nothing, and nothing is called.
+fn means_nothing(alloc: Global, list: &[&str]) -> Result<bool, AllocError> {
+    let ran = run_once(alloc, list, &mut MemTarget::new(alloc, 0, 1))?;
+    Ok(ran.status.exit() == 2 && ran.trail.is_empty())
 }
 
 #[test]
 fn refuses_words_that_mean_nothing(rt: HostRuntime) -> Result<(), Fail> {
-    let alloc = rt.alloc();
-    let none = words_of(alloc, &[])?;
-    let few = words_of(alloc, &["check", "mem:"])?;
-    for words in [none, few] {
-        let mut target = MemTarget::new(alloc, 0, 1);
-        let ran = run_once(alloc, &words, &mut target, &mut MemSink::new(alloc))?;
-        assert_eq!(rt; ran.status.exit(), 2);
-        assert!(rt; ran.trail.is_empty());
-    }
+    assert!(rt; means_nothing(rt.alloc(), &[])?);
+    assert!(rt; means_nothing(rt.alloc(), &["check", "mem:"])?);
     Ok(())
 }
 
-#[test]
-fn loses_a_lease_that_is_shown_too_late(rt: HostRuntime) -> Result<(), Fail> {
-    let alloc = rt.alloc();
-    let lost = check(alloc, &mut MemTarget::new(alloc, 0, 60_000))?;
+/// Whether the lease is lost as a listing of 180,000 shows it, and its lock is deleted.
+fn has_lost(ran: &Ran) -> bool {
     let seen = Seen {
         own: Some(120_000),
         now: 180_000,
         old_end: None,
     };
-    assert_eq!(rt; lost.status, Status::LeaseLost(seen));
-    assert_eq!(rt; lost.err.written.as_slice(), b"lease lost\n".as_slice());
-    assert!(rt;
-        lost.trail.as_str().ends_with(
-            "delete locks/1_3_11111111111111111111111111111111.json: done at 240000\nended\n"
-        )
-    );
-    let kept = check(alloc, &mut MemTarget::new(alloc, 0, 59_999))?;
-    assert_eq!(rt; kept.status.exit(), 0);
+    let deleted = "delete locks/1_3_11111111111111111111111111111111.json: done at 240000\nended\n";
+    ran.status == Status::LeaseLost(seen)
+        && ran.err.written.as_slice() == b"lease lost\n".as_slice()
+        && ran.trail.as_str().ends_with(deleted)
+}
+
+fn loses_its_lease(alloc: Global) -> Result<bool, AllocError> {
+    let ran = run_once(alloc, &CHECK, &mut MemTarget::new(alloc, 0, 60_000))?;
+    Ok(has_lost(&ran))
+}
+
+fn keeps_its_lease(alloc: Global) -> Result<bool, AllocError> {
+    let ran = run_once(alloc, &CHECK, &mut MemTarget::new(alloc, 0, 59_999))?;
+    Ok(ran.is(&FREE))
+}
+
+#[test]
+fn loses_a_lease_that_is_shown_too_late(rt: HostRuntime) -> Result<(), Fail> {
+    assert!(rt; loses_its_lease(rt.alloc())?);
+    assert!(rt; keeps_its_lease(rt.alloc())?);
     Ok(())
+}
+
+/// An output whose first write fails.
+fn failing_sink(alloc: Global) -> Result<MemSink, AllocError> {
+    let mut out = MemSink::new(alloc);
+    out.fail(1)?;
+    Ok(out)
+}
+
+fn tells_its_output_failed(alloc: Global) -> Result<bool, AllocError> {
+    let out = failing_sink(alloc)?;
+    let mut target = MemTarget::new(alloc, 0, 1);
+    let mut input = MemSource::new(alloc, Bytes::new(alloc));
+    let told = run_over(alloc, &CHECK, &mut target, &mut input, out)?.is(&OUTPUT_FAULT);
+    Ok(told && target.tree().files.is_empty())
 }
 
 #[test]
 fn tells_a_failed_write_after_the_release(rt: HostRuntime) -> Result<(), Fail> {
-    let alloc = rt.alloc();
-    let mut out = MemSink::new(alloc);
-    out.fail(1)?;
-    let mut target = MemTarget::new(alloc, 0, 1);
-    let ran = run_once(alloc, &check_words(alloc)?, &mut target, &mut out)?;
-    assert_eq!(rt; ran.status.exit(), 12);
-    assert!(rt; out.written.is_empty());
-    assert!(rt; target.tree().files.is_empty());
+    assert!(rt; tells_its_output_failed(rt.alloc())?);
     Ok(())
 }

@@ -4,15 +4,34 @@ use jop_target::{Diary, Event, MemTarget};
 use local_store::{Changes, MemKeeper};
 use std::alloc::{AllocError, Global};
 
-/// What a run came to: its status, what it wrote on standard error, and its trail.
+/// What a run came to: its status, what it wrote on standard output and standard error, and its
+/// trail.
 #[derive(Drop)]
 pub(crate) struct Ran {
     pub status: Status,
+    pub out: MemSink,
     pub err: MemSink,
     pub trail: String,
 }
 
-pub(crate) fn words_of(alloc: Global, list: &[&str]) -> Result<Words, AllocError> {
+/// What is to come of a run: its exit status, and what it writes.
+#[derive(Clone, Copy)]
+pub(crate) struct Due {
+    pub exit: u8,
+    pub out: &'static str,
+    pub err: &'static str,
+}
+
+impl Ran {
+    /// Whether it came to that.
+    pub(crate) fn is(&self, due: &Due) -> bool {
+        self.status.exit() == due.exit
+            && self.out.written.as_slice() == due.out.as_bytes()
+            && self.err.written.as_slice() == due.err.as_bytes()
+    }
+}
+
+fn words_of(alloc: Global, list: &[&str]) -> Result<Words, AllocError> {
     let mut words = Seq::new(alloc);
     for word in list {
         words.push(Text::of(alloc, word)?)?;
@@ -20,60 +39,66 @@ pub(crate) fn words_of(alloc: Global, list: &[&str]) -> Result<Words, AllocError
     Ok(Words { list: words })
 }
 
-/// Runs the program once, with an empty input and an empty diary.
-pub(crate) fn run_once(
-    alloc: Global,
-    words: &Words,
-    target: &mut MemTarget,
-    out: &mut MemSink,
-) -> Result<Ran, AllocError> {
-    let mut input = MemSource::new(alloc, Bytes::new(alloc));
-    run_over(alloc, words, target, &mut input, out)
-}
-
-/// Runs the program once over this input, with an empty diary.
-pub(crate) fn run_over(
-    alloc: Global,
-    words: &Words,
-    target: &mut MemTarget,
-    input: &mut MemSource,
-    out: &mut MemSink,
-) -> Result<Ran, AllocError> {
-    let mut keeper = MemKeeper::new(alloc);
-    run_kept(alloc, words, &mut keeper, target, input, out)
-}
-
-/// Runs the program once over these tables and this input, with an empty diary. The random source
-/// gives the bytes 0 to 15, and then fails.
-pub(crate) fn run_kept(
-    alloc: Global,
-    words: &Words,
-    keeper: &mut MemKeeper,
-    target: &mut MemTarget,
-    input: &mut MemSource,
-    out: &mut MemSink,
-) -> Result<Ran, AllocError> {
+/// The random source gives the bytes 0 to 15, and then fails.
+fn random_bytes(alloc: Global) -> Result<MemEntropy, AllocError> {
     let mut random = Bytes::new(alloc);
     random.append(&[0, 1, 2, 3, 4, 5, 6, 7, 8, 9, 10, 11, 12, 13, 14, 15])?;
-    let mut entropy = MemEntropy::new(alloc, random);
+    Ok(MemEntropy::new(alloc, random))
+}
+
+/// Runs the program once, with an empty input.
+pub(crate) fn run_once(
+    alloc: Global,
+    list: &[&str],
+    target: &mut MemTarget,
+) -> Result<Ran, AllocError> {
+    let mut input = MemSource::new(alloc, Bytes::new(alloc));
+    run_over(alloc, list, target, &mut input, MemSink::new(alloc))
+}
+
+/// Runs the program once over this input and this output, with no tables and an empty diary.
+pub(crate) fn run_over(
+    alloc: Global,
+    list: &[&str],
+    target: &mut MemTarget,
+    input: &mut MemSource,
+    out: MemSink,
+) -> Result<Ran, AllocError> {
+    let words = words_of(alloc, list)?;
+    let mut entropy = random_bytes(alloc)?;
+    obey(alloc, &words, target, input, out, &mut entropy)
+}
+
+fn obey(
+    alloc: Global,
+    words: &Words,
+    target: &mut MemTarget,
+    input: &mut MemSource,
+    mut out: MemSink,
+    entropy: &mut MemEntropy,
+) -> Result<Ran, AllocError> {
     let mut err = MemSink::new(alloc);
     let mut diary = Diary::new(alloc);
-    let mut made = Changes::new(alloc);
     let status = run(
         alloc,
         words,
-        keeper,
+        &mut MemKeeper::new(alloc),
         target,
         input,
-        out,
+        &mut out,
         &mut err,
         &mut MemClock::new(alloc, 1, 1),
-        &mut entropy,
+        entropy,
         &mut diary,
-        &mut made,
+        &mut Changes::new(alloc),
     );
     let trail = trail_text(alloc, diary.events())?;
-    Ok(Ran { status, err, trail })
+    Ok(Ran {
+        status,
+        out,
+        err,
+        trail,
+    })
 }
 
 /// The events of a trail, one a line.

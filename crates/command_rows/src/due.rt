@@ -1,0 +1,50 @@
+use crate::client::Client;
+use jop_target::MemTarget;
+use local_store::Keeper;
+use std::alloc::{AllocError, Global};
+
+/// A command, and what is to become of it: its words, its input, its exit status, and what it writes,
+/// in which `~` stands for a line feed.
+#[derive(Clone, Copy)]
+pub(crate) struct Due<'a> {
+    pub words: &'a str,
+    pub input: &'a str,
+    exit: &'a str,
+    text: &'a str,
+}
+
+/// A line that says so, with `|` between each two.
+pub(crate) fn read_due(line: &str) -> Due<'_> {
+    let mut parts = line.split('|');
+    Due {
+        words: parts.next().unwrap_or(""),
+        input: parts.next().unwrap_or(""),
+        exit: parts.next().unwrap_or(""),
+        text: parts.next().unwrap_or(""),
+    }
+}
+
+/// Whether this was written, with `~` for each line feed.
+fn is_written(written: &[u8], due: &str) -> bool {
+    written.len() == due.len()
+        && written.iter().zip(due.as_bytes()).all(|(byte, other)| byte == other
+            || (*byte == b'\n' && *other == b'~'))
+}
+
+/// Whether it ended so, and wrote that.
+pub(crate) fn has_come_out<K: Keeper>(client: &Client<K>, exit: u8, due: &Due) -> bool {
+    let written = if exit == 0 { &client.out } else { &client.err };
+    due.exit.parse() == Ok(exit) && is_written(written.written.as_slice(), due.text)
+}
+
+/// Plays the command that a line says, on this target: whether it came out as it is to.
+pub(crate) fn comes_out<K: Keeper>(
+    client: &mut Client<K>,
+    alloc: Global,
+    target: &mut MemTarget,
+    line: &str,
+) -> Result<bool, AllocError> {
+    let due = read_due(line);
+    let exit = client.play_on(alloc, target, due.words, due.input.as_bytes())?;
+    Ok(has_come_out(client, exit, &due))
+}
