@@ -1,6 +1,6 @@
 use jop_base::{Bytes, Id, LockKind, LockName, Path};
 use jop_target::{Diary, MemTarget, TargetLine};
-use lease::{Lease, LeaseErr, Lock, acquire, release};
+use lease::{Lease, LeaseErr, Lock, acquire};
 use std::alloc::Global;
 use std::test::Fail;
 
@@ -42,32 +42,43 @@ fn go_for_an_upgrade(
     Ok(acquire(alloc, &mut line, LockKind::Exclusive, &id(ONE)?))
 }
 
-#[test]
-fn takes_an_exclusive_lock(rt: HostRuntime) -> Result<(), Fail> {
-    let alloc = rt.alloc();
-    let mut target = MemTarget::new(alloc, 0, 1);
+fn is_taken(alloc: Global) -> Result<bool, Fail> {
     let lease = Lease {
         client: id(ONE)?,
         kind: LockKind::Exclusive,
         stamp: 2,
     };
-    assert_eq!(rt; go_for_an_upgrade(alloc, &mut target)?, Ok(lease));
-    assert_eq!(rt; target.tree().files.len(), 1);
-    Ok(())
+    let mut target = MemTarget::new(alloc, 0, 1);
+    let taken = go_for_an_upgrade(alloc, &mut target)? == Ok(lease);
+    Ok(taken && target.tree().files.len() == 1)
 }
 
 #[test]
-fn finds_a_sync_lock_in_the_way_to_the_end_of_its_life(rt: HostRuntime) -> Result<(), Fail> {
-    let alloc = rt.alloc();
+fn takes_an_exclusive_lock(rt: HostRuntime) -> Result<(), Fail> {
+    assert!(rt; is_taken(rt.alloc())?);
+    Ok(())
+}
+
+/// Whether the sync lock is in the way of a client whose first call has this moment, and its second
+/// one that.
+fn is_in_the_way(alloc: Global, first: u64, now: u64) -> Result<bool, Fail> {
     let lock = Lock {
         name: lock_name(LockKind::Sync, TWO)?,
         stamp: 5000,
     };
-    let mut busy = behind_a_sync_lock(alloc, 184_998)?;
-    let busy_err = LeaseErr::Busy { lock, now: 184_999 };
-    assert_eq!(rt; go_for_an_upgrade(alloc, &mut busy)?, Err(busy_err));
-    let mut free = behind_a_sync_lock(alloc, 184_999)?;
-    assert!(rt; go_for_an_upgrade(alloc, &mut free)?.is_ok());
+    let mut target = behind_a_sync_lock(alloc, first)?;
+    Ok(go_for_an_upgrade(alloc, &mut target)? == Err(LeaseErr::Busy { lock, now }))
+}
+
+fn is_free(alloc: Global, first: u64) -> Result<bool, Fail> {
+    let mut target = behind_a_sync_lock(alloc, first)?;
+    Ok(go_for_an_upgrade(alloc, &mut target)?.is_ok())
+}
+
+#[test]
+fn finds_a_sync_lock_in_the_way_to_the_end_of_its_life(rt: HostRuntime) -> Result<(), Fail> {
+    assert!(rt; is_in_the_way(rt.alloc(), 184_998, 184_999)?);
+    assert!(rt; is_free(rt.alloc(), 184_999)?);
     Ok(())
 }
 
