@@ -1,6 +1,3 @@
-ghost use Rattle.std.specs.Prelude.{◌≤◌};
-ghost use Rattle.jop_base.specs.Times.{last_time};
-
 use crate::texts::{A, B, OLD_A, OLD_B, THEIR_A};
 use std::alloc::Global;
 use std::test::Fail;

@@ -1,4 +1,4 @@
-ghost use Rattle.std.specs.Prelude.{◌≡◌, OnOk};
+ghost use Rattle.std.specs.Prelude.{OnOk};
 ghost use Rattle.lease.specs.Standing.{IsSameBut};
 ghost use Rattle.session_steps.specs.Doing.{Ends};
 ghost use Rattle.session_steps.specs.Work.{IsReady, work};

@@ -1,6 +1,3 @@
-ghost use Rattle.std.specs.Prelude.{◌≡◌, false};
-ghost use Rattle.local_store.specs.Sound.{IsSound};
-
 use crate::broken_off::BrokenOff;
 use crate::files::bytes_of;
 use crate::parts::{Part, work};
