@@ -18,8 +18,7 @@ returns-clause-exchanges g c =
     let b = work (g.S.Desk.desk c.send.new.site) c.send.new.lease c.send.new.report in
     let d = work (g.S.Desk.desk c.apply_page.new.site) c.apply_page.new.lease
     c.apply_page.new.report in
-    let does = c.in_ok-apply_page.ensures.ends in
-    (
+    let does = c.in_ok-apply_page.ensures.ends in (
       exchanges_both (work (g.S.Desk.desk c.args.site.now) c.args.lease.now c.args.report.now) b d
           c.in_ok-send.ensures.sends does,
       leaves_nothing_behind is_download b d does.went does.told tt
