@@ -329,3 +329,28 @@ agrees_saved mid new id bytes len h stored agree = λ other none s k told_store 
     (λ same. subst (λ (x : List ℕ). bytes ≡ bytes_of s.contents.blobs x) same
     (subst (λ (x : Option Store). IsBlobOf (contents_in x) (GetBlob id) bytes) told stored))
     (λ differ. agree other (not_owed (bytes_eq id other) differ) s before.0 told before.1 was_moved))
+
+-- ---- a lease's own calls
+
+leased_from : (client : List ℕ) (o n : Option Store) (more : List Event) (s : Store)
+    → All (IsLeaseEvent client) more → TellsRun o more n → n ≡ Some s
+    → (was : Store) × (o ≡ Some was) × (s.contents.blobs ≡ was.contents.blobs)
+leased_from client None n more s each run told = let silent = run in absurd cc
+leased_from client (Some was) n more s each run told =
+    let is : run.0 ≡ s = let now = run.1 in cc in
+    (
+      was,
+      refl,
+      ap (λ (x : Store). x.contents.blobs) (sym is) ∙ lease_leads client was more run.0 each run.2,
+    )
+
+pub agrees_leased : (client : List ℕ) (old new : DeskNow) → IsSameDesk old new
+    → Continues (IsLeaseEvent client) old.line new.line
+    → session_calls new.line.trail ≡ session_calls old.line.trail → AgreeBut [] old
+    → AgreeBut [] new
+agrees_leased client old new same goes calls agree = λ id none s k told_store told_kept was.
+    let from = leased_from client old.line.target.store new.line.target.store goes.more s goes.each
+    goes.store told_store in
+    agree id none from.0 k from.1 (ap (λ (x : KeeperNow). x.kept) (sym same.keeper) ∙ told_kept)
+    (ap (moved id) (sym calls) ∙ was)
+    ∙ ap (λ (x : List BlobBytes). Some (bytes_of x id)) (sym from.2)
