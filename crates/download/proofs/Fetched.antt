@@ -83,7 +83,7 @@ pub asked_some : (id bytes : List ℕ) (known : Option Shown) (old mid new : Des
     (before after : Lease) (r : SyncReport) (result : Result (Unit {0}) StepErr)
     → (a : IsAnswered (GetBlob id) old mid)
     → IsHeardBy is_download (GetBlob id) old before mid after → is_blob a.reply ≡ true
-    → AreBytesOf mid.line.trail (GetBlob id) bytes → IsTidy new → Saves id bytes mid result new
+    → AreBytesOf mid (GetBlob id) bytes → IsTidy new → Saves id bytes mid result new
     → Ends (GetsBytes id true) is_download (work_by known old before r) result
     (work_by known new after r)
 asked_some id bytes known old mid new before after r result a heard some long tidy saves =
@@ -95,13 +95,13 @@ asked_some id bytes known old mid new before after r result a heard some long ti
     (subst (λ (left : List Told). DoesTo Working left (GetsBytes id true) is_download
     (work_by known old before r) (work_by known mid after r)) l.told
     (asked id known old mid before after r a heard))
-    (long l.now l.len ends) tidy saves
+    (long l.now l.len ends).0 (long l.now l.len ends).1 tidy saves
 
 pub asked_unsaved : (id bytes : List ℕ) (known : Option Shown) (old mid new : DeskNow)
     (before after : Lease) (r : SyncReport) (e : StepErr)
     → (a : IsAnswered (GetBlob id) old mid)
     → IsHeardBy is_download (GetBlob id) old before mid after → is_blob a.reply ≡ true
-    → AreBytesOf mid.line.trail (GetBlob id) bytes → IsTidy new → Saves id bytes mid (Err e) new
+    → AreBytesOf mid (GetBlob id) bytes → IsTidy new → Saves id bytes mid (Err e) new
     → GivesUp is_download (work_by known old before r) e (work_by known new after r)
 asked_unsaved id bytes known old mid new before after r e a heard some long tidy saves =
     asked_some id bytes known old mid new before after r (Err e) a heard some long tidy saves

@@ -54,6 +54,7 @@ does_forgot P sort a known d l r h = record {
   stands = h.stands;
   sees = λ shown fits. tt;
   owes = h.owes;
+  agrees = h.agrees;
   heard = h.heard;
   well = h.well;
   ready = h.ready;

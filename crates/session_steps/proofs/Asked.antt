@@ -42,6 +42,8 @@ use Rattle.local_store.specs.Sound.{IsSound}
 use Rattle.local_store.specs.declared.change.Change.{Change}
 use Rattle.local_store.specs.declared.tables.Tables.{Tables}
 use Rattle.session_steps.proofs.Saves.{blobs_got-append, blobs_got-locks}
+use Rattle.session_steps.proofs.Agreeing.{agrees_asked, blob_stays}
+use Rattle.session_steps.specs.Agreeing.{IsKeptFor}
 use Rattle.session_steps.proofs.LockDeeds.{AreCalls, AreCalls-append, AreCalls-locks, AreLocks, AreWork-calls, ToldLocks, but_locks-locks, changes_in-calls, obeys-locks, reported-locks, told_locks, view_from-locks, works_by-idle}
 use Rattle.session_steps.proofs.NoFailed.{none_failed}
 use Rattle.session_steps.proofs.Seen.{but_locks-append, reported-append}
@@ -374,11 +376,12 @@ pub asked_ok : (sort : Call → Bool) (old new : DeskNow) (before after : Lease)
     → IsSameDesk old new → IsSameBut before after → IsTidy old
     → is_working (role_of before.client call) ≡ true → is_about_locks call ≡ false
     → IsCallable call blob → ((shown : Option Shown) → MayCall (view_of shown old) call)
-    → sort call ≡ true → HasWorked before after call blob old.line new.line bytes
+    → IsKeptFor old.keeper.kept call blob → sort call ≡ true
+    → HasWorked before after call blob old.line new.line bytes
     → IsHeardBy sort call old before new after
 unfolding went_by reported view_from
-asked_ok sort old new before after call blob bytes same but tidy working about callable may sorted
-    h reply r s ends noted =
+asked_ok sort old new before after call blob bytes same but tidy working about callable may kept
+    sorted h reply r s ends noted =
     let client = before.client in
     let mid = h.called.mid in
     let ready = h.called.ready in
@@ -404,6 +407,9 @@ asked_ok sort old new before after call blob bytes same but tidy working about c
           (view_from-locks client v locks.deeds locks.locks));
       sees = λ shown fits. tt;
       owes = got-last client locks.deeds call reply locks.locks;
+      agrees = agrees_asked client old new mid call blob bytes reply same ready.goes.line answered
+          (subst (λ (x : Reply). ¬ (x ≡ Failed)) told h.heard)
+          (calls_answered client old mid new.line call reply ready.goes answered.trail) about kept;
       heard =
           let last : List Deed = Asks call (Some reply) ∷ [] in
           none-failed old.line new.line after (length old.made) (locks.deeds ++ last)
@@ -416,14 +422,20 @@ asked_ok sort old new before after call blob bytes same but tidy working about c
 -- its bytes are as many as the reply tells
 pub are_bytes : (old new : DeskNow) (before after : Lease) (call : Call) (blob bytes : List ℕ)
     → HasWorked before after call blob old.line new.line bytes
-    → AreBytesOf new.line.trail call bytes
+    → AreBytesOf new call bytes
 are_bytes old new before after call blob bytes h now len ends =
     let mid = h.called.mid in
     let told : h.reply ≡ GotBlob now len =
     one_reply new.line.trail call call h.reply (GotBlob now len)
     (mid.trail, h.called.answered.trail) ends in
-    (subst (λ (x : Reply). KeepsBlob (contents_in mid.target.store) call blob (Ok x) bytes) told
-    h.called.answered.blob).0
+    let keeps =
+    subst (λ (x : Reply). KeepsBlob (contents_in mid.target.store) call blob (Ok x) bytes) told
+    h.called.answered.blob in
+    (
+      keeps.0,
+      blob_stays mid.target.store new.line.target.store call blob bytes h.reply
+          h.called.answered.answers keeps.1,
+    )
 
 pub is_answered : (old new : DeskNow) (before after : Lease) (call : Call) (blob bytes : List ℕ)
     → HasWorked before after call blob old.line new.line bytes

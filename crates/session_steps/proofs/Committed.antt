@@ -30,6 +30,7 @@ use Rattle.local_store.specs.Sound.{IsAllowed, IsSound}
 use Rattle.local_store.specs.declared.change.Change.{Change}
 use Rattle.local_store.specs.declared.tables.Tables.{Tables}
 use Rattle.session_steps.proofs.Asked.{kept-same, tables-same}
+use Rattle.session_steps.proofs.Agreeing.{agrees_made}
 use Rattle.session_steps.specs.Doing.{IsTold, KeeperFails, DoesTo, Stops, Went}
 use Rattle.session_steps.specs.Parts.{Any, Changes, but_locks}
 use Rattle.session_steps.specs.Reported.{reported}
@@ -144,6 +145,8 @@ does_made known sort old new lease r s change h well allowed may count held =
       stands = λ shown. refl;
       sees = λ shown fits. fits;
       owes = refl;
+      agrees = agrees_made old new change h.made.kept (ap (λ (l : LineNow). l.target) h.made.line)
+          (calls_made old.line.trail new.line.trail n trail);
       heard = refl;
       well = well;
       ready = record {

@@ -230,6 +230,7 @@ does_then P Q sort a b c h k =
           (sym (view_from-append v ds es ∙ ap (λ (w : View). view_from w es) at))
           (k.sees (view_from v ds).shown (h.sees shown fits));
       owes = k.owes;
+      agrees = λ agree. k.agrees (h.agrees agree);
       heard =
           ap has_failed both
           ∙ (has_failed-append (events_of n ds) (events_of (length b.desk.made) es)

@@ -102,6 +102,7 @@ does_knowing there left call reply sort known then old new before after r s sees
       (sym (shown_behind (view_of shown old) call reply h.went.deeds (h.part shown)))
       (sees shown fits);
   owes = h.owes;
+  agrees = h.agrees;
   heard = h.heard;
   well = h.well;
   ready = h.ready;

@@ -4,6 +4,7 @@ pub mod Joins
 pub mod LockDeeds
 pub mod NoFailed
 pub mod Saves
+pub mod Agreeing
 pub mod Asked
 pub mod Committed
 pub mod Ending

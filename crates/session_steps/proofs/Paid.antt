@@ -19,6 +19,9 @@ use Rattle.local_store.specs.Keepers.{Kept, with_blob}
 use Rattle.local_store.specs.declared.blob.Blob.{Blob}
 use Rattle.local_store.specs.declared.change.Change.{Change}
 use Rattle.session_steps.proofs.Committed.{tidy_unmade}
+use Rattle.session_steps.proofs.Agreeing.{agrees_saved}
+use Rattle.jop_target.specs.Replies.{IsBlobOf, contents_in}
+use Rattle.jop_target.specs.declared.call.Call.TheVariants.{GetBlob}
 use Rattle.session_steps.proofs.Joins.{kept_after-append}
 use Rattle.session_steps.specs.Doing.{Does, DoesTo, Ends, IsTold, KeeperFails, Stops, Went}
 use Rattle.session_steps.specs.Kept.{IsSaved, IsUnsaved, Saves}
@@ -83,10 +86,10 @@ went_paid sort known a mid new lease r id bytes len w owes is h = record {
 pub does_paid : (P : Part) (sort : Call → Bool) (known : Option Shown) (a : WorkNow)
     (mid new : DeskNow) (lease : Lease) (r : SyncReport) (id bytes : List ℕ) (len : ℕ)
     → DoesTo Working ((id, len) ∷ []) P sort a (work_by known mid lease r)
-    → len ≡ length bytes → IsSaved id bytes mid new → IsTidy new
-    → Does P sort a (work_by known new lease r)
+    → len ≡ length bytes → IsBlobOf (contents_in mid.line.target.store) (GetBlob id) bytes
+    → IsSaved id bytes mid new → IsTidy new → Does P sort a (work_by known new lease r)
 unfolding went_paid
-does_paid P sort known a mid new lease r id bytes len d is h tidy = record {
+does_paid P sort known a mid new lease r id bytes len d is stored h tidy = record {
   went = went_paid sort known a mid new lease r id bytes len d.went d.owes is h;
   told = record {
     tidy = tidy;
@@ -97,6 +100,7 @@ does_paid P sort known a mid new lease r id bytes len d is h tidy = record {
   stands = d.stands;
   sees = d.sees;
   owes = refl;
+  agrees = λ agree. agrees_saved mid new id bytes len h stored (d.agrees agree);
   heard = d.heard;
   well = h.well ∙ d.well;
   ready = record {
@@ -153,15 +157,16 @@ pub ends_saved : (P : Part) (sort : Call → Bool) (known : Option Shown) (a : W
     (mid new : DeskNow) (lease : Lease) (r : SyncReport) (id bytes : List ℕ) (len : ℕ)
     (result : Result (Unit {0}) StepErr)
     → DoesTo Working ((id, len) ∷ []) P sort a (work_by known mid lease r)
-    → len ≡ length bytes → IsTidy new → Saves id bytes mid result new
+    → len ≡ length bytes → IsBlobOf (contents_in mid.line.target.store) (GetBlob id) bytes
+    → IsTidy new → Saves id bytes mid result new
     → Ends P sort a result (work_by known new lease r)
-ends_saved P sort known a mid new lease r id bytes len (Ok done) d is tidy h =
-    does_paid P sort known a mid new lease r id bytes len d is h tidy
-ends_saved P sort known a mid new lease r id bytes len (Err KeeperFault) d is tidy h =
+ends_saved P sort known a mid new lease r id bytes len (Ok done) d is stored tidy h =
+    does_paid P sort known a mid new lease r id bytes len d is stored h tidy
+ends_saved P sort known a mid new lease r id bytes len (Err KeeperFault) d is stored tidy h =
     fails_unpaid P sort known ((id, len) ∷ []) a mid new lease r d h
-ends_saved P sort known a mid new lease r id bytes len (Err NoMemory) d is tidy h =
+ends_saved P sort known a mid new lease r id bytes len (Err NoMemory) d is stored tidy h =
     let e = h.1 in
     went_unpaid sort known a mid new lease r d.went h.0 (omega (arith, e))
-ends_saved P sort known a mid new lease r id bytes len (Err (Lost seen)) d is tidy h = absurd h
-ends_saved P sort known a mid new lease r id bytes len (Err TargetFault) d is tidy h = absurd h
-ends_saved P sort known a mid new lease r id bytes len (Err (FailSafe n)) d is tidy h = absurd h
+ends_saved P sort known a mid new lease r id bytes len (Err (Lost seen)) d is stored tidy h = absurd h
+ends_saved P sort known a mid new lease r id bytes len (Err TargetFault) d is stored tidy h = absurd h
+ends_saved P sort known a mid new lease r id bytes len (Err (FailSafe n)) d is stored tidy h = absurd h

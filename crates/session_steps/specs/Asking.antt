@@ -4,11 +4,10 @@ use Rattle.conflicts.specs.declared.error.StepErr.{StepErr}
 use Rattle.conflicts.specs.declared.error.StepErr.TheVariants.{Lost, TargetFault, NoMemory}
 use Rattle.conflicts.specs.declared.report.SyncReport.{SyncReport}
 use Rattle.desk.specs.Desks.{DeskNow}
-use Rattle.jop_target.specs.Replies.{IsReplyTo}
+use Rattle.jop_target.specs.Replies.{IsBlobOf, IsReplyTo, contents_in}
 use Rattle.jop_target.specs.Trail.{EndsWith}
 use Rattle.jop_target.specs.declared.call.Call.{Call}
 use Rattle.jop_target.specs.declared.reply.Reply.{Reply}
-use Rattle.jop_target.specs.declared.event.Event.{Event}
 use Rattle.jop_target.specs.declared.reply.Reply.TheVariants.{Failed, GotBlob}
 use Rattle.lease.specs.declared.error.LeaseErr.{LeaseErr}
 use Rattle.lease.specs.declared.error.LeaseErr.TheVariants as lease_errors
@@ -25,10 +24,12 @@ use Rattle.session_steps.specs.Work.{view_of, work}
 abbrev pub IsAnswer : Call → Reply → Type 0
 IsAnswer call reply = IsReplyTo call reply × ¬ (reply ≡ Failed)
 
--- if the call got bytes of a resource, these are as many as its reply tells
-abbrev pub AreBytesOf : List Event → Call → List ℕ → Type 0
-AreBytesOf trail call bytes =
-    (now len : ℕ) → EndsWith trail call (GotBlob now len) → len ≡ length bytes
+-- If the call got bytes of a resource, these are as many as its reply tells, and are the target's,
+-- if it tells.
+abbrev pub AreBytesOf : DeskNow → Call → List ℕ → Type 0
+AreBytesOf d call bytes =
+    (now len : ℕ) → EndsWith d.line.trail call (GotBlob now len)
+    → (len ≡ length bytes) × IsBlobOf (contents_in d.line.target.store) call bytes
 
 -- the call was answered last, and not by `Failed`, and is remembered with its reply
 pub record IsAnswered (call : Call) (old new : DeskNow) : Type 0 where

@@ -18,6 +18,7 @@ use Rattle.licences.specs.Licences.{AreWork, ObeysData}
 use Rattle.licences.specs.Views.{Finished, Shown, Stage, Working, view_from}
 use Rattle.local_store.specs.Changing.{after_all}
 use Rattle.local_store.specs.declared.blob.Blob.{Blob}
+use Rattle.session_steps.specs.Agreeing.{AgreeBut}
 use Rattle.session_steps.specs.Parts.{Part, but_locks}
 use Rattle.session_steps.specs.Reported.{reported}
 use Rattle.session_steps.specs.Saving.{Told, blobs_got, kept_after, tale_of}
@@ -68,6 +69,7 @@ pub record DoesTo (there : Stage) (left : List Told) (P : Part) (sort : Call →
   pub sees : (shown : Option Shown) → Fits old.known shown
       → Fits new.known (view_from (view_of shown old.desk) went.deeds).shown
   pub owes : went.owed ≡ left
+  pub agrees : AgreeBut [] old.desk → AgreeBut left new.desk
   pub heard : has_failed (events_of (length old.desk.made) went.deeds) ≡ false
   pub well : new.desk.keeper.faults ≡ old.desk.keeper.faults
   pub ready : IsReady new.desk new.lease

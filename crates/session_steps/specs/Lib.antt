@@ -5,6 +5,7 @@ pub mod Reported
 pub mod Parts
 pub mod Saving
 pub mod Kept
+pub mod Agreeing
 pub mod Making
 pub mod Doing
 pub mod Asking

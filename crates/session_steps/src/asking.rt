@@ -7,6 +7,7 @@ ghost use Rattle.lease.specs.Phase.{role_of};
 ghost use Rattle.lease.specs.Standing.{IsSameBut};
 ghost use Rattle.licences.specs.Licences.{MayCall};
 ghost use Rattle.licences.specs.Views.{Shown, is_about_locks};
+ghost use Rattle.session_steps.specs.Agreeing.{IsKeptFor};
 ghost use Rattle.session_steps.specs.Asking.{AreBytesOf, Asks, IsAnswered};
 ghost use Rattle.session_steps.specs.Work.{IsReady, view_of};
 
@@ -30,10 +31,11 @@ pub fn ask<S: Desk>(
     requires working { is_working (role_of lease.old.client call) ≡ true }
     requires about { is_about_locks call ≡ false }
     requires callable { IsCallable call blob.old }
+    requires kept { IsKeptFor (S.desk site.old).keeper.kept call blob.old }
     requires may { (shown : Option Shown) → MayCall (view_of shown (S.desk site.old)) call }
 
     ensures answered { OnOk result (IsAnswered call (S.desk site.old) (S.desk site.new)) }
-    ensures blob { OnOk result (AreBytesOf (S.desk site.new).line.trail call blob.new) }
+    ensures blob { OnOk result (AreBytesOf (S.desk site.new) call blob.new) }
     ensures ready { OnOk result (IsReady (S.desk site.new) lease.new) }
     ensures same { IsSameDesk (S.desk site.old) (S.desk site.new) }
     ensures lease { IsSameBut lease.old lease.new }

@@ -32,6 +32,7 @@ use Rattle.licences.specs.Views.{View}
 use Rattle.local_store.specs.Keepers.{KeeperNow}
 use Rattle.local_store.specs.declared.tables.Tables.{Tables}
 use Rattle.opening.specs.Opening.{IsLawful, MergesBetween}
+use Rattle.session_steps.proofs.Agreeing.{agrees_leased}
 use Rattle.session_steps.proofs.Asked.{calls_locks, step_of}
 use Rattle.session_steps.proofs.Joins.{client_is, seen_between}
 use Rattle.session_steps.specs.Doing.{Went}
@@ -445,29 +446,32 @@ released_work client lease old held new e after result ended taken h =
 given_back : (client : List ℕ) (lease : Lease) (old held : DeskNow) (late : WorkNow) (new : DeskNow)
     (report : SyncReport) (released : Result (Unit {0}) LeaseErr) → HasTaken client lease old held
     → Works (work held lease new_report) (Ok tt) late
-    → Releases late.lease late.desk.line new.line released → IsSameDesk late.desk new
+    → Releases late.lease late.desk.line new.line released
+    → LeaseGoesOn late.lease.client late.desk.line new.line → IsSameDesk late.desk new
     → (result : Result (Unit {0}) SyncErr) → result ≡ Ok tt → result ≡ answer_of released (Ok tt)
     → report ≡ with_locked late.desk.tables late.report
     → IsSyncReleased client old (Ok report) new
-given_back client lease old held late new report (Ok done) taken works gives same result ended is reports = (
+given_back client lease old held late new report (Ok done) taken works gives goes same result ended is reports = (
   record {
     left = has_left client lease (Ok tt) old held late new gives.reply taken works same gives.trail;
     heard = gives.heard;
     reports = reports;
+    agrees = agrees_leased late.lease.client late.desk new same goes.line
+        (calls_locks late.lease.client late.desk new.line goes) works.1.1;
   },
   over_late client lease old held late new (Ok tt) taken works gives.over,
 )
 given_back client lease old held late new report (Err lease_errors.TargetFault) taken works gives
-    same result ended is reports =
+    goes same result ended is reports =
     absurd cc
-given_back client lease old held late new report (Err lease_errors.NoMemory) taken works gives same
-    result ended is reports =
+given_back client lease old held late new report (Err lease_errors.NoMemory) taken works gives goes
+    same result ended is reports =
     absurd cc
 given_back client lease old held late new report (Err (lease_errors.Busy lock now)) taken works
-    gives same result ended is reports =
+    gives goes same result ended is reports =
     absurd gives
 given_back client lease old held late new report (Err (lease_errors.Lost seen)) taken works gives
-    same result ended is reports =
+    goes same result ended is reports =
     absurd gives
 
 -- a session whose work was refused doesn't go well
@@ -489,7 +493,7 @@ synced_by : (client : List ℕ) (lease : Lease) (old held : DeskNow) (late : Wor
     → IsSyncReleased client old (Ok report) new
 synced_by client lease old held late new report (Ok done) result ended taken works leaves reports =
     given_back client lease old held late new report leaves.released taken works leaves.gives
-    leaves.same result ended leaves.is reports
+    leaves.goes leaves.same result ended leaves.is reports
 synced_by client lease old held late new report (Err (Busy lock now)) result ended taken works
     leaves reports =
     absurd works

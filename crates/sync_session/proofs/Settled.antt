@@ -1,6 +1,7 @@
 -- What was saved and removed here stays settled to a session's end.
 use Rattle.std.specs.Prelude.{ℕ, ◌≡◌, List, [], ◌∷◌, Bool, true, false, if◌then◌else◌, length, Option, Some, None, refl}
 use Rattle.std.proofs.Common.{sym, ap, subst, ◌∙◌, inr}
+use Rattle.desk.specs.Desks.{DeskNow}
 use Rattle.jop_base.specs.Keyed.{cut}
 use Rattle.jop_target.specs.declared.call.Call.{Call}
 use Rattle.licences.proofs.Settled.{made_inside, pending-view_from, stays_inside}
@@ -20,6 +21,7 @@ use Rattle.local_store.specs.declared.content.Content.{Content}
 use Rattle.local_store.specs.declared.deletion.Deletion.{Deletion}
 use Rattle.local_store.specs.declared.row.Row.{Row}
 use Rattle.local_store.specs.declared.tables.Tables.{Tables}
+use Rattle.session_steps.specs.Agreeing.{AgreeBut, moved}
 use Rattle.session_steps.specs.Doing.{IsTold, Went}
 use Rattle.session_steps.specs.Work.{Fits, WorkNow, view_of}
 use Rattle.upload.specs.Settled.{AreSettled, WasUnreadable}
@@ -137,3 +139,12 @@ leaves_nothing_behind sort a b w told fits sound h = record {
   settled = settled_behind sort a b w told fits sound h.settled;
   deleted = none_behind sort a b w told fits h.deleted;
 }
+
+-- ---- the bytes of resources
+
+-- a session that has called nothing has moved none
+pub agree_begun : (d : DeskNow) → session_calls d.line.trail ≡ [] → AgreeBut [] d
+unfolding moved
+agree_begun d none = λ id owed s k told_store told_kept has_moved.
+    let no : true ≡ false = sym has_moved ∙ ap (moved id) none in
+    absurd cc

@@ -105,6 +105,7 @@ does_within sort wide a b within h = record {
   stands = h.stands;
   sees = h.sees;
   owes = h.owes;
+  agrees = h.agrees;
   heard = h.heard;
   well = h.well;
   ready = h.ready;

@@ -25,6 +25,7 @@ use Rattle.licences.specs.Views.{View, Working, at_rest}
 use Rattle.local_store.specs.Keepers.{KeeperNow}
 use Rattle.local_store.specs.declared.change.Change.{Change}
 use Rattle.local_store.specs.declared.tables.Tables.{Tables}
+use Rattle.session_steps.specs.Agreeing.{AgreeBut}
 use Rattle.session_steps.specs.Steps.{IsStep}
 use Rattle.session_steps.specs.Work.{WorkNow, work}
 use Rattle.target_upgrade.specs.Course.{KeepsVersions, course_of}
@@ -65,11 +66,13 @@ pub record EndsWork (lease : Lease) (old : DeskNow) (report : SyncReport)
 abbrev pub with_locked : Tables → SyncReport → SyncReport
 with_locked t r = record r { locked = sealed_rows t }
 
--- all was done, and the lock's delete was answered, and not by `Failed`; the report says what was done
+-- All was done, and the lock's delete was answered, and not by `Failed`. The report says what was
+-- done, and the bytes of resources that the session has put or got are the target's.
 pub record HasSynced (client : List ℕ) (report : SyncReport) (old new : DeskNow) : Type 0 where
   pub left : HasLeft client (Ok tt) old new
   pub heard : ¬ (left.reply ≡ Failed)
   pub reports : report ≡ with_locked left.late.desk.tables left.late.report
+  pub agrees : AgreeBut [] new
 
 -- each answer, by what its calls came to
 abbrev pub SyncAnswers : List ℕ → DeskNow → Result SyncReport SyncErr → DeskNow → Type 0

@@ -15,6 +15,7 @@ use Rattle.lease.specs.declared.error.Seen.{Seen}
 use Rattle.licences.specs.Views.{synced_ids}
 use Rattle.local_store.specs.Keepers.{Kept}
 use Rattle.opening.specs.Opening.{Opens, ReadsBadInfo, ReadsVersion, is_opening}
+use Rattle.session_steps.specs.Agreeing.{AgreeBut}
 use Rattle.session_steps.specs.Doing.{Does, Finishes, GivesUp, HasLapsed, KeeperFails, Stops, Went}
 use Rattle.session_steps.specs.Parts.{Hears, Part, Then}
 use Rattle.session_steps.specs.Work.{WorkNow}
@@ -86,7 +87,8 @@ Lapses old new seen = Stops is_sync old new × HasLapsed old.lease new seen
 -- each answer, by its cause
 abbrev pub Works : WorkNow → Result (Unit {0}) SyncErr → WorkNow → Type 0
 Works old (Ok done) new =
-    Finishes (Syncs old.desk.keeper.kept) is_sync old new × LeavesNothing new.desk
+    Finishes (Syncs old.desk.keeper.kept) is_sync old new
+    × (LeavesNothing new.desk × AgreeBut [] new.desk)
 Works old (Err (LeaseLost seen)) new = Lapses old new seen
 Works old (Err (TargetOlder version)) new =
     (version < SUPPORTED) × Does (ReadsVersion version) is_sync old new

@@ -26,7 +26,7 @@ returns-in-Ok-clause-asks g c =
     asked_ok sort old new before after c.args.call c.args.blob.now c.call_held.new.blob
     (g.met.S.Desk.keeps_desk _ _ c.call_held.ensures.keeps) c.call_held.ensures.same
     c.requires.ready.tidy c.requires.working c.requires.about c.requires.callable
-    c.requires.may sorted
+    c.requires.may c.requires.kept sorted
     (works_at before after c.args.call c.args.blob.now c.call_held.new.blob old.line new.line _ _
     (Ok tt) (g.met.S.Desk.same_line c.args.site.now)
     (g.met.S.Desk.same_line c.call_held.new.line) c.in-Ok.ensures.gives)

@@ -2,6 +2,7 @@ use Rattle.std.proofs.Common.{◌∙◌, ap, sym}
 use Rattle.std.proofs.lemmas.Result.{err_from_is_err_and}
 use Rattle.lease.specs.declared.lease.Lease.{Lease}
 use Rattle.session_steps.specs.Work.{work}
+use Rattle.sync_session.proofs.Settled.{agree_begun}
 use Rattle.sync_session.proofs.Worked.{HasOpened, can_put, lacks_key, lawful_behind, merges_behind, unput_opened, went_stopped, works_behind, works_both, works_refused}
 use Rattle.sync_session.specs.Keys.{needs_key}
 use Rattle.sync_session.proofs.working.work.Goals as goal
@@ -73,7 +74,11 @@ returns-clause-works g c =
     let b = work (g.S.Desk.desk c.open.new.site) c.open.new.lease c.open.new.report in
     let d = work (g.S.Desk.desk c.exchange.new.site) c.exchange.new.lease c.exchange.new.report in
     let exchanged = c.in_ok-exchange.ensures.exchanges in
-    (works_both a b d c.in_ok-open.ensures.opens exchanged.0, exchanged.1)
+    let whole = works_both a b d c.in_ok-open.ensures.opens exchanged.0 in
+    (
+      whole,
+      (exchanged.1, whole.agrees (agree_begun (g.S.Desk.desk c.args.site.now) c.requires.first)),
+    )
 
 pub returns-clause-merges : goal.returns-clause-merges
 returns-clause-merges g c =
