@@ -337,8 +337,7 @@ leased_from : (client : List ℕ) (o n : Option Store) (more : List Event) (s : 
     → (was : Store) × (o ≡ Some was) × (s.contents.blobs ≡ was.contents.blobs)
 leased_from client None n more s each run told = let silent = run in absurd cc
 leased_from client (Some was) n more s each run told =
-    let is : run.0 ≡ s = let now = run.1 in cc in
-    (
+    let is : run.0 ≡ s = let now = run.1 in cc in (
       was,
       refl,
       ap (λ (x : Store). x.contents.blobs) (sym is) ∙ lease_leads client was more run.0 each run.2,

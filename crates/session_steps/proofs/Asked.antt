@@ -430,8 +430,7 @@ are_bytes old new before after call blob bytes h now len ends =
     (mid.trail, h.called.answered.trail) ends in
     let keeps =
     subst (λ (x : Reply). KeepsBlob (contents_in mid.target.store) call blob (Ok x) bytes) told
-    h.called.answered.blob in
-    (
+    h.called.answered.blob in (
       keeps.0,
       blob_stays mid.target.store new.line.target.store call blob bytes h.reply
           h.called.answered.answers keeps.1,

@@ -74,8 +74,7 @@ returns-clause-works g c =
     let b = work (g.S.Desk.desk c.open.new.site) c.open.new.lease c.open.new.report in
     let d = work (g.S.Desk.desk c.exchange.new.site) c.exchange.new.lease c.exchange.new.report in
     let exchanged = c.in_ok-exchange.ensures.exchanges in
-    let whole = works_both a b d c.in_ok-open.ensures.opens exchanged.0 in
-    (
+    let whole = works_both a b d c.in_ok-open.ensures.opens exchanged.0 in (
       whole,
       (exchanged.1, whole.agrees (agree_begun (g.S.Desk.desk c.args.site.now) c.requires.first)),
     )
