@@ -1,10 +1,9 @@
 -- A record holds one value only.
-use Rattle.std.specs.Prelude.{ℕ, ℤ, pos, ◌≡◌, List, [], ◌∷◌, All, Bool, true, false, Option, Some, None, refl}
-use Rattle.std.proofs.Common.{sym, ◌∙◌, ap, subst}
+use Rattle.std.specs.Prelude.{ℕ, pos, ◌≡◌, List, [], ◌∷◌, All, Bool, true, false, Option, Some, refl}
+use Rattle.std.proofs.Common.{sym, ◌∙◌, ap}
 use Rattle.std.proofs.lemmas.List.Elements.{All-cons, All-nil, All-head, All-tail}
 use Rattle.jop_base.specs.Keyed.{IsSorted}
 use Rattle.item_text.specs.declared.item.Item.{Item}
-use Rattle.item_text.specs.Valid.{IsItem}
 use Rattle.sync_info.specs.Info.{IsInfo}
 use Rattle.local_store.specs.declared.conflict_note.ConflictNote.{ConflictNote}
 use Rattle.local_store.specs.declared.content.Content.{Content}

@@ -1,5 +1,5 @@
 -- Which rows, deletions and conflict notes the records of a database hold.
-use Rattle.std.specs.Prelude.{ℕ, pos, ◌≡◌, List, Bool, true, false, Some}
+use Rattle.std.specs.Prelude.{pos, ◌≡◌, Bool, true, false, Some}
 use Rattle.item_text.specs.Grammar.{item_in}
 use Rattle.item_text.specs.Valid.{IsItem}
 use Rattle.jop_base.specs.Id.{IsIdText}
@@ -12,7 +12,7 @@ use Rattle.local_store.specs.Rows.{item_of}
 use Rattle.stored_records.specs.declared.deletion_record.DeletionRecord.{DeletionRecord}
 use Rattle.stored_records.specs.declared.note_record.NoteRecord.{NoteRecord}
 use Rattle.stored_records.specs.declared.row_record.RowRecord.{RowRecord}
-use Rattle.stored_records.specs.Columns.{flag}
+use Rattle.stored_records.specs.Columns.{flag, text_in}
 
 abbrev pub is_sealed : Content → Bool
 is_sealed (Plain item) = false
@@ -22,7 +22,7 @@ is_sealed (Sealed item) = true
 pub record HoldsRow (s : RowRecord) (r : Row) : Type 0 where
   pub id : s.id ≡ r.id
   pub sealed : s.sealed ≡ flag (is_sealed r.content)
-  pub content : item_in s.content ≡ Some (item_of r.content)
+  pub content : item_in (text_in s.content s.base) ≡ Some (item_of r.content)
   pub base : s.base ≡ r.base
   pub pending : s.pending ≡ flag r.pending
 

@@ -1,5 +1,5 @@
 -- What a client knows of itself and its target, as the values of a table of keys.
-use Rattle.std.specs.Prelude.{ℕ, ◌<◌, ◌^◌, ◌≡◌, List, All, Some, IfSome, decimal}
+use Rattle.std.specs.Prelude.{◌<◌, ◌^◌, ◌≡◌, All, Some, IfSome, decimal}
 use Rattle.jop_base.specs.Id.{IsIdText}
 use Rattle.jop_base.specs.declared.context.Context.{Context}
 use Rattle.sync_info.specs.Read.{info_in}

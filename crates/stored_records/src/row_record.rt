@@ -5,6 +5,7 @@ ghost use Rattle.item_text.specs.Valid.{IsItem};
 ghost use Rattle.local_store.specs.declared.row.Row.{Row};
 ghost use Rattle.local_store.specs.Rows.{item_of};
 ghost use Rattle.local_store.specs.Sound.{IsSoundRow};
+ghost use Rattle.stored_records.specs.Columns.{beside, text_in};
 ghost use Rattle.stored_records.specs.Holding.{HoldsRow, is_sealed};
 
 use crate::flag::{flag, read_flag};
@@ -23,7 +24,7 @@ pub struct RowRecord {
     pub id: Text,
     /// 1 if the item is sealed, and else 0.
     pub sealed: i64,
-    /// The text of the item.
+    /// The text of the item, or nothing if the base is that text.
     pub content: Bytes,
     pub base: Option<Bytes>,
     /// 1 if the row is to be uploaded, and else 0.
@@ -47,6 +48,16 @@ fn content_of(item: Item, sealed: bool) -> Content
         Content::Sealed(item)
     } else {
         Content::Plain(item)
+    }
+}
+
+/// A text as it stands beside a base: as nothing, if the base is that text.
+fn beside(alloc: Global, text: Bytes, base: &Option<Bytes>) -> Bytes
+    ensures { result ≡ beside text base.now }
+{
+    match base {
+        Some(base) if *base == text => Bytes::new(alloc),
+        _ => text,
     }
 }
 
@@ -78,16 +89,27 @@ impl RowRecord {
     pub fn of(alloc: Global, row: &Row) -> Result<RowRecord, AllocError>
         requires { IsSoundRow row.now }
         ensures holds { IfOk result (λ made. HoldsRow made row.now) }
-        ensures text { IfOk result (λ made. made.content ≡ written (item_of row.now.content)) }
+        ensures text { IfOk result (λ made.
+            made.content ≡ beside (written (item_of row.now.content)) row.now.base) }
     {
-        let content = item_text(alloc, row.content.item())?;
+        let text = item_text(alloc, row.content.item())?;
         Ok(RowRecord {
             id: Text::of(alloc, row.id.as_str())?,
             sealed: flag(is_sealed_content(&row.content)),
-            content,
+            content: beside(alloc, text, &row.base),
             base: row.base.copy(alloc)?,
             pending: flag(row.pending),
         })
+    }
+
+    /// The text of the record's item.
+    fn text(&self) -> &Bytes
+        ensures { result.now ≡ text_in self.now.content self.now.base }
+    {
+        match &self.base {
+            Some(base) if self.content.is_empty() => base,
+            _ => &self.content,
+        }
     }
 
     /// The row that the record holds, sound or not.
@@ -105,7 +127,7 @@ impl RowRecord {
             (Some(sealed), Some(pending)) => (sealed, pending),
             _ => return Err(RecordErr::Bad),
         };
-        let item = item_of(alloc, &self.content)?;
+        let item = item_of(alloc, self.text())?;
         Ok(Row {
             id,
             content: content_of(item, sealed),
