@@ -37,7 +37,8 @@ class Client:
 
     def rows(self):
         """The content of each row by its id, and whether it waits."""
-        return {row[0]: (row[1], row[2]) for row in self.read("select id, content, pending from rows")}
+        text = "coalesce(nullif(content, x''), base)"
+        return {row[0]: (row[1], row[2]) for row in self.read(f"select id, {text}, pending from rows")}
 
     def bodies(self):
         """The body of each note by its id."""
