@@ -1,5 +1,5 @@
 use crate::client::Client;
-use jop_target::MemTarget;
+use jop_target::Target;
 use local_store::Keeper;
 use std::alloc::{AllocError, Global};
 
@@ -38,10 +38,10 @@ pub(crate) fn has_come_out<K: Keeper>(client: &Client<K>, exit: u8, due: &Due) -
 }
 
 /// Plays the command that a line says, on this target: whether it came out as it is to.
-pub(crate) fn comes_out<K: Keeper>(
+pub(crate) fn comes_out<K: Keeper, T: Target>(
     client: &mut Client<K>,
     alloc: Global,
-    target: &mut MemTarget,
+    target: &mut T,
     line: &str,
 ) -> Result<bool, AllocError> {
     let due = read_due(line);
