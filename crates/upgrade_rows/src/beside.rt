@@ -2,14 +2,14 @@ ghost use Rattle.std.specs.Prelude.{◌≡◌, true, IfOk};
 ghost use Rattle.std.specs.List.{list_all};
 ghost use Rattle.scripted_target.specs.Script.{is_scriptable};
 
-use crate::upgraded::{ONE, TWO, id};
+use crate::upgraded::{Outcome, TWO, id, upgrade};
 use jop_base::{Bytes, Dir, LockKind, LockName, Path};
-use jop_target::{Call, Diary, MemTarget};
+use jop_target::{Call, MemTarget};
 use lease::Lock;
 use scripted_target::ScriptedTarget;
 use std::alloc::Global;
 use std::test::Fail;
-use sync_run::{SessionErr, upgrade_on};
+use sync_run::SessionErr;
 
 fn own_lock(digits: &[u8]) -> Result<LockName, Fail> {
     Ok(LockName {
@@ -32,18 +32,20 @@ fn script(alloc: Global) -> Result<Vec<(u64, Call)>, Fail>
     Ok(script)
 }
 
+/// What the first upgrader comes to, and the number of files then.
+fn upgrade_beside(alloc: Global) -> Result<(Outcome, usize), Fail> {
+    let script = script(alloc)?;
+    let mut target = ScriptedTarget::new(MemTarget::new(alloc, 0, 1), script);
+    let (outcome, _) = upgrade(alloc, &mut target)?;
+    Ok((outcome, target.tree().files.len()))
+}
+
 /// Of two upgraders that go for a lock in turns, the first finds the second's.
 #[test]
 fn two_upgraders_find_each_other(rt: HostRuntime) -> Result<(), Fail> {
-    let alloc = rt.alloc();
-    let mut target = ScriptedTarget::new(MemTarget::new(alloc, 0, 1), script(alloc)?);
-    let mut diary = Diary::new(alloc);
-    let outcome = upgrade_on(alloc, &mut target, &id(ONE)?, &mut diary);
-    let lock = Lock {
-        name: own_lock(TWO)?,
-        stamp: 5,
-    };
-    assert_eq!(rt; outcome, Err(SessionErr::Busy { lock, now: 6 }));
-    assert_eq!(rt; target.tree().files.len(), 1);
+    let name = own_lock(TWO)?;
+    let lock = Lock { name, stamp: 5 };
+    let busy = Err(SessionErr::Busy { lock, now: 6 });
+    assert!(rt; upgrade_beside(rt.alloc())? == (busy, 1));
     Ok(())
 }

@@ -2,7 +2,7 @@ ghost use Rattle.std.specs.Prelude.{◌≤◌};
 ghost use Rattle.jop_base.specs.Times.{last_time};
 
 use jop_base::{Bytes, Id, Path};
-use jop_target::{Content, Diary, MemTarget, Tree};
+use jop_target::{Content, Diary, MemTarget, Target, Tree};
 use std::alloc::{AllocError, Global};
 use std::test::Fail;
 use sync_run::{SessionErr, upgrade_on};
@@ -21,6 +21,10 @@ pub(crate) fn id(digits: &[u8]) -> Result<Id, Fail> {
     Ok(Id::read(digits).ok_or("an id")?)
 }
 
+fn bytes(alloc: Global, text: &[u8]) -> Result<Bytes, AllocError> {
+    Ok(Bytes::from_vec(text.to_vec(alloc)?))
+}
+
 pub(crate) fn place(
     alloc: Global,
     target: &mut MemTarget,
@@ -30,40 +34,64 @@ pub(crate) fn place(
 ) -> Result<(), AllocError>
     requires { stamp ≤ last_time }
 {
-    target.place(path, Bytes::from_vec(text.to_vec(alloc)?), stamp)
+    let content = bytes(alloc, text)?;
+    target.place(path, content, stamp)
 }
 
-/// What an upgrade by the first client comes to, and the number of its events.
-pub(crate) fn upgrade(
+/// What an upgrade comes to.
+pub(crate) type Outcome = Result<u64, SessionErr>;
+
+/// What an upgrade by the first client comes to.
+pub(crate) fn upgrade_noted<T: Target>(
     alloc: Global,
-    target: &mut MemTarget,
-) -> Result<(Result<u64, SessionErr>, usize), Fail> {
+    target: &mut T,
+    diary: &mut Diary,
+) -> Result<Outcome, Fail> {
+    let client = id(ONE)?;
+    Ok(upgrade_on(alloc, target, &client, diary))
+}
+
+/// The same, and the number of its events.
+pub(crate) fn upgrade<T: Target>(alloc: Global, target: &mut T) -> Result<(Outcome, usize), Fail> {
     let mut diary = Diary::new(alloc);
-    let outcome = upgrade_on(alloc, target, &id(ONE)?, &mut diary);
+    let outcome = upgrade_noted(alloc, target, &mut diary)?;
     Ok((outcome, diary.events().len()))
+}
+
+fn is_whole(content: &Content, wanted: &[u8]) -> bool {
+    match content {
+        Content::Whole(bytes) => bytes.as_slice() == wanted,
+        _ => false,
+    }
 }
 
 /// Whether a file holds exactly this.
 pub(crate) fn holds(tree: &Tree, path: Path, content: &[u8]) -> bool {
     for file in tree.files.as_slice() {
-        if let Content::Whole(bytes) = &file.content {
-            if file.path == path && bytes.as_slice() == content {
-                return true;
-            }
+        if file.path == path && is_whole(&file.content, content) {
+            return true;
         }
     }
     false
 }
 
+fn is_new(tree: &Tree) -> bool {
+    holds(tree, Path::Info, NEW_INFO.as_bytes())
+        && holds(tree, Path::OldVersion, b"2")
+        && tree.files.len() == 2
+        && tree.folders.len() == 4
+}
+
+/// Whether an upgrade of an empty target leaves one that is new.
+fn is_set_up(alloc: Global) -> Result<bool, Fail> {
+    let mut target = MemTarget::new(alloc, 0, 9000);
+    let (outcome, _) = upgrade(alloc, &mut target)?;
+    Ok(outcome == Ok(3) && is_new(target.tree()))
+}
+
 #[test]
 fn sets_an_empty_target_up(rt: HostRuntime) -> Result<(), Fail> {
-    let alloc = rt.alloc();
-    let mut target = MemTarget::new(alloc, 0, 9000);
-    assert_eq!(rt; upgrade(alloc, &mut target)?.0, Ok(3));
-    assert_eq!(rt; NEW_INFO.len(), 117);
-    assert!(rt; holds(target.tree(), Path::Info, NEW_INFO.as_bytes()));
-    assert!(rt; holds(target.tree(), Path::OldVersion, b"2"));
-    assert_eq!(rt; target.tree().files.len(), 2);
-    assert_eq!(rt; target.tree().folders.len(), 4);
+    assert!(rt; NEW_INFO.len() == 117);
+    assert!(rt; is_set_up(rt.alloc())?);
     Ok(())
 }
