@@ -1,13 +1,19 @@
 use jop_base::{Dir, Id, LockKind, LockName, Path};
+use std::alloc::{AllocError, Global};
 use std::cmp::Ordering;
+use std::fmt::Display;
 use std::test::Fail;
 
 pub const ONES: &[u8] = b"11111111111111111111111111111111";
 
 const LOCK: &[u8] = b"2_3_11111111111111111111111111111111.json";
 
+fn read_id(text: &[u8]) -> Option<Id> {
+    Id::read(text)
+}
+
 pub fn id(text: &[u8]) -> Result<Id, Fail> {
-    Ok(Id::read(text).ok_or("an id")?)
+    Ok(read_id(text).ok_or("an id")?)
 }
 
 #[test]
@@ -35,18 +41,28 @@ fn an_id_has_32_lower_case_digits(rt: HostRuntime) {
     assert!(rt; Id::read(b"1").is_none());
 }
 
+fn read_lock(name: &[u8]) -> Option<LockName> {
+    LockName::read(name)
+}
+
+fn lock() -> Result<LockName, Fail> {
+    Ok(read_lock(LOCK).ok_or("a lock")?)
+}
+
 /// A file of each kind, in their order.
-fn files() -> Result<[Path; 6], Fail> {
-    let ones = id(ONES)?;
-    let lock = LockName::read(LOCK).ok_or("a lock")?;
-    Ok([
-        Path::Blob(ones),
+fn files_of(id: Id, lock: LockName) -> [Path; 6] {
+    [
+        Path::Blob(id),
         Path::OldVersion,
-        Path::Item(ones),
+        Path::Item(id),
         Path::Info,
         Path::Lock(lock),
-        Path::Temp(ones),
-    ])
+        Path::Temp(id),
+    ]
+}
+
+fn files() -> Result<[Path; 6], Fail> {
+    Ok(files_of(id(ONES)?, lock()?))
 }
 
 const TEXTS: [&str; 6] = [
@@ -92,23 +108,35 @@ fn other_names_are_no_files(rt: HostRuntime) {
     }
 }
 
+/// Whether each of them comes before the next.
+fn are_in_order(files: &[Path]) -> bool {
+    for pair in files.windows(2) {
+        if pair[0].compare(&pair[1]) != Ordering::Less {
+            return false;
+        }
+    }
+    true
+}
+
 #[test]
 fn files_are_in_order(rt: HostRuntime) -> Result<(), Fail> {
-    for pair in files()?.windows(2) {
-        assert_eq!(rt; pair[0].compare(&pair[1]), Ordering::Less);
-    }
-    let next = Path::Item(id(ONES)?.after());
-    assert_eq!(rt; Path::Item(id(ONES)?).compare(&next), Ordering::Less);
+    let id = id(ONES)?;
+    assert!(rt; are_in_order(&files()?));
+    assert!(rt; are_in_order(&[Path::Item(id), Path::Item(id.after())]));
     Ok(())
+}
+
+pub fn prints<T: Display>(alloc: Global, value: &T, text: &[u8]) -> Result<bool, AllocError> {
+    Ok(value.to_string(alloc)?.as_bytes() == text)
 }
 
 #[test]
 fn names_print_as_their_texts(rt: HostRuntime) -> Result<(), Fail> {
     let alloc = rt.alloc();
-    let lock = LockName::read(LOCK).ok_or("a lock")?;
-    assert_eq!(rt; lock.kind, LockKind::Exclusive);
-    assert_eq!(rt; lock.to_string(alloc)?.as_bytes(), LOCK);
-    assert_eq!(rt; Dir::Resources.to_string(alloc)?.as_str(), ".resource");
-    assert_eq!(rt; id(ONES)?.to_string(alloc)?.as_bytes(), ONES);
+    let lock = lock()?;
+    assert!(rt; lock.kind == LockKind::Exclusive);
+    assert!(rt; prints(alloc, &lock, LOCK)?);
+    assert!(rt; prints(alloc, &Dir::Resources, b".resource")?);
+    assert!(rt; prints(alloc, &id(ONES)?, ONES)?);
     Ok(())
 }

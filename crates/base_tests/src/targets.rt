@@ -1,18 +1,16 @@
-ghost use Rattle.std.specs.Prelude.{ℕ, List, IfOk};
+ghost use Rattle.std.specs.Prelude.{◌≤◌, ℕ, List};
+ghost use Rattle.jop_base.specs.Times.{last_time};
 ghost use Rattle.jop_target.specs.Replies.{IsCallable};
 
-use crate::names::{ONES, id};
-use jop_base::{Bytes, Copied, Dir, Id, Path};
+use crate::names::{ONES, id, prints};
+use crate::texts::bytes_of;
+use jop_base::{Bytes, Copied, Dir, Id, MAX_TIME, Path};
 use jop_target::{
     BLOB_LIMIT, Call, Diary, Event, FILE_LIMIT, Line, MemStore, MemTarget, Target, TargetLine,
     limit_of,
 };
 use std::alloc::{AllocError, Global};
 use std::test::Fail;
-
-fn bytes(alloc: Global, text: &[u8]) -> Result<Bytes, AllocError> {
-    Ok(Bytes::from_vec(text.to_vec(alloc)?))
-}
 
 /// A call on one item, or on the root.
 #[derive(Clone, Copy)]
@@ -21,17 +19,6 @@ enum Step {
     List,
     Get,
     Delete,
-}
-
-fn call(alloc: Global, id: Id, step: Step) -> Result<Call, AllocError>
-    ensures { IfOk result (λ call. (blob : List ℕ) → IsCallable call blob) }
-{
-    match step {
-        Step::Put(text) => Ok(Call::Put(Path::Item(id), bytes(alloc, text)?)),
-        Step::List => Ok(Call::List(Dir::Root)),
-        Step::Get => Ok(Call::Get(Path::Item(id))),
-        Step::Delete => Ok(Call::Delete(Path::Item(id))),
-    }
 }
 
 /// Makes a call on a line over a target, and tells the last moment heard.
@@ -49,22 +36,89 @@ fn ask<T: Target>(
     Ok(line.heard())
 }
 
-/// Whether the events are printed so, one by one, and so are their copies.
+fn ask_to_put(
+    alloc: Global,
+    target: &mut MemTarget,
+    diary: &mut Diary,
+    id: Id,
+    text: &[u8],
+    blob: &mut Bytes,
+) -> Result<u64, AllocError> {
+    let content = bytes_of(alloc, text)?;
+    ask(
+        alloc,
+        target,
+        diary,
+        Call::Put(Path::Item(id), content),
+        blob,
+    )
+}
+
+/// Takes a step. No blob comes of it.
+fn take(
+    alloc: Global,
+    target: &mut MemTarget,
+    diary: &mut Diary,
+    id: Id,
+    step: Step,
+    blob: &mut Bytes,
+) -> Result<u64, AllocError> {
+    match step {
+        Step::Put(text) => ask_to_put(alloc, target, diary, id, text, blob),
+        Step::List => ask(alloc, target, diary, Call::List(Dir::Root), blob),
+        Step::Get => ask(alloc, target, diary, Call::Get(Path::Item(id)), blob),
+        Step::Delete => ask(alloc, target, diary, Call::Delete(Path::Item(id)), blob),
+    }
+}
+
+/// Whether each step hears its moment.
+fn are_heard(
+    alloc: Global,
+    target: &mut MemTarget,
+    diary: &mut Diary,
+    id: Id,
+    steps: &[(Step, u64)],
+) -> Result<bool, AllocError> {
+    let mut blob = Bytes::new(alloc);
+    for (step, now) in steps {
+        if take(alloc, target, diary, id, *step, &mut blob)? != *now {
+            return Ok(false);
+        }
+    }
+    Ok(true)
+}
+
+/// Whether an event is printed so, and so is its copy.
+fn is_printed(alloc: Global, event: &Event, line: &str) -> Result<bool, AllocError> {
+    let copy = event.copy(alloc)?;
+    Ok(copy == *event && prints(alloc, &copy, line.as_bytes())?)
+}
+
+/// Whether the events are printed so, one by one.
 fn are(alloc: Global, events: &[Event], lines: &[&str]) -> Result<bool, AllocError> {
     for (event, line) in events.iter().zip(lines) {
-        let copy = event.copy(alloc)?;
-        if copy != *event || copy.to_string(alloc)?.as_str() != *line {
+        if !is_printed(alloc, event, line)? {
             return Ok(false);
         }
     }
     Ok(events.len() == lines.len())
 }
 
+/// Whether each step hears its moment, and these events are written down.
+fn are_written(
+    alloc: Global,
+    target: &mut MemTarget,
+    steps: &[(Step, u64)],
+    lines: &[&str],
+) -> Result<bool, Fail> {
+    let mut diary = Diary::new(alloc);
+    let heard = are_heard(alloc, target, &mut diary, id(ONES)?, steps)?;
+    Ok(heard && are(alloc, diary.events(), lines)?)
+}
+
 #[test]
 fn a_call_is_written_down_with_its_reply(rt: HostRuntime) -> Result<(), Fail> {
-    let alloc = rt.alloc();
-    let mut target = MemTarget::new(alloc, 1000, 10);
-    let mut diary = Diary::new(alloc);
+    let mut target = MemTarget::new(rt.alloc(), 1000, 10);
     let steps = [
         (Step::Put(b"ab"), 1000),
         (Step::List, 1010),
@@ -72,11 +126,6 @@ fn a_call_is_written_down_with_its_reply(rt: HostRuntime) -> Result<(), Fail> {
         (Step::Delete, 1030),
         (Step::Get, 1040),
     ];
-    for (step, now) in steps {
-        let call = call(alloc, id(ONES)?, step)?;
-        let heard = ask(alloc, &mut target, &mut diary, call, &mut Bytes::new(alloc))?;
-        assert_eq!(rt; heard, now);
-    }
     let lines = [
         "put 11111111111111111111111111111111.md, 2 bytes: done at 1000",
         "list /: listed at 1010, 11111111111111111111111111111111.md of 1000",
@@ -84,36 +133,39 @@ fn a_call_is_written_down_with_its_reply(rt: HostRuntime) -> Result<(), Fail> {
         "delete 11111111111111111111111111111111.md: done at 1030",
         "get 11111111111111111111111111111111.md: absent at 1040",
     ];
-    assert!(rt; are(alloc, diary.events(), &lines)?);
+    assert!(rt; are_written(rt.alloc(), &mut target, &steps, &lines)?);
     Ok(())
+}
+
+fn place_item(alloc: Global, target: &mut MemTarget, id: Id) -> Result<(), AllocError> {
+    let content = bytes_of(alloc, b"ab")?;
+    target.place(Path::Item(id), content, 5)
+}
+
+/// The first and the third call fail. The third lands all the same.
+fn fail_twice(target: &mut MemTarget) -> Result<(), AllocError> {
+    target.fail(1, false)?;
+    target.fail(3, true)
 }
 
 #[test]
 fn a_target_fails_when_it_is_planned(rt: HostRuntime) -> Result<(), Fail> {
-    let alloc = rt.alloc();
-    let mut target = MemTarget::new(alloc, 0, 1);
-    target.place(Path::Item(id(ONES)?), bytes(alloc, b"ab")?, 5)?;
-    target.fail(1, false)?;
-    target.fail(3, true)?;
-    let mut diary = Diary::new(alloc);
+    let mut target = MemTarget::new(rt.alloc(), 0, 1);
+    place_item(rt.alloc(), &mut target, id(ONES)?)?;
+    fail_twice(&mut target)?;
     let steps = [
         (Step::Delete, 0),
         (Step::List, 1),
         (Step::Delete, 1),
         (Step::Get, 3),
     ];
-    for (step, now) in steps {
-        let call = call(alloc, id(ONES)?, step)?;
-        let heard = ask(alloc, &mut target, &mut diary, call, &mut Bytes::new(alloc))?;
-        assert_eq!(rt; heard, now);
-    }
     let lines = [
         "delete 11111111111111111111111111111111.md: failed",
         "list /: listed at 1, 11111111111111111111111111111111.md of 5",
         "delete 11111111111111111111111111111111.md: failed",
         "get 11111111111111111111111111111111.md: absent at 3",
     ];
-    assert!(rt; are(alloc, diary.events(), &lines)?);
+    assert!(rt; are_written(rt.alloc(), &mut target, &steps, &lines)?);
     Ok(())
 }
 
@@ -124,7 +176,7 @@ fn round_trip<T: Target>(
     diary: &mut Diary,
     id: Id,
 ) -> Result<Bytes, AllocError> {
-    let mut blob = bytes(alloc, b"xyz")?;
+    let mut blob = bytes_of(alloc, b"xyz")?;
     let len = blob.len() as u64;
     ask(alloc, target, diary, Call::PutBlob { id, len }, &mut blob)?;
     let mut got = Bytes::new(alloc);
@@ -148,30 +200,133 @@ fn a_blob_comes_back(rt: HostRuntime) -> Result<(), Fail> {
     Ok(())
 }
 
+/// Whether a store answers a call so at this moment.
+fn is_answered(
+    alloc: Global,
+    store: &MemStore,
+    call: &Call,
+    blob: &mut Bytes,
+    now: u64,
+    line: &str,
+) -> Result<bool, AllocError>
+    requires callable { IsCallable call.now blob.old }
+    requires early { now ≤ last_time }
+{
+    let reply = store.answer(alloc, call, blob, now)?;
+    prints(alloc, &reply, line.as_bytes())
+}
+
+/// The same, and the call lands.
+fn lands(
+    alloc: Global,
+    store: &mut MemStore,
+    call: &Call,
+    blob: &mut Bytes,
+    now: u64,
+    line: &str,
+) -> Result<bool, AllocError>
+    requires callable { (bytes : List ℕ) → IsCallable call.now bytes }
+    requires early { now ≤ last_time }
+{
+    let answered = is_answered(alloc, store, call, blob, now, line)?;
+    store.change(alloc, call, blob, now)?;
+    Ok(answered)
+}
+
+/// A step at a moment, and what it is answered.
+#[derive(Clone, Copy)]
+struct Asked {
+    step: Step,
+    now: u64,
+    line: &'static str,
+}
+
+fn put_lands(
+    alloc: Global,
+    store: &mut MemStore,
+    id: Id,
+    text: &[u8],
+    blob: &mut Bytes,
+    asked: &Asked,
+) -> Result<bool, AllocError> {
+    let call = Call::Put(Path::Item(id), bytes_of(alloc, text)?);
+    lands(
+        alloc,
+        store,
+        &call,
+        blob,
+        asked.now.min(MAX_TIME),
+        asked.line,
+    )
+}
+
+fn step_lands(
+    alloc: Global,
+    store: &mut MemStore,
+    id: Id,
+    blob: &mut Bytes,
+    asked: &Asked,
+) -> Result<bool, AllocError> {
+    let now = asked.now.min(MAX_TIME);
+    let path = Path::Item(id);
+    match asked.step {
+        Step::Put(text) => put_lands(alloc, store, id, text, blob, asked),
+        Step::List => lands(alloc, store, &Call::List(Dir::Root), blob, now, asked.line),
+        Step::Get => lands(alloc, store, &Call::Get(path), blob, now, asked.line),
+        Step::Delete => lands(alloc, store, &Call::Delete(path), blob, now, asked.line),
+    }
+}
+
+/// The first answer that isn't given as it stands here. None has the empty one.
+fn first_other(
+    alloc: Global,
+    store: &mut MemStore,
+    id: Id,
+    table: &[Asked],
+) -> Result<&'static str, AllocError> {
+    let mut blob = Bytes::new(alloc);
+    for asked in table {
+        if !step_lands(alloc, store, id, &mut blob, asked)? {
+            return Ok(asked.line);
+        }
+    }
+    Ok("")
+}
+
+const ASKED: [Asked; 5] = [
+    Asked {
+        step: Step::Get,
+        now: 7,
+        line: "got 2 bytes at 7",
+    },
+    Asked {
+        step: Step::Put(b"abc"),
+        now: 6,
+        line: "done at 6",
+    },
+    Asked {
+        step: Step::List,
+        now: 6,
+        line: "listed at 6, 11111111111111111111111111111111.md of 6",
+    },
+    Asked {
+        step: Step::Delete,
+        now: 6,
+        line: "done at 6",
+    },
+    Asked {
+        step: Step::Delete,
+        now: 5,
+        line: "absent at 5",
+    },
+];
+
 #[test]
 fn a_store_answers_at_any_moment(rt: HostRuntime) -> Result<(), Fail> {
-    let alloc = rt.alloc();
-    let mut store = MemStore::new(alloc);
-    let mut blob = Bytes::new(alloc);
-    store.place(Path::Item(id(ONES)?), bytes(alloc, b"ab")?, 9)?;
-    let steps = [
-        (Step::Get, 7, "got 2 bytes at 7"),
-        (Step::Put(b"abc"), 6, "done at 6"),
-        (
-            Step::List,
-            6,
-            "listed at 6, 11111111111111111111111111111111.md of 6",
-        ),
-        (Step::Delete, 6, "done at 6"),
-        (Step::Delete, 5, "absent at 5"),
-    ];
-    for (step, now, line) in steps {
-        assert!(rt; now < 10);
-        let call = call(alloc, id(ONES)?, step)?;
-        let reply = store.answer(alloc, &call, &mut blob, now)?;
-        store.change(alloc, &call, &blob, now)?;
-        assert_eq!(rt; reply.to_string(alloc)?.as_str(), line);
-    }
+    let mut store = MemStore::new(rt.alloc());
+    let id = id(ONES)?;
+    store.place(Path::Item(id), bytes_of(rt.alloc(), b"ab")?, 9)?;
+    assert_eq!(rt; first_other(rt.alloc(), &mut store, id, &ASKED)?, "");
     assert!(rt; store.tree().files.is_empty());
     Ok(())
 }

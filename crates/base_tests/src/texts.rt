@@ -1,5 +1,12 @@
 use jop_base::{Bytes, Copied, Faults, Text, is_time};
+use std::alloc::{AllocError, Global};
 use std::test::Fail;
+
+pub fn bytes_of(alloc: Global, text: &[u8]) -> Result<Bytes, AllocError> {
+    let mut bytes = Bytes::new(alloc);
+    bytes.append(text)?;
+    Ok(bytes)
+}
 
 #[test]
 fn bytes_grow_and_are_copied(rt: HostRuntime) -> Result<(), Fail> {
@@ -13,17 +20,35 @@ fn bytes_grow_and_are_copied(rt: HostRuntime) -> Result<(), Fail> {
     Ok(())
 }
 
-#[test]
-fn texts_grow_and_are_read(rt: HostRuntime) -> Result<(), Fail> {
-    let alloc = rt.alloc();
+fn grown(alloc: Global) -> Result<Text, AllocError> {
     let mut text = Text::of(alloc, "a")?;
     text.push('é')?;
     text.append("c")?;
-    assert_eq!(rt; text.copy(alloc)?.as_str(), "aéc");
-    assert!(rt; Text::read(alloc, &[0xff])?.is_none());
-    let read = Text::read(alloc, text.as_slice())?.ok_or("a text")?;
-    assert!(rt; read == text);
-    assert_eq!(rt; read.into_bytes().len(), 4);
+    Ok(text)
+}
+
+fn is_copied(alloc: Global, text: &Text, wanted: &str) -> Result<bool, AllocError> {
+    Ok(text.copy(alloc)?.as_str() == wanted)
+}
+
+fn is_read_back(alloc: Global, text: &Text) -> Result<bool, AllocError> {
+    match Text::read(alloc, text.as_slice())? {
+        Some(read) => Ok(read == *text),
+        None => Ok(false),
+    }
+}
+
+fn is_text(alloc: Global, bytes: &[u8]) -> Result<bool, AllocError> {
+    Ok(Text::read(alloc, bytes)?.is_some())
+}
+
+#[test]
+fn texts_grow_and_are_read(rt: HostRuntime) -> Result<(), Fail> {
+    let text = grown(rt.alloc())?;
+    assert!(rt; is_copied(rt.alloc(), &text, "aéc")?);
+    assert!(rt; !is_text(rt.alloc(), &[0xff])?);
+    assert!(rt; is_read_back(rt.alloc(), &text)?);
+    assert_eq!(rt; text.into_bytes().len(), 4);
     Ok(())
 }
 

@@ -1,5 +1,7 @@
 //! Infos, their texts, and merges.
 
+ghost use Rattle.sync_info.specs.Info.{IsInfo};
+
 use jop_base::{Bytes, Copied};
 use std::alloc::{AllocError, Global};
 use std::test::Fail;
@@ -108,10 +110,14 @@ fn is_refused(alloc: Global, text: &[u8]) -> bool {
     matches!(read_info(alloc, text), Err(InfoErr::Bad(BadInfo)))
 }
 
+fn is_read(alloc: Global, text: &[u8]) -> bool {
+    read_info(alloc, text).is_ok()
+}
+
 #[test]
 fn reads_infos(rt: HostRuntime) {
     for text in READ.lines() {
-        assert!(rt; read_info(rt.alloc(), text.as_bytes()).is_ok(), "{text}");
+        assert!(rt; is_read(rt.alloc(), text.as_bytes()), "{text}");
     }
 }
 
@@ -135,42 +141,52 @@ fn nested(alloc: Global, depth: usize) -> Result<String, AllocError> {
     Ok(text)
 }
 
+fn is_refused_at(alloc: Global, depth: usize) -> Result<bool, AllocError> {
+    Ok(is_refused(alloc, nested(alloc, depth)?.as_bytes()))
+}
+
+/// Whether a text of so many opening brackets is refused.
+fn are_refused(alloc: Global, count: usize) -> Result<bool, AllocError> {
+    let brackets = vec![in alloc; b'['; count]?;
+    Ok(is_refused(alloc, brackets.as_slice()))
+}
+
 #[test]
 fn refuses_hostile_texts(rt: HostRuntime) -> Result<(), Fail> {
     let alloc = rt.alloc();
     assert!(rt; is_refused(alloc, b"{\"version\":3,\"other\":\"\xff\"}"));
     assert!(rt; is_refused(alloc, "\u{feff}{\"version\":3}".as_bytes()));
     for (depth, refused) in [(126, false), (127, true), (200, true)] {
-        assert_eq!(rt;
-            is_refused(alloc, nested(alloc, depth)?.as_bytes()),
-            refused
-        );
+        assert_eq!(rt; is_refused_at(alloc, depth)?, refused);
     }
-    let brackets = vec![in alloc; b'['; 16 << 20]?;
-    assert!(rt; is_refused(alloc, brackets.as_slice()));
+    assert!(rt; are_refused(alloc, 16 << 20)?);
     Ok(())
 }
 
-fn written(alloc: Global, text: &str) -> Result<Bytes, Fail> {
+fn written(alloc: Global, text: &str) -> Result<Bytes, InfoErr> {
     let info = read_info(alloc, text.as_bytes())?;
     Ok(write_info(alloc, &info)?)
 }
 
+fn is_written(alloc: Global, text: &str, wanted: &str) -> Result<bool, InfoErr> {
+    Ok(written(alloc, text)?.as_slice() == wanted.as_bytes())
+}
+
 #[test]
 fn keeps_other_members(rt: HostRuntime) -> Result<(), Fail> {
-    for text in [JOPLIN, JOPLIN_COMPACT] {
-        assert_eq!(rt;
-            written(rt.alloc(), text)?.as_slice(),
-            JOPLIN_COMPACT.as_bytes()
-        );
-    }
+    assert!(rt; is_written(rt.alloc(), JOPLIN, JOPLIN_COMPACT)?);
+    assert!(rt; is_written(rt.alloc(), JOPLIN_COMPACT, JOPLIN_COMPACT)?);
     Ok(())
+}
+
+fn new_text(alloc: Global) -> Result<Bytes, AllocError> {
+    write_info(alloc, &Info::new(alloc, 3))
 }
 
 #[test]
 fn writes_a_new_target(rt: HostRuntime) -> Result<(), Fail> {
-    let text = write_info(rt.alloc(), &Info::new(rt.alloc(), 3))?;
-    assert_eq!(rt; text.as_slice(), NEW.as_bytes());
+    let text = new_text(rt.alloc())?;
+    assert!(rt; text.as_slice() == NEW.as_bytes());
     Ok(())
 }
 
@@ -206,18 +222,36 @@ const MERGES: [(&str, &str, &str); 3] = [
     ),
 ];
 
-fn merged(alloc: Global, local: &str, remote: &str) -> Result<Bytes, Fail> {
+fn copied_text(alloc: Global, info: &Info) -> Result<Bytes, AllocError>
+    requires { IsInfo info.now }
+{
+    let copy = info.copy(alloc)?;
+    write_info(alloc, &copy)
+}
+
+fn merged_text(alloc: Global, local: &Info, remote: &Info) -> Result<Bytes, AllocError>
+    requires local { IsInfo local.now }
+    requires remote { IsInfo remote.now }
+{
+    let info = merge(alloc, local, remote)?;
+    copied_text(alloc, &info)
+}
+
+fn merged(alloc: Global, local: &str, remote: &str) -> Result<Bytes, InfoErr> {
     let local = read_info(alloc, local.as_bytes())?;
     let remote = read_info(alloc, remote.as_bytes())?;
-    let info = merge(alloc, &local, &remote)?.copy(alloc)?;
-    Ok(write_info(alloc, &info)?)
+    Ok(merged_text(alloc, &local, &remote)?)
+}
+
+fn is_merged(alloc: Global, local: &str, remote: &str, both: &str) -> Result<bool, InfoErr> {
+    let text = merged(alloc, local, remote)?;
+    Ok(text.as_slice() == written(alloc, both)?.as_slice())
 }
 
 #[test]
 fn merges_settings_and_keys(rt: HostRuntime) -> Result<(), Fail> {
     for (local, remote, both) in MERGES {
-        let text = merged(rt.alloc(), local, remote)?;
-        assert_eq!(rt; text.as_slice(), written(rt.alloc(), both)?.as_slice());
+        assert!(rt; is_merged(rt.alloc(), local, remote, both)?);
     }
     Ok(())
 }

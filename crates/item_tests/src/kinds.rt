@@ -1,8 +1,12 @@
 //! What the pairs of an item say.
 
+ghost use Rattle.std.specs.Prelude.{◌≤◌};
+ghost use Rattle.jop_base.specs.Times.{last_time};
+
 use item_kinds::{Kind, id_of, is_sealed, kind_of, read_time, updated_of, write_time};
-use item_text::read_item;
+use item_text::{Item, read_item};
 use jop_base::MAX_TIME;
+use std::alloc::{AllocError, Global};
 use std::test::*;
 
 /// Times and how they are written.
@@ -13,12 +17,18 @@ const TIMES: [(u64, &str); 4] = [
     (MAX_TIME, "9999-12-31T23:59:59.999Z"),
 ];
 
+fn is_written(alloc: Global, time: u64, text: &str) -> Result<bool, AllocError>
+    requires { time ≤ last_time }
+{
+    Ok(write_time(alloc, time)?.as_str() == text)
+}
+
 #[test]
 fn times_are_written_and_read(rt: HostRuntime) -> Result<(), Fail> {
     for (time, text) in TIMES {
         assert!(rt; time <= MAX_TIME);
-        assert_eq!(rt; write_time(rt.alloc(), time)?.as_str(), text);
-        assert_eq!(rt; read_time(text.as_bytes()), Some(time));
+        assert!(rt; is_written(rt.alloc(), time, text)?);
+        assert!(rt; read_time(text.as_bytes()) == Some(time));
     }
     Ok(())
 }
@@ -44,17 +54,22 @@ const READ: [(&str, Option<u64>); 14] = [
 #[test]
 fn what_is_no_time_is_refused(rt: HostRuntime) {
     for (text, time) in READ {
-        assert_eq!(rt; read_time(text.as_bytes()), time, "{text}");
+        assert!(rt; read_time(text.as_bytes()) == time, "{text}");
     }
+}
+
+/// Whether an item is of kind 7, sealed, and without an id and a time.
+fn is_other(item: &Item) -> bool {
+    kind_of(item) == Some(Kind(7))
+        && id_of(item).is_none()
+        && updated_of(item) == 0
+        && is_sealed(item)
 }
 
 #[test]
 fn other_kinds_and_bad_values_are_read(rt: HostRuntime) -> Result<(), Fail> {
     let text = "id: A\nupdated_time: soon\nencryption_applied: 1\ntype_: 007";
     let item = read_item(rt.alloc(), text.as_bytes())?;
-    assert_eq!(rt; kind_of(&item), Some(Kind(7)));
-    assert_eq!(rt; id_of(&item), None);
-    assert_eq!(rt; updated_of(&item), 0);
-    assert!(rt; is_sealed(&item));
+    assert!(rt; is_other(&item));
     Ok(())
 }

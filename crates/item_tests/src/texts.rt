@@ -1,11 +1,11 @@
 //! Items and their texts.
 
 use item_text::{
-    BadItem, BadWhy, ItemErr, canonical_parts, escape_value, is_item, prop, read_item, set_prop,
-    trimmed, unescape_value, write_item,
+    BadItem, BadWhy, Item, ItemErr, canonical_parts, escape_value, is_item, prop, read_item,
+    set_prop, trimmed, unescape_value, write_item,
 };
-use jop_base::{Bytes, Copied, Text};
-use std::alloc::Global;
+use jop_base::{Copied, Text};
+use std::alloc::{AllocError, Global};
 use std::test::*;
 
 /// A note as Joplin's desktop client writes it.
@@ -36,52 +36,79 @@ const REWRITTEN: [(&str, &str); 6] = [
     (":\n:\ntype_:007", ": \n: \ntype_: 007"),
 ];
 
-fn rewritten(alloc: Global, text: &str) -> Result<Bytes, Fail> {
-    let item = read_item(alloc, text.as_bytes())?.copy(alloc)?;
-    Ok(write_item(alloc, &item)?)
+/// Whether an item is a good one, and is written so.
+pub fn is_written(alloc: Global, item: &Item, text: &str) -> Result<bool, AllocError> {
+    Ok(is_item(item) && write_item(alloc, item)?.as_slice() == text.as_bytes())
+}
+
+fn is_copied(alloc: Global, item: &Item, text: &str) -> Result<bool, AllocError> {
+    let copy = item.copy(alloc)?;
+    is_written(alloc, &copy, text)
+}
+
+fn is_rewritten(alloc: Global, text: &str, wanted: &str) -> Result<bool, ItemErr> {
+    let item = read_item(alloc, text.as_bytes())?;
+    Ok(is_copied(alloc, &item, wanted)?)
 }
 
 /// The parts of the canonical text, one behind the other.
-fn canonical(alloc: Global, text: &str) -> Option<Bytes> {
-    match canonical_parts(alloc, text.as_bytes()) {
-        Ok((mut before, body, behind)) => {
-            before.append(body).ok()?;
-            before.append(behind.as_str()).ok()?;
-            Some(before.into_bytes())
-        }
-        Err(_) => None,
-    }
+fn canonical(alloc: Global, text: &str) -> Result<Text, ItemErr> {
+    let (mut before, body, behind) = canonical_parts(alloc, text.as_bytes())?;
+    before.append(body)?;
+    before.append(behind.as_str())?;
+    Ok(before)
+}
+
+fn is_canonical(alloc: Global, text: &str, wanted: &str) -> Result<bool, ItemErr> {
+    Ok(canonical(alloc, text)?.as_str() == wanted)
 }
 
 #[test]
 fn texts_are_written_back(rt: HostRuntime) -> Result<(), Fail> {
     for (text, wanted) in REWRITTEN {
-        assert_eq!(rt; rewritten(rt.alloc(), text)?.as_slice(), wanted.as_bytes());
-        let parts = canonical(rt.alloc(), text).ok_or("a text")?;
-        assert_eq!(rt; parts.as_slice(), wanted.as_bytes());
+        assert!(rt; is_rewritten(rt.alloc(), text, wanted)?, "{text}");
+        assert!(rt; is_canonical(rt.alloc(), text, wanted)?, "{text}");
     }
     Ok(())
+}
+
+/// Whether an item has this title. None has none.
+fn has_title(item: &Item, wanted: &str) -> bool {
+    match &item.title {
+        Some(title) => title.as_str() == wanted,
+        None => false,
+    }
 }
 
 #[test]
 fn a_note_is_taken_apart(rt: HostRuntime) -> Result<(), Fail> {
     let item = read_item(rt.alloc(), NOTE.as_bytes())?;
-    assert!(rt; is_item(&item));
-    assert_eq!(rt; item.title.ok_or("a title")?.as_str(), "Shopping");
-    assert_eq!(rt; item.body.as_str(), "- milk\n- bread: two");
-    assert_eq!(rt; item.props.len(), 24);
+    assert!(rt; is_item(&item) && has_title(&item, "Shopping"));
+    assert!(rt; item.body.as_str() == "- milk\n- bread: two" && item.props.len() == 24);
     Ok(())
+}
+
+fn has_value(item: &Item, key: &[u8], wanted: &str) -> bool {
+    match prop(item, key) {
+        Some(value) => value.as_str() == wanted,
+        None => false,
+    }
+}
+
+/// Sets the first of two pairs, and one that is new.
+fn set_pairs(alloc: Global, item: &mut Item) -> Result<(), AllocError> {
+    set_prop(alloc, item, "key", Text::of(alloc, "3")?)?;
+    set_prop(alloc, item, "new", Text::of(alloc, "")?)
 }
 
 #[test]
 fn a_pair_is_set_in_its_place(rt: HostRuntime) -> Result<(), Fail> {
     let text = "T\n\nkey: 1\nkey: 2\ntype_: 1";
     let mut item = read_item(rt.alloc(), text.as_bytes())?;
-    assert_eq!(rt; prop(&item, b"key").ok_or("a value")?.as_str(), "1");
-    set_prop(rt.alloc(), &mut item, "key", Text::of(rt.alloc(), "3")?)?;
-    set_prop(rt.alloc(), &mut item, "new", Text::of(rt.alloc(), "")?)?;
+    assert!(rt; has_value(&item, b"key", "1"));
+    set_pairs(rt.alloc(), &mut item)?;
     let set = "T\n\nkey: 3\nkey: 2\nnew: \ntype_: 1";
-    assert_eq!(rt; write_item(rt.alloc(), &item)?.as_slice(), set.as_bytes());
+    assert!(rt; is_written(rt.alloc(), &item, set)?);
     Ok(())
 }
 
@@ -106,22 +133,32 @@ fn bad(line: u64, why: BadWhy) -> Option<ItemErr> {
 #[test]
 fn the_first_refusal_is_answered(rt: HostRuntime) {
     for (text, line, why) in REFUSED {
-        assert_eq!(rt; refusal(rt.alloc(), text), bad(line, why));
+        assert!(rt; refusal(rt.alloc(), text) == bad(line, why), "{line}");
     }
 }
 
 /// Values, and the lines that stand for them.
 const ESCAPED: [(&str, &str); 3] = [("\\\nx", "\\\\\\nx"), ("a\tb\r", "a\tb\\r"), ("", "")];
 
+/// Whether a value is escaped to this line, and back.
+fn is_escaped(alloc: Global, value: &str, line: &str) -> Result<bool, AllocError> {
+    let made = escape_value(alloc, &Text::of(alloc, value)?)?;
+    Ok(made.as_str() == line && unescape_value(alloc, &made)?.as_str() == value)
+}
+
 #[test]
 fn escaped_values_are_on_one_line(rt: HostRuntime) -> Result<(), Fail> {
     for (value, line) in ESCAPED {
-        let made = escape_value(rt.alloc(), &Text::of(rt.alloc(), value)?)?;
-        assert_eq!(rt; made.as_str(), line);
-        assert_eq!(rt; unescape_value(rt.alloc(), &made)?.as_str(), value);
+        assert!(rt; is_escaped(rt.alloc(), value, line)?, "{line}");
     }
     assert_eq!(rt; trimmed("\t\u{b} a b\u{a0}\u{c}\r"), "a b\u{a0}");
     Ok(())
+}
+
+/// Why a text of so many equal bytes is refused.
+fn refusal_of(alloc: Global, byte: u8, count: usize) -> Result<Option<ItemErr>, AllocError> {
+    let text = vec![in alloc; byte; count]?;
+    Ok(refusal(alloc, text.as_slice()))
 }
 
 #[test]
@@ -131,22 +168,27 @@ fn huge_texts_are_read_in_linear_time(rt: HostRuntime) -> Result<(), Fail> {
         (b'x', 16_777_216, 1, BadWhy::NoColon),
         (b':', 1_000_000, 0, BadWhy::NoType),
     ] {
-        let text = vec![in rt.alloc(); byte; count]?;
-        assert_eq!(rt; refusal(rt.alloc(), text.as_slice()), bad(line, why));
+        assert!(rt; refusal_of(rt.alloc(), byte, count)? == bad(line, why));
     }
     Ok(())
 }
 
-#[test]
-fn a_million_pairs_are_read(rt: HostRuntime) -> Result<(), Fail> {
-    let mut text = Text::new(rt.alloc());
-    for _ in 0..1_000_000 {
+fn pairs(alloc: Global, count: usize) -> Result<Text, AllocError> {
+    let mut text = Text::new(alloc);
+    for _ in 0..count {
         text.append("a: b\n")?;
     }
     text.append("type_: 1")?;
-    assert_eq!(rt;
-        read_item(rt.alloc(), text.as_slice())?.props.len(),
-        1_000_001
-    );
+    Ok(text)
+}
+
+fn count_of(alloc: Global, text: &Text) -> Result<usize, ItemErr> {
+    Ok(read_item(alloc, text.as_slice())?.props.len())
+}
+
+#[test]
+fn a_million_pairs_are_read(rt: HostRuntime) -> Result<(), Fail> {
+    let text = pairs(rt.alloc(), 1_000_000)?;
+    assert_eq!(rt; count_of(rt.alloc(), &text)?, 1_000_001);
     Ok(())
 }

@@ -48,9 +48,14 @@ fn count_of(alloc: Global, body: &[u8]) -> Result<usize, AllocError> {
     })
 }
 
+/// The same of the body of these files and this end.
+fn count_in(alloc: Global, files: &[(&[u8], &[u8])], end: &[u8]) -> Result<usize, AllocError> {
+    let body = body_of(alloc, files, end)?;
+    count_of(alloc, body.as_slice())
+}
+
 #[test]
 fn bodies_are_read_or_refused(rt: HostRuntime) -> Result<(), Fail> {
-    let alloc = rt.alloc();
     let rows: [(&[(&[u8], &[u8])], &[u8], usize); 14] = [
         (&[], ENDING, 0),
         (&[(NOTE, SECOND)], ENDING, 1),
@@ -76,40 +81,52 @@ fn bodies_are_read_or_refused(rt: HostRuntime) -> Result<(), Fail> {
         (&[(NOTE, SECOND)], b"</d:multistatus>\n\n", 9),
     ];
     for (files, end, wanted) in rows {
-        let body = body_of(alloc, files, end)?;
-        assert_eq!(rt; count_of(alloc, body.as_slice())?, wanted);
+        assert_eq!(rt; count_in(rt.alloc(), files, end)?, wanted);
     }
     Ok(())
+}
+
+/// How many files a body is read as in which one bit of this byte was turned.
+fn count_with(alloc: Global, body: &[u8], place: usize) -> Result<usize, AllocError> {
+    let mut changed = body.to_vec(alloc)?;
+    if let Some(byte) = changed.get_mut(place) {
+        *byte ^= 1;
+    }
+    count_of(alloc, changed.as_slice())
 }
 
 #[test]
 fn each_byte_of_the_layout_counts(rt: HostRuntime) -> Result<(), Fail> {
-    let alloc = rt.alloc();
-    let body = body_of(alloc, &[], ENDING)?.into_vec();
+    let body = body_of(rt.alloc(), &[], ENDING)?;
     for place in 0..body.len() {
-        let mut changed = body.as_slice().to_vec(alloc)?;
-        changed[place] ^= 1;
-        assert_eq!(rt; count_of(alloc, changed.as_slice())?, 9);
+        assert_eq!(rt; count_with(rt.alloc(), body.as_slice(), place)?, 9);
     }
     Ok(())
 }
 
-#[test]
-fn a_listing_is_written(rt: HostRuntime) -> Result<(), Fail> {
-    let alloc = rt.alloc();
+/// Whether the listing of one file is written so.
+fn is_written(alloc: Global, wanted: &[u8]) -> Result<bool, AllocError> {
     let entry = Entry {
         path: Path::Info,
         stamp: 1_999,
     };
-    let body = write_multistatus(alloc, Dir::Root, &[entry])?;
-    let wanted = body_of(alloc, &[(b"/info.json", SECOND)], ENDING)?;
-    assert_eq!(rt; body.as_slice(), wanted.as_slice());
-    assert_eq!(rt; write_multistatus(alloc, Dir::Locks, &[])?.len(), 263);
+    Ok(write_multistatus(alloc, Dir::Root, &[entry])?.as_slice() == wanted)
+}
+
+fn empty_len(alloc: Global) -> Result<usize, AllocError> {
+    Ok(write_multistatus(alloc, Dir::Locks, &[])?.len())
+}
+
+#[test]
+fn a_listing_is_written(rt: HostRuntime) -> Result<(), Fail> {
+    let wanted = body_of(rt.alloc(), &[(b"/info.json", SECOND)], ENDING)?;
+    assert!(rt; is_written(rt.alloc(), wanted.as_slice())?);
+    assert_eq!(rt; empty_len(rt.alloc())?, 263);
     Ok(())
 }
 
 #[test]
-fn dates_have_three_forms(rt: HostRuntime) -> Result<(), Fail> {
+fn dates_have_three_forms(rt: HostRuntime) {
     let rows: [(&[u8], Option<u64>); 6] = [
         (SECOND, Some(1_000)),
         (b"Thursday, 01-Jan-70 00:00:01 GMT", Some(1_000)),
@@ -119,10 +136,19 @@ fn dates_have_three_forms(rt: HostRuntime) -> Result<(), Fail> {
         (b"", None),
     ];
     for (text, wanted) in rows {
-        assert_eq!(rt; read_moment(text), wanted);
+        assert!(rt; read_moment(text) == wanted);
     }
-    let mut number = Bytes::new(rt.alloc());
-    append_decimal(rt.alloc(), &mut number, u64::MAX)?;
-    assert_eq!(rt; number.as_slice(), b"18446744073709551615".as_slice());
+}
+
+fn greatest_number(alloc: Global) -> Result<Bytes, AllocError> {
+    let mut number = Bytes::new(alloc);
+    append_decimal(alloc, &mut number, u64::MAX)?;
+    Ok(number)
+}
+
+#[test]
+fn numbers_are_written_in_full(rt: HostRuntime) -> Result<(), Fail> {
+    let number = greatest_number(rt.alloc())?;
+    assert!(rt; number.as_slice() == b"18446744073709551615".as_slice());
     Ok(())
 }
