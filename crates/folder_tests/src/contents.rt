@@ -1,11 +1,12 @@
-use crate::asking::{ask, ask_all};
-use crate::folder::{CLIENT, NOTE, empty_folder, lock, note, note_in, target_over};
+use crate::asking::ask;
+use crate::folder::{empty_folder, path_in, target_over};
+use crate::past::{Deed, NOTE};
 use crate::spy::{Reads, Spy};
-use jop_base::{Bytes, Dir, Id, Path, Text};
+use crate::step::{Name, Step, client};
+use jop_base::{Bytes, Path, Text};
 use jop_target::{Call, FILE_LIMIT, Reply, Target};
 use std::alloc::Global;
-use std::fs::{self, File, Permissions};
-use std::os::unix::fs::{MetadataExt, PermissionsExt, symlink};
+use std::fs;
 use std::test::Fail;
 use target_files::FolderTarget;
 
@@ -27,18 +28,33 @@ fn content_of_info<T: Target>(alloc: Global, target: &mut T) -> Result<Bytes, Fa
     }
 }
 
+fn put_info<T: Target>(alloc: Global, target: &mut T, len: u64) -> Result<(), Fail> {
+    let put = Call::Put(Path::Info, Bytes::from_vec(bytes_of(alloc, len)?));
+    let mut none = Bytes::new(alloc);
+    target.call(alloc, &put, &mut none)?;
+    Ok(())
+}
+
+fn has_info<T: Target>(alloc: Global, target: &mut T, len: u64) -> Result<bool, Fail> {
+    let got = content_of_info(alloc, target)?;
+    let wanted = bytes_of(alloc, len)?;
+    Ok(got.as_slice() == wanted.as_slice())
+}
+
+/// Whether so many bytes are got as they were put.
+fn keeps(rt: &HostRuntime, folder: &str, len: u64) -> Result<bool, Fail> {
+    let mut target = target_over(rt, folder)?;
+    put_info(rt.alloc(), &mut target, len)?;
+    has_info(rt.alloc(), &mut target, len)
+}
+
 #[test]
 fn what_was_put_is_got_whole(rt: HostRuntime) -> Result<(), Fail> {
-    let alloc = rt.alloc();
     let folder = empty_folder(&rt)?;
-    let mut target = target_over(&rt, &folder)?;
     for len in [1, 65_536, 65_537, FILE_LIMIT] {
-        let put = Call::Put(Path::Info, Bytes::from_vec(bytes_of(alloc, len)?));
-        ask(alloc, &mut target, &put)?;
-        let got = content_of_info(alloc, &mut target)?;
-        assert!(rt; got.as_slice() == bytes_of(alloc, len)?.as_slice());
+        assert!(rt; keeps(&rt, folder.as_str(), len)?);
     }
-    fs::remove_dir_all(&rt, &folder)?;
+    fs::remove_dir_all(&rt, folder.as_str())?;
     Ok(())
 }
 
@@ -50,7 +66,7 @@ const READS: [(Reads, &str); 4] = [
             in_all: 2,
             fails: true,
         },
-        "got [104, 105]",
+        "got [104, 105]\n",
     ),
     (
         Reads {
@@ -58,7 +74,7 @@ const READS: [(Reads, &str); 4] = [
             in_all: 1,
             fails: true,
         },
-        "failed",
+        "failed\n",
     ),
     (
         Reads {
@@ -66,7 +82,7 @@ const READS: [(Reads, &str); 4] = [
             in_all: 1,
             fails: false,
         },
-        "failed",
+        "failed\n",
     ),
     (
         Reads {
@@ -74,136 +90,37 @@ const READS: [(Reads, &str); 4] = [
             in_all: 0,
             fails: true,
         },
-        "failed",
+        "failed\n",
     ),
 ];
 
+/// What a get of the note is answered by a target whose files are read so.
+fn answer_by(rt: &HostRuntime, folder: &str, log: &str, reads: Reads) -> Result<String, Fail> {
+    let spy = Spy {
+        real: rt,
+        folder: "",
+        log,
+        reads,
+    };
+    let temp = client()?;
+    let mut target = FolderTarget::new(spy, Text::of(rt.alloc(), folder)?, temp);
+    ask(rt.alloc(), &mut target, Step::Get(Name::Note))
+}
+
+/// Whether it is this.
+fn is_answered(rt: &HostRuntime, folder: &str, reads: Reads, wanted: &str) -> Result<bool, Fail> {
+    let log = path_in(rt.alloc(), folder, "/log")?;
+    let said = answer_by(rt, folder, log.as_str(), reads)?;
+    Ok(said.as_str() == wanted)
+}
+
 #[test]
 fn a_file_that_cannot_be_read_whole_is_a_fault(rt: HostRuntime) -> Result<(), Fail> {
-    let alloc = rt.alloc();
     let folder = empty_folder(&rt)?;
-    fs::write(&rt, &note_in(alloc, &folder)?, "hi")?;
-    let log = folder.join(alloc, "log")?;
+    Deed::Write("hi").act_in(&rt, folder.as_str(), NOTE)?;
     for (reads, wanted) in READS {
-        let spy = Spy {
-            real: &rt,
-            folder: "",
-            log: log.as_str(),
-            reads,
-        };
-        let temp = Id::read(CLIENT).ok_or("no id")?;
-        let mut target = FolderTarget::new(spy, Text::of(alloc, folder.as_str())?, temp);
-        let said = ask(alloc, &mut target, &Call::Get(note()?))?;
-        assert_eq!(rt; said.as_str(), wanted);
+        assert!(rt; is_answered(&rt, folder.as_str(), reads, wanted)?);
     }
-    fs::remove_dir_all(&rt, &folder)?;
-    Ok(())
-}
-
-#[test]
-fn a_shorter_lock_keeps_nothing_of_a_longer_one(rt: HostRuntime) -> Result<(), Fail> {
-    let alloc = rt.alloc();
-    let folder = empty_folder(&rt)?;
-    let mut target = target_over(&rt, &folder)?;
-    let lock = lock()?;
-    let calls = [
-        Call::Put(lock, Bytes::from_vec(b"longer".to_vec(alloc)?)),
-        Call::Put(lock, Bytes::from_vec(b"hi".to_vec(alloc)?)),
-        Call::Get(lock),
-    ];
-    let said = ask_all(alloc, &mut target, &calls)?;
-    assert_eq!(rt; said.as_str(), "done\ndone\ngot [104, 105]\n");
-    fs::remove_dir_all(&rt, &folder)?;
-    Ok(())
-}
-
-#[test]
-fn a_blob_past_its_limit_is_too_large(rt: HostRuntime) -> Result<(), Fail> {
-    let alloc = rt.alloc();
-    let folder = empty_folder(&rt)?;
-    let mut target = target_over(&rt, &folder)?;
-    let id = Id::read(NOTE).ok_or("no id")?;
-    fs::create_dir(&rt, &folder.join(alloc, ".resource")?)?;
-    let name = folder.join(alloc, Path::Blob(id).text(alloc)?.as_str())?;
-    // It takes no room on the disk.
-    File::create(&rt, &name)?.set_len(67_108_865)?;
-    let said = ask(alloc, &mut target, &Call::GetBlob(id))?;
-    assert_eq!(rt; said.as_str(), "too large 67108865 []");
-    fs::remove_dir_all(&rt, &folder)?;
-    Ok(())
-}
-
-#[test]
-fn a_folder_is_made_or_the_call_has_failed(rt: HostRuntime) -> Result<(), Fail> {
-    let alloc = rt.alloc();
-    let folder = empty_folder(&rt)?;
-    let mut target = target_over(&rt, &folder)?;
-    let name = folder.join(alloc, "locks")?;
-    let said = ask(alloc, &mut target, &Call::MakeDir(Dir::Locks))?;
-    assert_eq!(rt; said.as_str(), "done");
-    fs::remove_dir(&rt, &name)?;
-    fs::write(&rt, &name, "a file")?;
-    let said = ask(alloc, &mut target, &Call::MakeDir(Dir::Locks))?;
-    assert_eq!(rt; said.as_str(), "failed");
-    fs::remove_dir_all(&rt, &folder)?;
-    Ok(())
-}
-
-#[test]
-fn a_file_takes_the_rights_of_the_one_that_it_replaces(rt: HostRuntime) -> Result<(), Fail> {
-    let alloc = rt.alloc();
-    let folder = empty_folder(&rt)?;
-    let mut target = target_over(&rt, &folder)?;
-    let name = note_in(alloc, &folder)?;
-    fs::write(&rt, &name, "private")?;
-    fs::set_permissions(&rt, &name, Permissions::from_mode(0o600))?;
-    let said = ask(alloc, &mut target, &Call::Put(note()?, Bytes::new(alloc)))?;
-    assert_eq!(rt; said.as_str(), "done");
-    assert_eq!(rt; fs::metadata(&rt, &name)?.mode() & 0o777, 0o600);
-    fs::remove_dir_all(&rt, &folder)?;
-    Ok(())
-}
-
-#[test]
-fn a_link_is_no_file(rt: HostRuntime) -> Result<(), Fail> {
-    let alloc = rt.alloc();
-    let folder = empty_folder(&rt)?;
-    let mut target = target_over(&rt, &folder)?;
-    let note = note()?;
-    let theirs = folder.join(alloc, "theirs")?;
-    fs::write(&rt, &theirs, "theirs")?;
-    symlink(&rt, "theirs", &note_in(alloc, &folder)?)?;
-    let calls = [
-        Call::List(Dir::Root),
-        Call::Get(note),
-        Call::Delete(note),
-        Call::Put(note, Bytes::from_vec(b"hi".to_vec(alloc)?)),
-        Call::Get(note),
-    ];
-    let said = ask_all(alloc, &mut target, &calls)?;
-    assert_eq!(rt;
-        said.as_str(),
-        "listed\nabsent\nabsent\ndone\ngot [104, 105]\n"
-    );
-    assert_eq!(rt; fs::read_to_string(&rt, &theirs)?.as_str(), "theirs");
-    fs::remove_dir_all(&rt, &folder)?;
-    Ok(())
-}
-
-#[test]
-fn a_leftover_that_bears_the_temporary_name_is_not_written(rt: HostRuntime) -> Result<(), Fail> {
-    let alloc = rt.alloc();
-    let folder = empty_folder(&rt)?;
-    let mut target = target_over(&rt, &folder)?;
-    let theirs = folder.join(alloc, "theirs")?;
-    fs::write(&rt, &theirs, "theirs")?;
-    fs::create_dir(&rt, &folder.join(alloc, "temp")?)?;
-    let temp = Path::Temp(Id::read(CLIENT).ok_or("no id")?).text(alloc)?;
-    for call in [Call::List(Dir::Temp), Call::Put(note()?, Bytes::new(alloc))] {
-        symlink(&rt, &theirs, &folder.join(alloc, temp.as_str())?)?;
-        ask(alloc, &mut target, &call)?;
-    }
-    assert_eq!(rt; fs::read_to_string(&rt, &theirs)?.as_str(), "theirs");
-    fs::remove_dir_all(&rt, &folder)?;
+    fs::remove_dir_all(&rt, folder.as_str())?;
     Ok(())
 }

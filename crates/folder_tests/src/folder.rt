@@ -1,13 +1,10 @@
-use jop_base::{Id, LockKind, LockName, Path, Text};
+use crate::step::client;
+use jop_base::Text;
 use std::alloc::{AllocError, Global};
 use std::path::PathBuf;
 use std::test::Fail;
 use std::{env, fs, io, process};
 use target_files::FolderTarget;
-
-pub(crate) const NOTE: &[u8] = b"22222222222222222222222222222222";
-
-pub(crate) const CLIENT: &[u8] = b"11111111111111111111111111111111";
 
 /// A folder that is there and empty, for one test alone.
 pub(crate) fn empty_folder(rt: &HostRuntime) -> io::Result<PathBuf> {
@@ -18,28 +15,19 @@ pub(crate) fn empty_folder(rt: &HostRuntime) -> io::Result<PathBuf> {
     Ok(folder)
 }
 
+/// Where a file of a folder stands. Its name begins with a slash; that of the folder itself is
+/// empty.
+pub(crate) fn path_in(alloc: Global, folder: &str, name: &str) -> Result<String, AllocError> {
+    let mut path = String::from_str(alloc, folder)?;
+    path.push_str(name)?;
+    Ok(path)
+}
+
 pub(crate) fn target_over(
     rt: &HostRuntime,
-    folder: &PathBuf,
+    folder: &str,
 ) -> Result<FolderTarget<HostRuntime>, Fail> {
-    let root = Text::of(rt.alloc(), folder.as_str())?;
-    let temp = Id::read(CLIENT).ok_or("no id")?;
+    let temp = client()?;
+    let root = Text::of(rt.alloc(), folder)?;
     Ok(FolderTarget::new(rt.clone()?, root, temp))
-}
-
-pub(crate) fn note() -> Result<Path, Fail> {
-    Ok(Path::Item(Id::read(NOTE).ok_or("no id")?))
-}
-
-pub(crate) fn lock() -> Result<Path, Fail> {
-    Ok(Path::Lock(LockName {
-        kind: LockKind::Sync,
-        client_type: 3,
-        client: Id::read(CLIENT).ok_or("no id")?,
-    }))
-}
-
-/// The name of a note's file in this folder.
-pub(crate) fn note_in(alloc: Global, folder: &PathBuf) -> Result<PathBuf, AllocError> {
-    folder.join(alloc, "22222222222222222222222222222222.md")
 }

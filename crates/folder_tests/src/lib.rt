@@ -13,4 +13,12 @@ mod folder;
 #[cfg(test)]
 mod order;
 #[cfg(test)]
+mod past;
+#[cfg(test)]
+mod scene;
+#[cfg(test)]
+mod scenes;
+#[cfg(test)]
 mod spy;
+#[cfg(test)]
+mod step;

@@ -1,11 +1,12 @@
 use crate::asking::ask;
-use crate::folder::{CLIENT, NOTE, empty_folder, lock, note};
+use crate::folder::{empty_folder, path_in};
+use crate::past::Deed;
 use crate::spy::{Reads, Spy};
-use jop_base::{Bytes, Dir, Id, Text};
-use jop_target::Call;
+use crate::step::{Name, Step, client};
+use jop_base::{Dir, Text};
 use std::alloc::Global;
-use std::fs;
 use std::test::Fail;
+use std::{fs, io};
 use target_files::FolderTarget;
 
 /// A file is read at once.
@@ -79,51 +80,72 @@ open /.resource/
 flush
 ";
 
-fn calls(alloc: Global) -> Result<Vec<(&'static str, Call)>, Fail> {
-    let (lock, note) = (lock()?, note()?);
-    let id = Id::read(NOTE).ok_or("no id")?;
-    Ok(vec![in alloc;
-        (
-            "put an item",
-            Call::Put(note, Bytes::from_vec(b"hi".to_vec(alloc)?))
-        ),
-        ("get an item", Call::Get(note)),
-        ("list the root", Call::List(Dir::Root)),
-        ("delete an item", Call::Delete(note)),
-        (
-            "put a lock",
-            Call::Put(lock, Bytes::from_vec(b"{}".to_vec(alloc)?))
-        ),
-        (
-            "put a lock again",
-            Call::Put(lock, Bytes::from_vec(b"{}".to_vec(alloc)?))
-        ),
-        ("put a blob", Call::PutBlob { id, len: 4 }),
-    ]?)
+const STEPS: [(&str, Step); 7] = [
+    ("put an item", Step::Put(Name::Note, "hi")),
+    ("get an item", Step::Get(Name::Note)),
+    ("list the root", Step::List(Dir::Root)),
+    ("delete an item", Step::Delete(Name::Note)),
+    ("put a lock", Step::Put(Name::Lock, "{}")),
+    ("put a lock again", Step::Put(Name::Lock, "{}")),
+    ("put a blob", Step::PutBlob("blob")),
+];
+
+/// Takes each step, with its name in the log before what it asks.
+fn take_steps<'a>(
+    alloc: Global,
+    spy: &Spy<'a>,
+    target: &mut FolderTarget<Spy<'a>>,
+) -> Result<(), Fail> {
+    for (name, step) in STEPS.as_slice() {
+        spy.tell(name, "")?;
+        ask(alloc, target, *step)?;
+    }
+    Ok(())
+}
+
+/// Takes the steps over a folder, of which a spy tells to the log.
+fn take_steps_in(rt: &HostRuntime, folder: &str, log: &str) -> Result<(), Fail> {
+    let spy = Spy {
+        real: rt,
+        folder,
+        log,
+        reads: AT_ONCE,
+    };
+    let temp = client()?;
+    let mut target = FolderTarget::new(spy, Text::of(rt.alloc(), folder)?, temp);
+    take_steps(rt.alloc(), &spy, &mut target)
+}
+
+fn make_folders(rt: &HostRuntime, folder: &str) -> io::Result<()> {
+    for name in [
+        "/target",
+        "/target/temp",
+        "/target/locks",
+        "/target/.resource",
+    ] {
+        Deed::MakeDir.act_in(rt, folder, name)?;
+    }
+    Ok(())
+}
+
+/// What is asked of the system below a folder, a line each.
+fn asked_in(rt: &HostRuntime, folder: &str) -> Result<String, Fail> {
+    make_folders(rt, folder)?;
+    let target = path_in(rt.alloc(), folder, "/target")?;
+    let log = path_in(rt.alloc(), folder, "/log")?;
+    take_steps_in(rt, target.as_str(), log.as_str())?;
+    Ok(fs::read_to_string(rt, log.as_str())?)
+}
+
+fn asked(rt: &HostRuntime) -> Result<String, Fail> {
+    let folder = empty_folder(rt)?;
+    let asked = asked_in(rt, folder.as_str())?;
+    fs::remove_dir_all(rt, folder.as_str())?;
+    Ok(asked)
 }
 
 #[test]
 fn each_call_asks_the_system_in_this_order(rt: HostRuntime) -> Result<(), Fail> {
-    let alloc = rt.alloc();
-    let folder = empty_folder(&rt)?;
-    let log = folder.join(alloc, "log")?;
-    let target = folder.join(alloc, "target")?;
-    for name in ["target", "target/temp", "target/locks", "target/.resource"] {
-        fs::create_dir(&rt, &folder.join(alloc, name)?)?;
-    }
-    let spy = Spy {
-        real: &rt,
-        folder: target.as_str(),
-        log: log.as_str(),
-        reads: AT_ONCE,
-    };
-    let temp = Id::read(CLIENT).ok_or("no id")?;
-    let mut spied = FolderTarget::new(spy, Text::of(alloc, target.as_str())?, temp);
-    for (name, call) in &calls(alloc)? {
-        spy.tell(name, "")?;
-        ask(alloc, &mut spied, call)?;
-    }
-    assert_eq!(rt; fs::read_to_string(&rt, &log)?.as_str(), ORDER);
-    fs::remove_dir_all(&rt, &folder)?;
+    assert_eq!(rt; asked(&rt)?.as_str(), ORDER);
     Ok(())
 }
