@@ -1,4 +1,4 @@
-ghost use Rattle.std.specs.Prelude.{IfOk};
+ghost use Rattle.std.specs.Prelude.{IsTrue};
 ghost use Rattle.jop_target.specs.Replies.{IsCallable};
 
 use jop_base::{Bytes, Dir, Id, Path, Text};
@@ -28,40 +28,76 @@ pub(crate) fn bytes(alloc: Global, text: &[u8]) -> Result<Bytes, AllocError> {
     Ok(Bytes::from_vec(text.to_vec(alloc)?))
 }
 
-/// The call of a step, and the bytes that travel beside it.
-fn call(alloc: Global, id: Id, step: Step) -> Result<(Call, Bytes), AllocError>
-    ensures { IfOk result (λ c. IsCallable c.0 c.1) }
-{
-    let none = Bytes::new(alloc);
-    match step {
-        Step::Make => Ok((Call::MakeDir(Dir::Locks), none)),
-        Step::List(dir) => Ok((Call::List(dir), none)),
-        Step::Put => Ok((Call::Put(Path::Item(id), bytes(alloc, b"content")?), none)),
-        Step::Get => Ok((Call::Get(Path::Item(id)), none)),
-        Step::Delete => Ok((Call::Delete(Path::Item(id)), none)),
-        Step::PutBlob => {
-            let blob = bytes(alloc, b"blob")?;
-            let len = blob.len() as u64;
-            Ok((Call::PutBlob { id, len }, blob))
+fn id() -> Result<Id, Fail> {
+    Ok(Id::read(ONES).ok_or("an id")?)
+}
+
+fn put(alloc: Global, id: Id) -> Result<Call, AllocError> {
+    let content = bytes(alloc, b"content")?;
+    Ok(Call::Put(Path::Item(id), content))
+}
+
+impl Step {
+    fn call(self, alloc: Global, id: Id) -> Result<Call, AllocError> {
+        match self {
+            Step::Make => Ok(Call::MakeDir(Dir::Locks)),
+            Step::List(dir) => Ok(Call::List(dir)),
+            Step::Put => put(alloc, id),
+            Step::Get => Ok(Call::Get(Path::Item(id))),
+            Step::Delete => Ok(Call::Delete(Path::Item(id))),
+            Step::PutBlob => Ok(Call::PutBlob { id, len: 4 }),
+            Step::GetBlob => Ok(Call::GetBlob(id)),
         }
-        Step::GetBlob => Ok((Call::GetBlob(id), none)),
+    }
+
+    /// The bytes that travel beside the call.
+    pub(crate) fn blob(self, alloc: Global) -> Result<Bytes, AllocError> {
+        match self {
+            Step::PutBlob => bytes(alloc, b"blob"),
+            _ => Ok(Bytes::new(alloc)),
+        }
     }
 }
 
-/// What a target answers to a step, and the bytes that then stand beside it.
-pub(crate) fn answer<T: Target>(
+/// Whether a call may be made with a blob of so many bytes beside it.
+fn is_callable(call: &Call, blob: &Bytes) -> bool
+    ensures { IsTrue result → IsCallable call.now blob.now }
+{
+    match call {
+        Call::Get(path) | Call::Put(path, _) => !matches!(path, Path::Blob(_)),
+        Call::PutBlob { len, .. } => *len == blob.len() as u64,
+        _ => true,
+    }
+}
+
+/// What a target answers to a step. The bytes that then stand beside it are left in `blob`.
+pub(crate) fn reply_to<T: Target>(
     alloc: Global,
     target: &mut T,
     step: Step,
-) -> Result<(Reply, Bytes), Fail> {
-    let id = Id::read(ONES).ok_or("an id")?;
-    let (call, mut blob) = call(alloc, id, step)?;
-    let reply = target.call(alloc, &call, &mut blob)?;
-    Ok((reply, blob))
+    blob: &mut Bytes,
+) -> Result<Reply, Fail> {
+    let call = step.call(alloc, id()?)?;
+    if !is_callable(&call, blob) {
+        return Err(Fail::new("no call to make"));
+    }
+    Ok(target.call(alloc, &call, blob)?)
 }
 
 /// The line that tells what a target answers.
-pub(crate) fn told<T: Target>(alloc: Global, target: &mut T, step: Step) -> Result<String, Fail> {
-    let (reply, _) = answer(alloc, target, step)?;
+fn told<T: Target>(alloc: Global, target: &mut T, step: Step) -> Result<String, Fail> {
+    let mut blob = step.blob(alloc)?;
+    let reply = reply_to(alloc, target, step, &mut blob)?;
     Ok(reply.to_string(alloc)?)
+}
+
+/// Whether it is this one.
+pub(crate) fn tells<T: Target>(
+    alloc: Global,
+    target: &mut T,
+    step: Step,
+    wanted: &str,
+) -> Result<bool, Fail> {
+    let said = told(alloc, target, step)?;
+    Ok(said.as_str() == wanted)
 }
