@@ -1,6 +1,6 @@
 use jop_base::{Bytes, MemClock, MemEntropy, MemSink, MemSource, Seq, Text};
 use jop_cli::{Status, Words, run};
-use jop_target::{Diary, MemTarget, Target};
+use jop_target::{Diary, MemTarget};
 use local_store::{Changes, Keeper, MemKeeper};
 use std::alloc::{AllocError, Global};
 
@@ -16,13 +16,8 @@ pub(crate) struct Client<K: Keeper> {
 
 /// The bytes 0 to 255, so that the first id is 000102030405060708090a0b0c0d0e0f.
 pub(crate) fn random_bytes(alloc: Global) -> Result<MemEntropy, AllocError> {
-    bytes_from(alloc, 0)
-}
-
-/// The bytes from this one to 255.
-pub(crate) fn bytes_from(alloc: Global, first: u8) -> Result<MemEntropy, AllocError> {
     let mut bytes = Bytes::new(alloc);
-    for byte in first..=255 {
+    for byte in 0..=255 {
         bytes.push(byte)?;
     }
     Ok(MemEntropy::new(alloc, bytes))
@@ -72,10 +67,10 @@ impl<K: Keeper> Client<K> {
     }
 
     /// Runs the program once, on this target.
-    pub(crate) fn play_on<T: Target>(
+    pub(crate) fn play_on(
         &mut self,
         alloc: Global,
-        target: &mut T,
+        target: &mut MemTarget,
         line: &str,
         input: &[u8],
     ) -> Result<u8, AllocError> {
@@ -84,10 +79,10 @@ impl<K: Keeper> Client<K> {
         Ok(self.obey(alloc, target, &words, &mut input).exit())
     }
 
-    fn obey<T: Target>(
+    fn obey(
         &mut self,
         alloc: Global,
-        target: &mut T,
+        target: &mut MemTarget,
         words: &Words,
         input: &mut MemSource,
     ) -> Status {

@@ -1,5 +1,5 @@
 use crate::client::Client;
-use jop_target::Target;
+use jop_target::MemTarget;
 use local_store::Keeper;
 use std::alloc::{AllocError, Global};
 
@@ -38,10 +38,10 @@ pub(crate) fn has_come_out<K: Keeper>(client: &Client<K>, exit: u8, due: &Due) -
 }
 
 /// Plays the command that a line says, on this target: whether it came out as it is to.
-pub(crate) fn comes_out<K: Keeper, T: Target>(
+pub(crate) fn comes_out<K: Keeper>(
     client: &mut Client<K>,
     alloc: Global,
-    target: &mut T,
+    target: &mut MemTarget,
     line: &str,
 ) -> Result<bool, AllocError> {
     let due = read_due(line);

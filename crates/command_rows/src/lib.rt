@@ -1,6 +1,5 @@
 //! Worked cases of the commands on this machine's own tables, and of syncs of two clients: days that
-//! are played through [`jop_cli::run`] over keepers and a target in memory, and over files and folders
-//! that are opened anew for each run.
+//! are played through [`jop_cli::run`] over keepers and a target in memory.
 #![tactic(auto)]
 
 #[cfg(test)]
@@ -11,10 +10,6 @@ mod day;
 mod due;
 #[cfg(test)]
 mod faults;
-#[cfg(test)]
-mod filed;
-#[cfg(test)]
-mod place;
 #[cfg(test)]
 mod times;
 #[cfg(test)]
