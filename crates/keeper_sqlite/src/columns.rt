@@ -29,7 +29,7 @@ fn bytes_or_null_at(row: &Row, place: usize) -> Result<Option<Bytes>, Trouble> {
     }
 }
 
-fn number_at(row: &Row, place: usize) -> Result<i64, Trouble> {
+pub(crate) fn number_at(row: &Row, place: usize) -> Result<i64, Trouble> {
     let number: i64 = row.get(place)?;
     Ok(number)
 }

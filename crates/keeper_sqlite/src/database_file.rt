@@ -4,18 +4,19 @@ ghost use Rattle.std.specs.List.{list_all};
 ghost use Rattle.record_keeper.specs.Stores.{IsSoundRowOf};
 ghost use Rattle.record_keeper.specs.Writes.{IsSoundWrite, has_room};
 
-use crate::columns::FromColumns;
 use crate::database::Database;
 use crate::opening::open;
-use crate::statements::{BLOB, META, ROW};
+use crate::reading::{AllTables, BytesOf, RowOf};
+use crate::statements::{BLOB, META};
 use crate::trouble::Trouble;
-use crate::{reading, writing};
+use crate::work::{Work, done_on};
+use crate::writing::{Blob, Writes};
 use jop_base::{Bytes, Id, Seq, Text};
 use local_store::{Row, Tables};
 use record_keeper::{Write, have_room};
 use std::alloc::Global;
 use std::rt::HostRuntime;
-use stored_records::{Record, RowRecord, read_number};
+use stored_records::{Record, read_number};
 
 /// A file, which is opened at the first call, and closed when the keeper is let go.
 pub(crate) struct DatabaseFile {
@@ -59,27 +60,23 @@ impl DatabaseFile {
         }
     }
 
-    /// What a query answers of this key, if it answers anything.
-    fn one<T: FromColumns>(
-        &mut self,
-        alloc: Global,
-        query: &str,
-        key: &str,
-    ) -> Result<Option<T>, Trouble> {
-        reading::one_of(alloc, self.opened(alloc)?, query, key)
+    fn on_file<W: Work>(&mut self, alloc: Global, work: &W) -> Result<W::Answer, Trouble>
+        requires { W.is_fit work.now }
+        ensures { IfOk result W.answers }
+    {
+        done_on(alloc, self.opened(alloc)?, work)
     }
 
     pub fn tables(&mut self, alloc: Global) -> Result<Tables, Trouble>
         ensures { IfOk result (λ tables. IsSound tables) }
     {
-        let tables = reading::tables(alloc, self.opened(alloc)?)?;
-        Ok(tables)
+        self.on_file(alloc, &AllTables)
     }
 
     pub fn row(&mut self, alloc: Global, id: &Id) -> Result<Option<Row>, Trouble>
         ensures { IfOk result (λ row. IsSoundRowOf id.now row) }
     {
-        let record: RowRecord = match self.one(alloc, ROW, id.as_str())? {
+        let record = match self.on_file(alloc, &RowOf { id })? {
             Some(record) => record,
             None => return Ok(None),
         };
@@ -91,11 +88,14 @@ impl DatabaseFile {
     }
 
     pub fn next_conflict(&mut self, alloc: Global) -> Result<u64, Trouble> {
-        let digits: Bytes = match self.one(alloc, META, "next_conflict")? {
-            Some(digits) => digits,
-            None => return Err(Trouble::Fault),
+        let query = BytesOf {
+            query: META,
+            key: "next_conflict",
         };
-        Ok(read_number(alloc, digits.as_slice())?)
+        match self.on_file(alloc, &query)? {
+            Some(digits) => Ok(read_number(alloc, digits.as_slice())?),
+            None => Err(Trouble::Fault),
+        }
     }
 
     pub fn write(&mut self, alloc: Global, writes: &Seq<Write>) -> Result<(), Trouble>
@@ -105,15 +105,16 @@ impl DatabaseFile {
         if !have_room(writes.as_slice()) {
             return Err(Trouble::Fault);
         }
-        writing::write(alloc, self.opened(alloc)?, writes.as_slice())?;
-        Ok(())
+        let writes = writes.as_slice();
+        self.on_file(alloc, &Writes { writes })
     }
 
     pub fn load_blob(&mut self, alloc: Global, id: &Id) -> Result<Option<Bytes>, Trouble> {
-        self.one(alloc, BLOB, id.as_str())
+        let key = id.as_str();
+        self.on_file(alloc, &BytesOf { query: BLOB, key })
     }
 
     pub fn save_blob(&mut self, alloc: Global, id: &Id, bytes: &Bytes) -> Result<(), Trouble> {
-        writing::save_blob(self.opened(alloc)?, id, bytes)
+        self.on_file(alloc, &Blob { id, bytes })
     }
 }

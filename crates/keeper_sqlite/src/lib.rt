@@ -14,6 +14,7 @@ mod sqlite_keeper;
 mod sqlite_records;
 mod statements;
 mod trouble;
+mod work;
 mod writing;
 
 pub use sqlite_keeper::{SqliteKeeper, keeper_at};

@@ -1,11 +1,13 @@
 //! Opening the file.
 
-ghost use Rattle.std.specs.Prelude.{All, IfOk};
+ghost use Rattle.std.specs.Prelude.{All, IfOk, ⊤};
 ghost use Rattle.record_keeper.specs.Writes.{IsSoundWrite};
 
+use crate::columns::number_at;
 use crate::database::{Database, Queries, begin, commit, run_all};
 use crate::statements::{COUNT_TABLES, TABLES};
 use crate::trouble::Trouble;
+use crate::work::{Work, done_on};
 use crate::writing::make_all;
 use jop_base::Seq;
 use local_store::Tables;
@@ -36,7 +38,7 @@ fn missing_writes(alloc: Global, has_keys: bool) -> Result<Seq<Write>, AllocErro
 }
 
 fn counts(row: &Row) -> Result<(i64, bool), Trouble> {
-    Ok((row.get(0)?, row.get(1)?))
+    Ok((number_at(row, 0)?, number_at(row, 1)? > 0))
 }
 
 /// How many of the tables are there, and whether that of the keys is.
@@ -48,21 +50,32 @@ fn count_tables<D: Queries>(database: &mut D) -> Result<(i64, bool), Trouble> {
 }
 
 /// Makes the tables that are missing.
-fn make_tables<S: Alter>(alloc: Global, database: &mut Connection<S>) -> Result<(), Trouble> {
-    let (count, has_keys) = count_tables(database)?;
-    if count == 5 {
-        return Ok(());
+#[derive(Drop)]
+struct Missing;
+
+impl Work for Missing {
+    type Answer = ();
+
+    ghost is_fit = { λ _. ⊤ };
+
+    ghost answers = { λ _. ⊤ };
+
+    fn done<S: Alter>(&self, alloc: Global, database: &mut Connection<S>) -> Result<(), Trouble> {
+        let (count, has_keys) = count_tables(database)?;
+        if count == 5 {
+            return Ok(());
+        }
+        let first = missing_writes(alloc, has_keys)?;
+        let mut together = begin(database)?;
+        run_all(&mut together, TABLES)?;
+        make_all(alloc, &mut together, first.as_slice())?;
+        commit(together)
     }
-    let first = missing_writes(alloc, has_keys)?;
-    let mut together = begin(database)?;
-    run_all(&mut together, TABLES)?;
-    make_all(alloc, &mut together, first.as_slice())?;
-    commit(together)
 }
 
 /// Opens the file, or makes it, and makes the tables that are missing.
 pub(crate) fn open(rt: &HostRuntime, alloc: Global, path: &str) -> Result<Database, Trouble> {
     let mut database = Connection::open(rt, path)?;
-    make_tables(alloc, &mut database)?;
+    done_on(alloc, &mut database, &Missing)?;
     Ok(database)
 }

@@ -1,13 +1,14 @@
 //! What is read from the database.
 
-ghost use Rattle.std.specs.Prelude.{All, IfOk, OnOk};
+ghost use Rattle.std.specs.Prelude.{All, IfOk, OnOk, ⊤};
 ghost use Rattle.local_store.specs.Sound.{IsSound, IsSoundRow};
 
 use crate::columns::FromColumns;
 use crate::database::{Answer, Queries, rows_of};
-use crate::statements::{ALL_CONFLICTS, ALL_DELETIONS, ALL_ROWS, META};
+use crate::statements::{ALL_CONFLICTS, ALL_DELETIONS, ALL_ROWS, META, ROW};
 use crate::trouble::Trouble;
-use jop_base::{Bytes, Seq};
+use crate::work::Work;
+use jop_base::{Bytes, Id, Seq};
 use local_store::{Row, Tables};
 use sqlite::{Alter, Connection, Row as Columns, params};
 use std::alloc::Global;
@@ -74,7 +75,7 @@ fn in_order(rows: Seq<Row>) -> Seq<Row>
 }
 
 /// What a query answers of this key, if it answers anything.
-pub(crate) fn one_of<T: FromColumns, D: Queries>(
+fn one_of<T: FromColumns, D: Queries>(
     alloc: Global,
     database: &mut D,
     query: &str,
@@ -104,10 +105,7 @@ fn meta<D: Queries>(alloc: Global, database: &mut D) -> Result<MetaRecord, Troub
     })
 }
 
-pub(crate) fn tables<S: Alter>(
-    alloc: Global,
-    database: &mut Connection<S>,
-) -> Result<Tables, Trouble>
+fn tables<S: Alter>(alloc: Global, database: &mut Connection<S>) -> Result<Tables, Trouble>
     ensures { IfOk result (λ tables. IsSound tables) }
 {
     let meta = meta(alloc, database)?;
@@ -116,4 +114,69 @@ pub(crate) fn tables<S: Alter>(
     let conflicts = all_of::<NoteRecord, S>(alloc, database, ALL_CONFLICTS)?;
     let tables = meta.tables(alloc, in_order(rows), deletions, conflicts)?;
     Ok(tables)
+}
+
+/// Reads all tables.
+#[derive(Drop)]
+pub(crate) struct AllTables;
+
+impl Work for AllTables {
+    type Answer = Tables;
+
+    ghost is_fit = { λ _. ⊤ };
+
+    ghost answers = { IsSound };
+
+    fn done<S: Alter>(
+        &self,
+        alloc: Global,
+        database: &mut Connection<S>,
+    ) -> Result<Tables, Trouble> {
+        tables(alloc, database)
+    }
+}
+
+/// Reads the record of a row.
+#[derive(Drop)]
+pub(crate) struct RowOf<'a> {
+    pub id: &'a Id,
+}
+
+impl Work for RowOf<'_> {
+    type Answer = Option<RowRecord>;
+
+    ghost is_fit = { λ _. ⊤ };
+
+    ghost answers = { λ _. ⊤ };
+
+    fn done<S: Alter>(
+        &self,
+        alloc: Global,
+        database: &mut Connection<S>,
+    ) -> Result<Option<RowRecord>, Trouble> {
+        one_of(alloc, database, ROW, self.id.as_str())
+    }
+}
+
+/// Reads the bytes that a query answers of a key.
+#[derive(Drop)]
+pub(crate) struct BytesOf<'a> {
+    pub query: &'a str,
+    pub key: &'a str,
+}
+
+impl Work for BytesOf<'_> {
+    type Answer = Option<Bytes>;
+
+    ghost is_fit = { λ _. ⊤ };
+
+    ghost answers = { λ _. ⊤ };
+
+    fn done<S: Alter>(
+        &self,
+        alloc: Global,
+        database: &mut Connection<S>,
+    ) -> Result<Option<Bytes>, Trouble> {
+        one_of(alloc, database, self.query, self.key)
+    }
 }

@@ -1,6 +1,6 @@
 //! What is written to the database.
 
-ghost use Rattle.std.specs.Prelude.{All};
+ghost use Rattle.std.specs.Prelude.{All, ⊤};
 ghost use Rattle.local_store.specs.Sound.{IsSoundRow, IsSoundNote};
 ghost use Rattle.record_keeper.specs.Writes.{IsSoundWrite};
 ghost use Rattle.sync_info.specs.Info.{IsInfo};
@@ -11,6 +11,7 @@ use crate::statements::{
     SET_DELETION, SET_INFO, SET_NEXT, SET_ROW,
 };
 use crate::trouble::Trouble;
+use crate::work::Work;
 use jop_base::{Bytes, Context, Id};
 use local_store::{ConflictNote, Deletion, Row};
 use record_keeper::Write;
@@ -151,22 +152,40 @@ pub(crate) fn make_all<D: Statements>(
 }
 
 /// Makes all the writes, or none.
-pub(crate) fn write<S: Alter>(
-    alloc: Global,
-    database: &mut Connection<S>,
-    writes: &[Write],
-) -> Result<(), Trouble>
-    requires { All IsSoundWrite writes.now }
-{
-    let mut together = begin(database)?;
-    make_all(alloc, &mut together, writes)?;
-    commit(together)
+#[derive(Drop)]
+pub(crate) struct Writes<'a> {
+    pub writes: &'a [Write],
 }
 
-pub(crate) fn save_blob<D: Statements>(
-    database: &mut D,
-    id: &Id,
-    bytes: &Bytes,
-) -> Result<(), Trouble> {
-    database.run(SET_BLOB, params![id.as_str(), bytes.as_slice()])
+impl Work for Writes<'_> {
+    type Answer = ();
+
+    ghost is_fit = { λ work. All IsSoundWrite work.writes.now };
+
+    ghost answers = { λ _. ⊤ };
+
+    fn done<S: Alter>(&self, alloc: Global, database: &mut Connection<S>) -> Result<(), Trouble> {
+        let mut together = begin(database)?;
+        make_all(alloc, &mut together, self.writes)?;
+        commit(together)
+    }
+}
+
+/// Saves the bytes of a resource.
+#[derive(Drop)]
+pub(crate) struct Blob<'a> {
+    pub id: &'a Id,
+    pub bytes: &'a Bytes,
+}
+
+impl Work for Blob<'_> {
+    type Answer = ();
+
+    ghost is_fit = { λ _. ⊤ };
+
+    ghost answers = { λ _. ⊤ };
+
+    fn done<S: Alter>(&self, _alloc: Global, database: &mut Connection<S>) -> Result<(), Trouble> {
+        database.run(SET_BLOB, params![self.id.as_str(), self.bytes.as_slice()])
+    }
 }
