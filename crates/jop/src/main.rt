@@ -2,22 +2,15 @@
 //! [`jop_cli::run`] is handed.
 #![tactic(auto)]
 
-mod reader_source;
 mod server;
 mod start_err;
-mod system_clock;
-mod system_entropy;
 mod words;
-mod writer_sink;
 
-use crate::reader_source::ReaderSource;
 use crate::server::server_target;
 use crate::start_err::StartErr;
-use crate::system_clock::SystemClock;
-use crate::system_entropy::SystemEntropy;
 use crate::words::read_args;
-use crate::writer_sink::WriterSink;
 use jop_cli::{Profile, TargetKind, TargetName, Words, profile_words, run, target_words};
+use jop_host::{ReaderSource, SystemClock, SystemEntropy, WriterSink};
 use jop_target::{Diary, MemTarget, Target};
 use keeper_sqlite::keeper_at;
 use local_store::{Changes, Keeper, MemKeeper};

@@ -13,7 +13,10 @@ pub struct ReaderSource<R> {
 }
 
 impl<R: Read> ReaderSource<R> {
-    pub fn new(reader: R) -> ReaderSource<R> {
+    /// A source over this stream. No fault is counted yet.
+    pub fn new(reader: R) -> ReaderSource<R>
+        ensures { result.faults ≡ 0 }
+    {
         ReaderSource {
             reader,
             faults: Faults::new(),

@@ -1,4 +1,4 @@
-use Rattle.jop.proofs.writer_sink.WriterSinkSink.write.Goals as goal
+use Rattle.jop_host.proofs.writer_sink.WriterSinkSink.write.Goals as goal
 
 pub returns-in-Ok-eq0-clause-cause : goal.returns-in-Ok-eq0-clause-cause
 returns-in-Ok-eq0-clause-cause g c = record {

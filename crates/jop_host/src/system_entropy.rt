@@ -1,3 +1,5 @@
+ghost use Rattle.std.specs.Prelude.{◌≡◌};
+
 use jop_base::{Entropy, Failed, Faults};
 use std::random::RandomSource;
 
@@ -9,7 +11,10 @@ pub struct SystemEntropy {
 }
 
 impl SystemEntropy {
-    pub fn new(rt: HostRuntime) -> SystemEntropy {
+    /// The random source. No fault is counted yet.
+    pub fn new(rt: HostRuntime) -> SystemEntropy
+        ensures { result.faults ≡ 0 }
+    {
         SystemEntropy {
             rt,
             faults: Faults::new(),

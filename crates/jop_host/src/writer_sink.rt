@@ -1,4 +1,4 @@
-ghost use Rattle.std.specs.Prelude.{◌≤◌, None, IfOk, length};
+ghost use Rattle.std.specs.Prelude.{◌≡◌, ◌≤◌, None, IfOk, length};
 ghost use Rattle.jop_base.specs.Outside.{HasRisen};
 
 use jop_base::{Failed, Faults, Sink};
@@ -13,7 +13,10 @@ pub struct WriterSink<W> {
 }
 
 impl<W: Write> WriterSink<W> {
-    pub fn new(writer: W) -> WriterSink<W> {
+    /// A sink over this stream. No fault is counted yet.
+    pub fn new(writer: W) -> WriterSink<W>
+        ensures { result.faults ≡ 0 }
+    {
         WriterSink {
             writer,
             faults: Faults::new(),

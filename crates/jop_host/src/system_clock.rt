@@ -1,4 +1,4 @@
-ghost use Rattle.std.specs.Prelude.{◌≤◌, IfSome};
+ghost use Rattle.std.specs.Prelude.{◌≡◌, ◌≤◌, IfSome};
 ghost use Rattle.jop_base.specs.Times.{last_time};
 
 use jop_base::{Clock, Failed, Faults, MAX_TIME};
@@ -12,7 +12,10 @@ pub struct SystemClock {
 }
 
 impl SystemClock {
-    pub fn new(rt: HostRuntime) -> SystemClock {
+    /// The clock. No fault is counted yet.
+    pub fn new(rt: HostRuntime) -> SystemClock
+        ensures { result.faults ≡ 0 }
+    {
         SystemClock {
             rt,
             faults: Faults::new(),
