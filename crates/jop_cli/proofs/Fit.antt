@@ -1,7 +1,7 @@
 -- Titles, names and types of content of a command stand on a line.
-use Rattle.std.proofs.Common.{◌≡◌, refl, sym, subst, ℕ, List, [], ◌∷◌}
+use Rattle.std.proofs.Common.{◌≡◌, refl, subst, ℕ, List, [], ◌∷◌}
 use Rattle.std.proofs.Common.{Bool, true, false, Option, Some, None, if◌then◌else◌}
-use Rattle.std.specs.Prelude.{codes, bytes_eq, not, ◌&&◌, option_map, IfSome}
+use Rattle.std.specs.Prelude.{codes, bytes_eq, not, ◌&&◌, option_map}
 use Rattle.std.proofs.lemmas.Bool.{and_parts}
 use Rattle.std.proofs.lemmas.Slice.Eq.{bytes_eq-Decides}
 use Rattle.item_kinds.specs.Made.{IsLine}

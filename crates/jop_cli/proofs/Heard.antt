@@ -1,29 +1,27 @@
 -- What a session has heard last.
-use Rattle.std.proofs.Common.{◌≡◌, ◌∙◌, refl, sym, ap, subst, inl, inr, ℕ, List, [], ◌∷◌, ◌++◌, append_assoc, length}
-use Rattle.std.proofs.Common.{Bool, true, false, Option, Some, None}
-use Rattle.jop_base.specs.declared.dir.Dir.TheVariants.{Root}
+use Rattle.std.proofs.Common.{◌≡◌, ◌∙◌, refl, sym, ap, inl, inr, ℕ, List, [], ◌∷◌, ◌++◌, length}
+use Rattle.std.proofs.Common.{Bool, false, Some, None}
 use Rattle.jop_base.specs.declared.lock_name.LockKind.TheVariants.{Exclusive}
 use Rattle.jop_base.specs.declared.path.Path.TheVariants.{Info as InfoFile, OldVersion}
 use Rattle.jop_target.specs.Trail.{EndsWith}
 use Rattle.jop_target.specs.declared.call.Call.{Call}
-use Rattle.jop_target.specs.declared.call.Call.TheVariants.{Get, List as ListDir}
+use Rattle.jop_target.specs.declared.call.Call.TheVariants.{Get}
 use Rattle.jop_target.specs.declared.event.Event.{Event}
 use Rattle.jop_target.specs.declared.event.Event.TheVariants.{Called}
 use Rattle.jop_target.specs.declared.reply.Reply.{Reply}
-use Rattle.jop_target.specs.declared.reply.Reply.TheVariants.{Absent, Got, Listed}
+use Rattle.jop_target.specs.declared.reply.Reply.TheVariants.{Absent, Got}
 use Rattle.licences.proofs.Joins.{view_from-append}
 use Rattle.licences.proofs.Told.{calls-view_from, calls_from-append}
 use Rattle.licences.specs.Deeds.{Deed, Asks, events_of}
 use Rattle.licences.specs.Trails.{calls_from, session_calls}
-use Rattle.licences.specs.Views.{Heard, View, is_about_locks, view_from, with_call}
+use Rattle.licences.specs.Views.{View, is_about_locks, view_from, with_call}
 use Rattle.opening.specs.Opening.{ReadsBadInfo, ReadsInfoAt, ReadsOld, ReadsVersion}
 use Rattle.session_steps.proofs.Seen.{view_from-but_locks}
 use Rattle.session_steps.specs.Doing.{Went}
-use Rattle.session_steps.specs.Parts.{Hears, Part, Then, but_locks}
+use Rattle.session_steps.specs.Parts.{but_locks}
 use Rattle.session_steps.specs.Work.{WorkNow, view_of}
 use Rattle.sync_run.specs.Outcomes.{ReadsBadInfo as UpgradeReadsBad, ReadsNewer}
 use Rattle.sync_run.specs.Upgrades.{HasLeft as HasLeftUpgrade}
-use Rattle.target_upgrade.specs.Reading.{IsBadReply}
 use Rattle.jop_cli.specs.Causes.{HasFound, HasGot, HasGotBad, HasGotOld, HasLeft, IsLast}
 
 -- ---- in a trail

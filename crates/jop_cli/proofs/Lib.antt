@@ -5,6 +5,7 @@ mod Ids
 mod Licensed
 mod Local
 mod LocalLicences
+mod Naming
 mod Owned
 mod Two
 mod Runs

@@ -14,7 +14,7 @@ use Rattle.licences.specs.Views.{at_rest}
 use Rattle.local_commands.proofs.Bytes.{follows_changes}
 use Rattle.local_commands.proofs.Leaving.{follows, notes_after, unsaved}
 use Rattle.local_commands.specs.Drawing.{Drawing, NoId, OneId, TwoIds, FailsToDraw}
-use Rattle.local_commands.specs.Following.{Follows, FollowsChanges, IsNoted, MayBeLate, numbered, saves_bytes}
+use Rattle.local_commands.specs.Following.{MayBeLate, numbered, saves_bytes}
 use Rattle.local_commands.specs.Keeping.{MakeChange, Notes, changes_in, kept_after_all, notes, notes_after_all}
 use Rattle.local_commands.specs.Plans.{plan_of}
 use Rattle.local_commands.specs.Running.{Runs}
@@ -31,15 +31,14 @@ use Rattle.jop_cli.proofs.Licensed.{AllLocal, local_licensed}
 use Rattle.jop_cli.proofs.LocalLicences.{makes_local}
 use Rattle.jop_cli.proofs.Runs.{explained_emit, uses_changes}
 use Rattle.jop_cli.specs.Causes.{IsExplained}
-use Rattle.jop_cli.specs.Commands.Local.{DoesLocally, RunsLocally, local_outcome, local_status, own_side}
+use Rattle.jop_cli.specs.Commands.Local.{RunsLocally, local_outcome, local_status, own_side}
 use Rattle.jop_cli.specs.Commands.Sessions.{IsChange, IsUncalled, Outcome}
 use Rattle.jop_cli.specs.Outside.{Outside, Ran, did}
-use Rattle.jop_cli.specs.Run.{Acts, Answers, Emits, IsUnsaved, KeepsChanges, Obeys, UsesTarget, may_be_late, with_changes}
+use Rattle.jop_cli.specs.Run.{Acts, Answers, Emits, IsUnsaved, KeepsChanges, UsesTarget, may_be_late, with_changes}
 use Rattle.jop_cli.specs.Statuses.{is_early}
 use Rattle.jop_cli.specs.declared.command.Verb.{Verb}
 use Rattle.jop_cli.specs.declared.command.Verb.TheVariants.{Local}
 use Rattle.jop_cli.specs.declared.status.Status.{Status}
-use Rattle.jop_cli.specs.declared.status.Status.TheVariants as statuses
 
 -- ---- why the command ends so
 

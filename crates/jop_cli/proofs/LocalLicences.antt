@@ -1,6 +1,6 @@
 -- A command on the tables makes changes of a user alone.
-use Rattle.std.specs.Prelude.{ℕ, ◌≡◌, ◌+◌, max, List, [], ◌∷◌, ◌++◌, length, nat_eq, nat_le, Bool, true, false, map, if◌then◌else◌, Option, Some, None, Result, Ok, Err, refl}
-use Rattle.std.proofs.Common.{sym, ◌∙◌, ap, subst, inl, inr}
+use Rattle.std.specs.Prelude.{ℕ, ◌≡◌, ◌+◌, max, List, [], ◌∷◌, ◌++◌, length, nat_eq, nat_le, Bool, true, false, map, if◌then◌else◌, Option, Some, None, Result, Ok, Err}
+use Rattle.std.proofs.Common.{sym, subst, inl, inr}
 use Rattle.std.specs.List.{find, list_any}
 use Rattle.item_kinds.specs.Made.{folder, note, note_tag}
 use Rattle.item_text.specs.Grammar.{written}
@@ -18,7 +18,7 @@ use Rattle.local_commands.specs.Commands.Cat.{MakesText, plain_at}
 use Rattle.local_commands.specs.Commands.Edit.{MakesEdit}
 use Rattle.local_commands.specs.Commands.Rm.{MakesRemoval}
 use Rattle.local_commands.specs.Commands.Tag.{all_made}
-use Rattle.local_commands.specs.Keeping.{Act, SaveBlob, MakeChange, Notes, changes_in, notes_after_all}
+use Rattle.local_commands.specs.Keeping.{Act, SaveBlob, MakeChange, changes_in, notes_after_all}
 use Rattle.local_commands.specs.Lines.{id_line}
 use Rattle.local_commands.specs.Plans.{plan_of}
 use Rattle.local_commands.specs.Running.{Around, Runs, Work, one_change}

@@ -1,6 +1,6 @@
 -- Why a sync's session ended so.
 use Rattle.std.proofs.Common.{◌≡◌, ◌∙◌, refl, sym, ap, subst, ℕ, List, [], ◌∷◌, ◌++◌, append_assoc}
-use Rattle.std.proofs.Common.{Option, Some, None, Result, Ok, Err}
+use Rattle.std.proofs.Common.{Option, Some, None, Result, Err}
 use Rattle.std.proofs.lemmas.List.{append_cancel_right}
 use Rattle.conflicts.specs.declared.report.SyncReport.{SyncReport}
 use Rattle.conflicts.specs.Reports.{new_report}
@@ -8,7 +8,6 @@ use Rattle.desk.specs.Desks.{DeskNow, IsSameDesk}
 use Rattle.jop_base.specs.declared.dir.Dir.TheVariants.{Root}
 use Rattle.jop_base.specs.declared.lock_name.LockKind.TheVariants.{Sync}
 use Rattle.jop_target.specs.declared.call.Call.TheVariants.{List as ListDir}
-use Rattle.jop_target.specs.declared.event.Event.{Event}
 use Rattle.jop_target.specs.declared.event.Event.TheVariants.{Began, Ended}
 use Rattle.jop_target.specs.declared.reply.Reply.TheVariants.{Listed}
 use Rattle.lease.specs.Phase.{Held}
@@ -19,11 +18,10 @@ use Rattle.licences.specs.Trails.{session_calls}
 use Rattle.licences.specs.Views.{Heard}
 use Rattle.local_store.specs.Keepers.{IsOfKept, KeeperNow}
 use Rattle.local_store.specs.declared.tables.Tables.{Tables}
-use Rattle.session_steps.specs.Doing.{Does}
 use Rattle.session_steps.specs.Parts.{but_locks}
 use Rattle.session_steps.specs.Work.{IsReady, view_of, work}
 use Rattle.sync_session.specs.Syncing.{HasLeft as HasLeftSync, IsWholeSync, SyncNow}
-use Rattle.sync_session.specs.Working.{IsEmptiedBehind, LacksKey as LacksKeyAtWork, is_sync}
+use Rattle.sync_session.specs.Working.{is_sync}
 use Rattle.sync_session.specs.declared.sync_err.SyncErr.{SyncErr}
 use Rattle.sync_session.specs.declared.sync_err.SyncErr.TheVariants.{TargetOlder, TargetNewer, BadInfo, FailSafe, NoKey}
 use Rattle.jop_cli.proofs.Heard.{found, found_bad, last_heard}

@@ -1,11 +1,11 @@
 -- What a sync leaves of a client's own side.
-use Rattle.std.proofs.Common.{◌≡◌, ◌⊎◌, ◌∙◌, refl, sym, ap, subst, inl, inr, ℕ, ◌+◌, List, [], ◌∷◌, ◌++◌, append-nil, append_assoc, length, map, All}
+use Rattle.std.proofs.Common.{◌≡◌, ◌∙◌, refl, sym, ap, subst, inl, inr, ℕ, ◌+◌, List, [], ◌∷◌, ◌++◌, append-nil, length, map, All}
 use Rattle.std.proofs.Common.{Bool, true, false, Option, Some, None, Result, Ok, Err}
 use Rattle.std.specs.Prelude.{option_map}
 use Rattle.std.proofs.lemmas.List.{append_cancel_left}
 use Rattle.std.proofs.lemmas.List.Elements.{All-head, All-tail}
+use Rattle.std.proofs.lemmas.Option.{same_Some}
 use Rattle.conflicts.specs.declared.report.SyncReport.{SyncReport}
-use Rattle.jop_target.specs.declared.call.Call.{Call}
 use Rattle.jop_target.specs.declared.event.Event.{Event}
 use Rattle.jop_target.specs.declared.event.Event.TheVariants.{Began, Called, Ended, Made, Sent}
 use Rattle.licences.proofs.Settled.{made_inside, stays_inside}
@@ -14,8 +14,8 @@ use Rattle.licences.specs.Licences.{Each, IsInside, MayChange, MayDo, MergesInfo
 use Rattle.licences.specs.Views.{View, at_rest, changed, heard, seen}
 use Rattle.local_commands.specs.Keeping.{Act, MakeChange, SaveBlob, kept_after_all}
 use Rattle.local_commands.specs.Keeping as keeping
-use Rattle.local_store.specs.Changing.{after, after_all, conflicted, noted_if, opened, uploaded, with_remote}
-use Rattle.local_store.specs.Keepers.{KeeperNow, Kept, with_blob}
+use Rattle.local_store.specs.Changing.{after, after_all, conflicted, uploaded}
+use Rattle.local_store.specs.Keepers.{IsOfKept, KeeperNow, Kept, with_blob}
 use Rattle.local_store.specs.Keepers as keepers
 use Rattle.local_store.specs.Tables.{row_at}
 use Rattle.local_store.specs.declared.blob.Blob.{Blob}
@@ -28,11 +28,11 @@ use Rattle.session_steps.proofs.Joins.{kept_after-append}
 use Rattle.session_steps.specs.Saving.{kept_after, saved_all}
 use Rattle.session_steps.specs.Steps.{IsStep}
 use Rattle.site.specs.Owning.{NamesClient}
-use Rattle.sync_session.specs.Syncing.{AddsFrom, AddsSync, IsOpenSync, IsUnread, IsUnsynced, IsWholeSync, SyncNow, desk_at}
+use Rattle.sync_session.specs.Syncing.{AddsFrom, IsOpenSync, IsWholeSync, SyncNow, desk_at}
 use Rattle.sync_session.specs.Telling.{Tells}
 use Rattle.sync_session.specs.Working.{is_sync}
 use Rattle.sync_session.specs.declared.sync_err.SyncErr.{SyncErr}
-use Rattle.sync_session.specs.declared.sync_err.SyncErr.TheVariants.{KeeperFault, NoMemory}
+use Rattle.sync_session.specs.declared.sync_err.SyncErr.TheVariants.{NoMemory}
 use Rattle.jop_cli.specs.Run.{KeepsChanges, with_changes}
 
 -- ---- what was made
@@ -44,39 +44,15 @@ pub record IsAdded (old new : SyncNow) : Type 0 where
   pub made : new.made ≡ old.made ++ changes
   pub kept : new.keeper.kept ≡ option_map (kept_after changes saves) old.keeper.kept
 
-none_kept : (kept : Option Kept) → kept ≡ option_map (kept_after [] []) kept
-unfolding after_all saved_all
-none_kept None = refl
-none_kept (Some k) = refl
-
-pub unread : (old new : SyncNow) (result : Result SyncReport SyncErr) → IsUnread old result new →
-    IsUnsynced old new
-unread old new (Err KeeperFault) h = h.0
-unread old new (Err NoMemory) h = h
-unread old new result h = absurd h
-
-of_none : (old new : SyncNow) → IsUnsynced old new → IsAdded old new
-of_none old new h = record {
-  changes = [];
-  saves = [];
-  made = h.made ∙ sym (append-nil old.made);
-  kept = h.kept ∙ none_kept old.keeper.kept;
-}
-
 of_tale : (t : Tables) (old new : SyncNow) → Tells (at_rest t) (desk_at t old) (desk_at t new) →
     IsAdded old new
 of_tale t old new h =
     record { changes = changes_in h.deeds; saves = h.saves; made = h.made; kept = h.kept }
 
-added_from : (client : List ℕ) (t : Tables) (old new : SyncNow) (result : Result SyncReport SyncErr) →
+pub added : (client : List ℕ) (t : Tables) (old new : SyncNow) (result : Result SyncReport SyncErr) →
     AddsFrom client t old result new → IsAdded old new
-added_from client t old new (Err NoMemory) h = of_tale t old new h.tells
-added_from client t old new result h = of_tale t old new h.tells
-
-pub added : (client : List ℕ) (old new : SyncNow) (result : Result SyncReport SyncErr) →
-    AddsSync client old result new → IsAdded old new
-added client old new result (inl none) = of_none old new (unread old new result none)
-added client old new result (inr adds) = added_from client adds.0 old new result adds.2
+added client t old new (Err NoMemory) h = of_tale t old new h.tells
+added client t old new result h = of_tale t old new h.tells
 
 -- ---- as acts
 
@@ -303,6 +279,23 @@ IsLicensed old new more =
     ObeysData (at_rest k.tables) (deeds_of more changes)
     × MergesInfo (at_rest k.tables) (deeds_of more changes)
 
+told_tables : (kept : Option Kept) (k : Kept) (t : Tables) → IsOfKept kept t → kept ≡ Some k →
+    t ≡ k.tables
+told_tables None k t told is = absurd cc
+told_tables (Some other) k t told is =
+    told ∙ ap (λ (x : Kept). x.tables) (same_Some other k is)
+
+-- so it is from tables that are those that are kept, if that is told
+pub licensed_kept : (t : Tables) (old new : SyncNow) (more : List Event) →
+    IsOfKept old.keeper.kept t →
+    ((changes : List Change) → new.made ≡ old.made ++ changes →
+    ObeysData (at_rest t) (deeds_of more changes) × MergesInfo (at_rest t) (deeds_of more changes)) →
+    IsLicensed old new more
+licensed_kept t old new more of_kept licensed = λ k changes told made.
+    subst (λ (u : Tables). ObeysData (at_rest u) (deeds_of more changes)
+    × MergesInfo (at_rest u) (deeds_of more changes)) (told_tables old.keeper.kept k t of_kept told)
+    (licensed changes made)
+
 named_still : (t : Tables) (old new : SyncNow) (more : List Event) →
     new.line.trail ≡ old.line.trail ++ more → HasTold t old new more → IsLicensed old new more →
     (client : List ℕ) → NamesClient old.keeper.kept (Some client) →
@@ -325,13 +318,11 @@ named_still t old new more is h licensed client names =
           ∙ names
 
 -- the tables name the client still
-pub names_after : (client : List ℕ) (old new : SyncNow) (result : Result SyncReport SyncErr)
-    (more : List Event) → new.line.trail ≡ old.line.trail ++ more → IsLicensed old new more →
-    AddsSync client old result new → NamesClient old.keeper.kept (Some client) →
+pub names_after : (client : List ℕ) (t : Tables) (old new : SyncNow)
+    (result : Result SyncReport SyncErr) (more : List Event) →
+    new.line.trail ≡ old.line.trail ++ more → IsLicensed old new more →
+    AddsFrom client t old result new → NamesClient old.keeper.kept (Some client) →
     NamesClient new.keeper.kept (Some client)
-names_after client old new result more is licensed (inl none) names =
-    subst (λ (k : Option Kept). NamesClient k (Some client)) (sym (unread old new result none).kept)
+names_after client t old new result more is licensed adds names =
+    named_still t old new more is (told_from client t old new result more is adds) licensed client
     names
-names_after client old new result more is licensed (inr adds) names =
-    named_still adds.0 old new more is (told_from client adds.0 old new result more is adds.2) licensed
-    client names

@@ -1,8 +1,7 @@
 -- What a sync comes to.
-use Rattle.std.proofs.Common.{◌≡◌, ◌∙◌, ◌≤◌, refl, sym, ap, subst, arith, inl, inr, ℕ, List, [], ◌∷◌, ◌++◌, true, Some, None, Result, Ok, Err, false}
+use Rattle.std.proofs.Common.{◌≡◌, ◌∙◌, ◌≤◌, refl, sym, ap, subst, arith, inl, inr, ℕ, List, [], ◌∷◌, ◌++◌, true, Some, None, Result, Ok, Err}
 use Rattle.std.proofs.lemmas.List.Elements.{All-nil}
 use Rattle.conflicts.specs.declared.report.SyncReport.{SyncReport}
-use Rattle.desk.specs.Desks.{DeskNow}
 use Rattle.jop_base.specs.Outside.{HasRisen, SinkNow}
 use Rattle.jop_base.specs.declared.lock_name.LockKind.{LockKind}
 use Rattle.jop_base.specs.declared.lock_name.LockKind.TheVariants as kinds
@@ -21,7 +20,7 @@ use Rattle.site.specs.Owning.{NamesClient, OwnNow, Owns, own}
 use Rattle.site.specs.declared.own_err.OwnErr.{OwnErr}
 use Rattle.site.specs.declared.own_err.OwnErr.TheVariants as own_errors
 use Rattle.sync_run.specs.Sessions.{IsMarkOr}
-use Rattle.sync_session.specs.Syncing.{AddsSync, IsWholeSync, SyncNow, sync_now}
+use Rattle.sync_session.specs.Syncing.{AddsFrom, IsWholeSync, SyncNow, sync_now}
 use Rattle.sync_session.specs.Working.{is_sync}
 use Rattle.sync_session.specs.declared.sync_err.SyncErr.{SyncErr}
 use Rattle.sync_session.specs.declared.sync_err.SyncErr.TheVariants.{Busy, LeaseLost, TargetOlder, TargetNewer, BadInfo, FailSafe, NoKey, TargetFault, KeeperFault, NoMemory}
@@ -31,12 +30,12 @@ use Rattle.jop_cli.proofs.Runs.{explained_emit, uses_behind, uses_none}
 use Rattle.jop_cli.proofs.Sessions.{failed_session}
 use Rattle.jop_cli.proofs.SyncCauses.{bad_info, emptied, keyless, late_trail, newer, older}
 use Rattle.jop_cli.proofs.OwnLicences.{licensed_behind, unowned_licensed}
-use Rattle.jop_cli.proofs.SyncSides.{added, keeps_acts, names_after}
+use Rattle.jop_cli.proofs.SyncSides.{added, keeps_acts, licensed_kept, names_after}
 use Rattle.jop_cli.specs.Causes.{HasEnded, HasFound, HasGotBad, HasLeft, HasListedNone, IsExplained, LacksKey}
 use Rattle.jop_cli.specs.Commands.Sessions.{ClientNow, IsChange, IsUncalled, own_status, side}
 use Rattle.jop_cli.specs.Commands.Sync.{HasSynced, SyncsBy, outcome_of, report_text, status_of, sync_at, sync_status}
 use Rattle.jop_cli.specs.Outside.{Outside, did}
-use Rattle.jop_cli.specs.Run.{Acts, Emits, KeepsChanges, UsesTarget}
+use Rattle.jop_cli.specs.Run.{Acts, Emits, UsesTarget}
 use Rattle.jop_cli.specs.Statuses.{is_early}
 use Rattle.jop_cli.specs.declared.command.Verb.TheVariants.{Sync}
 use Rattle.jop_cli.specs.declared.command.sync.SyncRefusal.{SyncRefusal}
@@ -241,28 +240,17 @@ explained_whole target before after trail made client named t error h later unca
           (last_keeper client t old new (Err KeeperFault) h) h.answers.1)
       by NoMemory h = tt
 
-explained_unread : (target : TargetName) (before after : Outside) (trail : List Event)
-    (made : List Change) (client : List ℕ) (named : OwnNow) (error : SyncErr) →
-    AddsSync client (sync_at named before.target) (Err error)
+explained_from : (target : TargetName) (before after : Outside) (trail : List Event)
+    (made : List Change) (client : List ℕ) (named : OwnNow) (t : Tables) (error : SyncErr) →
+    AddsFrom client t (sync_at named before.target) (Err error)
     (sync_now trail after.target after.keeper made) →
     before.keeper.faults ≤ named.site.keeper.faults → IsUncalled named.site.trail →
     NamesClient after.keeper.kept (Some client) → UsesTarget before.target trail after.target →
     IsExplained (Some (Sync target)) before (did trail made) (sync_status error) after
-explained_unread target before after trail made client named NoMemory adds later uncalled names uses =
+explained_from target before after trail made client named t NoMemory adds later uncalled names uses =
     tt
-explained_unread target before after trail made client named KeeperFault (inl none) later uncalled
-    names uses =
-    risen_before before.keeper.faults named.site.keeper.faults after.keeper.faults later none.1
-explained_unread target before after trail made client named KeeperFault (inr adds) later uncalled
-    names uses =
-    explained_whole target before after trail made client named adds.0 KeeperFault adds.2 later
-    uncalled names uses
-explained_unread target before after trail made client named error (inl none) later uncalled names
-    uses = absurd none
-explained_unread target before after trail made client named error (inr adds) later uncalled names
-    uses =
-    explained_whole target before after trail made client named adds.0 error adds.2 later uncalled
-    names uses
+explained_from target before after trail made client named t error adds later uncalled names uses =
+    explained_whole target before after trail made client named t error adds later uncalled names uses
 
 explained_sync : (target : TargetName) (before after : Outside) (trail : List Event)
     (made : List Change) (result : Result SyncReport SyncErr) (status : Status) →
@@ -276,8 +264,8 @@ explained_sync target before after trail made (Ok report) status run uncalled na
 explained_sync target before after trail made (Err error) status run uncalled names uses emits =
     subst (λ (s : Status). IsExplained (Some (Sync target)) before (did trail made) s after)
     (sym emits.0)
-    (explained_unread target before after trail made run.client run.named error run.session run.later
-    uncalled names uses)
+    (explained_from target before after trail made run.client run.named run.tables error run.session
+    run.later uncalled names uses)
 
 -- ---- the whole
 
@@ -299,8 +287,9 @@ acts_run target before after trail made result status input clock run emits =
     let new = sync_now trail after.target after.keeper made in
     let uses = uses_behind (IsMarkOr (IsStep is_sync run.client)) before.target after.target
     run.named.site.trail trail known.uncalled run.line in
-    let more = added run.client old new result run.session in
-    let names = names_after run.client old new result run.line.more run.line.trail run.licensed
+    let more = added run.client run.tables old new result run.session in
+    let licensed = licensed_kept run.tables old new run.line.more run.tidy.told run.licensed in
+    let names = names_after run.client run.tables old new result run.line.more run.line.trail licensed
     run.session known.names in
     record {
       answers = inr (record {
@@ -335,7 +324,7 @@ acts_run target before after trail made result status input clock run emits =
       alone = record { input = input; target = tt; tables = tt; clock = clock; random = tt };
       licensed = λ k told.
           licensed_behind run.client before.keeper before.entropy run.named trail made run.line.more
-          run.line.trail run.owns (λ k changes told is. (run.licensed k changes told is).0)
+          run.line.trail run.owns (λ k changes told is. (licensed k changes told is).0)
           more.changes more.made k told;
     }
 

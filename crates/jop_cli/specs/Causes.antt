@@ -1,5 +1,5 @@
 -- Why a run ends so: the cause of each status.
-use Rattle.std.specs.Prelude.{ℕ, ◌+◌, ◌<◌, ◌≡◌, ◌⊎◌, List, [], ◌∷◌, ◌++◌, Bool, true, Option, Some, None, Err}
+use Rattle.std.specs.Prelude.{ℕ, ◌+◌, ◌<◌, ◌≡◌, ◌⊎◌, List, [], ◌∷◌, ◌++◌, true, Option, Some, None, Err}
 use Rattle.delta.specs.Page.{fail_safe}
 use Rattle.jop_base.specs.Outside.{HasRisen, SourceNow}
 use Rattle.jop_base.specs.Reading.{WasTooLarge}

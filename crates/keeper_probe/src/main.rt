@@ -12,6 +12,9 @@ mod trouble;
 
 use crate::timing::{time_notes, time_reading};
 use crate::trouble::Trouble;
+use jop_base::Text;
+use keeper_sqlite::keeper_at;
+use local_store::Keeper;
 use std::env;
 
 const USAGE: &str = "usage: keeper_probe notes FILE COUNT | read FILE";
@@ -21,10 +24,11 @@ fn main(rt: HostRuntime) -> Result<(), Trouble> {
     let verb = words.next();
     let file = words.next();
     let count = words.next();
-    let file = file.as_deref().unwrap_or("");
+    let path = Text::of(rt.alloc(), file.as_deref().unwrap_or(""))?;
+    let mut keeper: Box<dyn Keeper> = Box::new(rt.alloc(), keeper_at(rt, path))?;
     match verb.as_deref() {
-        Some("notes") => time_notes(&rt, file, number(count.as_deref())),
-        Some("read") => time_reading(&rt, file),
+        Some("notes") => time_notes(&rt, &mut keeper, number(count.as_deref())),
+        Some("read") => time_reading(&rt, &mut keeper),
         _ => Ok(println!(rt; "{USAGE}")?),
     }
 }

@@ -1,21 +1,13 @@
 use crate::notes::note_saved;
 use crate::trouble::Trouble;
-use jop_base::Text;
-use keeper_sqlite::{SqliteKeeper, keeper_at};
 use local_store::{Keeper, Tables};
-use record_keeper::RecordStore;
-use std::alloc::AllocError;
 use std::time::Instant;
 
-fn keeper(rt: &HostRuntime, file: &str) -> Result<SqliteKeeper, AllocError> {
-    Ok(keeper_at(*rt, Text::of(rt.alloc(), file)?))
-}
-
-/// Opens the file, which the first call does, and answers the microseconds that it took.
-fn open(rt: &HostRuntime, keeper: &mut SqliteKeeper) -> Result<u128, Trouble> {
+/// Reads the tables, and answers the microseconds that it took. A file is opened by the first call.
+fn read<K: Keeper>(rt: &HostRuntime, keeper: &mut K) -> Result<(u128, Tables), Trouble> {
     let start = Instant::now(rt)?;
-    keeper.store.next_conflict(rt.alloc())?;
-    Ok(start.elapsed(rt)?.as_micros())
+    let tables = keeper.read(rt.alloc())?;
+    Ok((start.elapsed(rt)?.as_micros(), tables))
 }
 
 /// Saves the note of this number, and answers the microseconds that the keeper took.
@@ -34,22 +26,22 @@ fn save_all<K: Keeper>(rt: &HostRuntime, keeper: &mut K, count: u64) -> Result<u
     Ok(took)
 }
 
-pub(crate) fn time_notes(rt: &HostRuntime, file: &str, count: u64) -> Result<(), Trouble> {
-    let mut keeper = keeper(rt, file)?;
-    open(rt, &mut keeper)?;
-    let took = save_all(rt, &mut keeper, count)?;
+/// Prints the microseconds of so many changes, once the file is open.
+pub(crate) fn time_notes<K: Keeper>(
+    rt: &HostRuntime,
+    keeper: &mut K,
+    count: u64,
+) -> Result<(), Trouble> {
+    read(rt, keeper)?;
+    let took = save_all(rt, keeper, count)?;
     Ok(println!(rt; "{took}")?)
 }
 
-fn read<K: Keeper>(rt: &HostRuntime, keeper: &mut K) -> Result<(u128, Tables), Trouble> {
-    let start = Instant::now(rt)?;
-    let tables = keeper.read(rt.alloc())?;
-    Ok((start.elapsed(rt)?.as_micros(), tables))
-}
-
-pub(crate) fn time_reading(rt: &HostRuntime, file: &str) -> Result<(), Trouble> {
-    let mut keeper = keeper(rt, file)?;
-    let opening = open(rt, &mut keeper)?;
-    let (reading, tables) = read(rt, &mut keeper)?;
-    Ok(println!(rt; "{opening} {reading} {}", tables.rows.len())?)
+/// Prints the microseconds of opening the file and of reading its tables, and how many rows they have. The
+/// first reading opens it, and the second doesn't.
+pub(crate) fn time_reading<K: Keeper>(rt: &HostRuntime, keeper: &mut K) -> Result<(), Trouble> {
+    let (first, _) = read(rt, keeper)?;
+    let (second, tables) = read(rt, keeper)?;
+    let opening = first.saturating_sub(second);
+    Ok(println!(rt; "{opening} {second} {}", tables.rows.len())?)
 }

@@ -51,8 +51,10 @@ pub(crate) const SET_NEXT: &str =
 pub(crate) const SET_CLIENT: &str =
     "INSERT OR REPLACE INTO meta (key, value) VALUES ('client', ?1)";
 
-pub(crate) const SET_CONTEXT: &str =
-    "INSERT OR REPLACE INTO meta (key, value) VALUES ('moment', ?1), ('seen', ?2)";
+/// A context that is as it was changes no page, so that its commit writes nothing.
+pub(crate) const SET_CONTEXT: &str = "\
+INSERT INTO meta (key, value) VALUES ('moment', ?1), ('seen', ?2) \
+ON CONFLICT (key) DO UPDATE SET value = excluded.value WHERE value <> excluded.value";
 
 pub(crate) const SET_INFO: &str = "INSERT OR REPLACE INTO meta (key, value) VALUES ('info', ?1)";
 

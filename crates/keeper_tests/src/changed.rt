@@ -100,11 +100,12 @@ fn make(rt: &HostRuntime, path: &Text, id: Id) -> Result<(), Trouble> {
     Ok(store.write(rt.alloc(), &writes)?)
 }
 
-/// Another program changes the file.
-fn change(rt: &HostRuntime, path: &Text, sql: &str) -> Result<(), Trouble> {
-    let mut conn = Connection::open(rt, path.as_str())?;
-    conn.execute_batch(sql)?;
-    Ok(conn.close()?)
+/// Another program changes the file: whether it could.
+fn is_changed(rt: &HostRuntime, path: &Text, sql: &str) -> bool {
+    match Connection::open(rt, path.as_str()) {
+        Ok(mut database) => database.execute_batch(sql).is_ok() && database.close().is_ok(),
+        Err(_) => false,
+    }
 }
 
 /// Whether a call fails and isn't out of memory.
@@ -130,7 +131,9 @@ fn is_told_anew(
     clear(rt)?;
     let id = id()?;
     make(rt, path, id)?;
-    change(rt, path, sql)?;
+    if !is_changed(rt, path, sql) {
+        return Err(Trouble::Database);
+    }
     let mut store = opened(rt, path)?;
     Ok(is_told(rt.alloc(), &mut store, id, is_row_read))
 }

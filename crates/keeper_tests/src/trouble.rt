@@ -1,5 +1,4 @@
 use local_store::KeeperErr;
-use sqlite::Error;
 use std::alloc::AllocError;
 use std::io;
 use stored_records::RecordErr;
@@ -43,12 +42,6 @@ impl From<InfoErr> for Trouble {
             InfoErr::Bad(_) => Trouble::NotRead,
             InfoErr::NoMemory => Trouble::NoMemory,
         }
-    }
-}
-
-impl From<Error> for Trouble {
-    fn from(_error: Error) -> Trouble {
-        Trouble::Database
     }
 }
 

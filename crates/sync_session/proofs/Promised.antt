@@ -1,52 +1,28 @@
 -- What a sync promises by what it added.
-use Rattle.std.specs.Prelude.{ℕ, ◌≡◌, List, [], ◌++◌, length, Option, Some, None, Result, Ok, Err}
-use Rattle.std.proofs.Common.{sym, ◌∙◌, ap, subst, inl, inr, append-nil}
+use Rattle.std.specs.Prelude.{ℕ, ◌≡◌, List, ◌++◌, length, Result, Ok, Err}
+use Rattle.std.proofs.Common.{sym, ◌∙◌, ap, subst}
 use Rattle.std.proofs.lemmas.List.{append_cancel_left}
-use Rattle.std.proofs.lemmas.Option.{same_Some}
 use Rattle.conflicts.specs.declared.report.SyncReport.{SyncReport}
 use Rattle.jop_base.specs.declared.lock_name.LockKind.TheVariants.{Sync}
-use Rattle.jop_target.specs.Trail.{LineNow}
 use Rattle.jop_target.specs.declared.event.Event.{Event}
-use Rattle.lease.proofs.WholeSessions.{obeys_none}
 use Rattle.lease.specs.Blocked.{NamesALiveLock}
 use Rattle.lease.specs.Outcomes.{IsBlocked}
 use Rattle.lease.specs.declared.lock.Lock.{Lock}
 use Rattle.licences.specs.Deeds.{changes_in, deeds_of, events_of}
-use Rattle.licences.specs.Licences.{Each, MergesInfo, ObeysData}
+use Rattle.licences.specs.Licences.{MergesInfo, ObeysData}
 use Rattle.licences.specs.Views.{at_rest}
-use Rattle.local_store.specs.Keepers.{IsOfKept, Kept}
 use Rattle.local_store.specs.declared.change.Change.{Change}
 use Rattle.local_store.specs.declared.tables.Tables.{Tables}
 use Rattle.session_steps.specs.Steps.{IsStep}
 use Rattle.sync_run.proofs.Whole.{NamesBlocked, before_end, names_added}
-use Rattle.target_upgrade.proofs.Whole.{keeps_none}
 use Rattle.target_upgrade.specs.Course.{ObeysLease}
-use Rattle.sync_session.specs.Syncing.{AddsFrom, AddsSync, IsUnread, IsWholeSync, SyncNow, desk_at}
+use Rattle.sync_session.specs.Syncing.{AddsFrom, IsWholeSync, SyncNow, desk_at}
 use Rattle.sync_session.specs.Telling.{Tells}
 use Rattle.sync_session.specs.Working.{is_sync}
 use Rattle.sync_session.specs.declared.sync_err.SyncErr.{SyncErr}
 use Rattle.sync_session.specs.declared.sync_err.SyncErr.TheVariants.{Busy, LeaseLost, TargetOlder, TargetNewer, BadInfo, FailSafe, NoKey, TargetFault, KeeperFault, NoMemory}
 
 -- ---- its discipline
-
--- nothing was added
-unread_same : (old new : SyncNow) (result : Result SyncReport SyncErr) → IsUnread old result new
-    → (new.line ≡ old.line) × (new.made ≡ old.made)
-unread_same old new (Err KeeperFault) h = (h.0.line, h.0.made)
-unread_same old new (Err NoMemory) h = (h.line, h.made)
-unread_same old new (Err (Busy lock now)) h = absurd h
-unread_same old new (Err (LeaseLost seen)) h = absurd h
-unread_same old new (Err (TargetOlder version)) h = absurd h
-unread_same old new (Err (TargetNewer version)) h = absurd h
-unread_same old new (Err BadInfo) h = absurd h
-unread_same old new (Err (FailSafe count)) h = absurd h
-unread_same old new (Err (NoKey key)) h = absurd h
-unread_same old new (Err TargetFault) h = absurd h
-unread_same old new (Ok report) h = absurd h
-
-none_more : {T : Type 0} (old new added : List T) → new ≡ old → new ≡ old ++ added → added ≡ []
-none_more old new added same is =
-    append_cancel_left old added [] (sym is ∙ (same ∙ sym (append-nil old)))
 
 obeys_whole : (client : List ℕ) (t : Tables) (old new : SyncNow)
     (result : Result SyncReport SyncErr) (added : List Event)
@@ -57,7 +33,7 @@ obeys_whole client t old new result added h is =
     (append_cancel_left old.line.trail _ added (sym h.whole.trail ∙ is))
     (record { locks = h.whole.obeys; work = h.versions })
 
-obeys_from : (client : List ℕ) (t : Tables) (old new : SyncNow)
+pub obeys_from : (client : List ℕ) (t : Tables) (old new : SyncNow)
     (result : Result SyncReport SyncErr) (added : List Event)
     → AddsFrom client t old result new → new.line.trail ≡ old.line.trail ++ added
     → ObeysLease client added
@@ -82,39 +58,25 @@ obeys_from client t old new (Err (NoKey key)) added h is =
 obeys_from client t old new (Err TargetFault) added h is = obeys_whole client t old new _ added h is
 obeys_from client t old new (Err KeeperFault) added h is = obeys_whole client t old new _ added h is
 
-pub obeys_sync : (client : List ℕ) (old new : SyncNow) (result : Result SyncReport SyncErr)
-    (added : List Event) → AddsSync client old result new
-    → new.line.trail ≡ old.line.trail ++ added → ObeysLease client added
-obeys_sync client old new result added (inl unread) is =
-    let same = (unread_same old new result unread).0 in
-    let none = none_more old.line.trail new.line.trail added
-    (ap (λ (l : LineNow). l.trail) same) is in
-    subst (ObeysLease client) (sym none)
-    (record { locks = obeys_none client; work = keeps_none client })
-obeys_sync client old new result added (inr adds) is =
-    obeys_from client adds.0 old new result added adds.2 is
-
 -- ---- the lock for which it gave up
 
-names_busy : (client : List ℕ) (old new : SyncNow) (added : List Event) (lock : Lock) (now : ℕ)
-    → NamesBlocked → AddsSync client old (Err (Busy lock now)) new
+names_busy : (client : List ℕ) (t : Tables) (old new : SyncNow) (added : List Event) (lock : Lock)
+    (now : ℕ) → NamesBlocked → AddsFrom client t old (Err (Busy lock now)) new
     → new.line.trail ≡ old.line.trail ++ added → NamesALiveLock Sync client added lock now
-names_busy client old new added lock now law (inl unread) is = absurd unread
-names_busy client old new added lock now law (inr adds) is =
-    let h = adds.2 in
+names_busy client t old new added lock now law h is =
     let at = before_end old.line.trail h.whole.middle h.last.line.trail new.line.trail
     (ap (λ (s : SyncNow). s.line.trail) h.ended) h.whole.trail in
     names_added (IsStep is_sync client) Sync client old.line.trail new.line.trail added lock now
     h.whole law
     (subst (λ (es : List Event). IsBlocked Sync client es lock now) at h.answers.0) is
 
-pub names_sync : (client : List ℕ) (old new : SyncNow) (result : Result SyncReport SyncErr)
-    (added : List Event) (lock : Lock) (now : ℕ) → NamesBlocked → result ≡ Err (Busy lock now)
-    → AddsSync client old result new → new.line.trail ≡ old.line.trail ++ added
-    → NamesALiveLock Sync client added lock now
-names_sync client old new result added lock now law busy h is =
-    names_busy client old new added lock now law
-    (subst (λ (r : Result SyncReport SyncErr). AddsSync client old r new) busy h) is
+pub names_from : (client : List ℕ) (t : Tables) (old new : SyncNow)
+    (result : Result SyncReport SyncErr) (added : List Event) (lock : Lock) (now : ℕ)
+    → NamesBlocked → result ≡ Err (Busy lock now) → AddsFrom client t old result new
+    → new.line.trail ≡ old.line.trail ++ added → NamesALiveLock Sync client added lock now
+names_from client t old new result added lock now law busy h is =
+    names_busy client t old new added lock now law
+    (subst (λ (r : Result SyncReport SyncErr). AddsFrom client t old r new) busy h) is
 
 -- ---- its licences
 
@@ -153,26 +115,9 @@ tells_from client t old new (Err (NoKey key)) h = h.tells
 tells_from client t old new (Err TargetFault) h = h.tells
 tells_from client t old new (Err KeeperFault) h = h.tells
 
-told_tables : (kept : Option Kept) (k : Kept) (t : Tables) → IsOfKept kept t → kept ≡ Some k
-    → t ≡ k.tables
-told_tables None k t told is = absurd cc
-told_tables (Some other) k t told is =
-    told ∙ ap (λ (x : Kept). x.tables) (same_Some other k is)
-
-pub licensed_sync : (client : List ℕ) (old new : SyncNow) (result : Result SyncReport SyncErr)
-    (k : Kept) (added : List Event) (changes : List Change) → AddsSync client old result new
-    → old.keeper.kept ≡ Some k → new.line.trail ≡ old.line.trail ++ added
-    → new.made ≡ old.made ++ changes → IsLicensed k.tables added changes
-unfolding deeds_of Each
-licensed_sync client old new result k added changes (inl unread) told trail made =
-    let same = unread_same old new result unread in
-    let none = none_more old.line.trail new.line.trail added
-    (ap (λ (l : LineNow). l.trail) same.0) trail in
-    let calm = none_more old.made new.made changes same.1 made in
-    subst (λ (es : List Event). IsLicensed k.tables es changes) (sym none)
-    (subst (λ (cs : List Change). IsLicensed k.tables [] cs) (sym calm) (tt, tt))
-licensed_sync client old new result k added changes (inr adds) told trail made =
-    let t = adds.0 in
-    subst (λ (u : Tables). IsLicensed u added changes)
-    (told_tables old.keeper.kept k t adds.1.told told)
-    (licensed_told t old new added changes (tells_from client t old new result adds.2) trail made)
+pub licensed_from : (client : List ℕ) (t : Tables) (old new : SyncNow)
+    (result : Result SyncReport SyncErr) (added : List Event) (changes : List Change)
+    → AddsFrom client t old result new → new.line.trail ≡ old.line.trail ++ added
+    → new.made ≡ old.made ++ changes → IsLicensed t added changes
+licensed_from client t old new result added changes h trail made =
+    licensed_told t old new added changes (tells_from client t old new result h) trail made

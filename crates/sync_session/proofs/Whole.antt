@@ -1,12 +1,11 @@
 -- A sync from its begin to its end.
 use Rattle.std.specs.Prelude.{ℕ, ◌≡◌, ◌+◌, List, [], ◌∷◌, ◌++◌, length, true, false, Some, None, option_map, Result, Ok, Err, refl}
-use Rattle.std.proofs.Common.{sym, ◌∙◌, ap, subst, inr, append-nil, append_assoc}
+use Rattle.std.proofs.Common.{sym, ◌∙◌, ap, subst, append-nil, append_assoc}
 use Rattle.std.proofs.lemmas.List.{append_cancel_left}
 use Rattle.conflicts.specs.declared.report.SyncReport.{SyncReport}
 use Rattle.desk.specs.Desks.{DeskNow}
 use Rattle.jop_target.specs.declared.event.Event.{Event}
 use Rattle.jop_target.specs.declared.event.Event.TheVariants.{Began, Sent, Called, Made, Ended}
-use Rattle.jop_target.specs.Replies.{TargetNow}
 use Rattle.lease.proofs.WholeSessions.{adds_begun, adds_none, adds_whole, at_seam, begun_stands}
 use Rattle.lease.specs.Discipline.{ends_released, phase_of}
 use Rattle.lease.specs.WholeSession.{IsInner}
@@ -16,8 +15,6 @@ use Rattle.licences.specs.Trails.{calls_from, session_calls}
 use Rattle.licences.specs.Deeds.{Deed, Begins, Asks, Makes, MakesUntold, Ends, Stops, changes_in, deeds_of, events_of}
 use Rattle.licences.specs.Licences.{AreWork, Each, MayDo, MayMerge}
 use Rattle.licences.specs.Views.{View, at_rest}
-use Rattle.local_store.specs.Keepers.{HasCause, IsOfKept, KeeperNow}
-use Rattle.local_store.specs.Sound.{IsSound}
 use Rattle.local_store.specs.declared.change.Change.{Change}
 use Rattle.local_store.specs.declared.tables.Tables.{Tables}
 use Rattle.session_steps.proofs.Asked.{kept-same}
@@ -27,7 +24,7 @@ use Rattle.sync_run.proofs.Whole.{before_end}
 use Rattle.target_upgrade.proofs.Courses.{course_from-last}
 use Rattle.target_upgrade.proofs.Whole.{keeps_begun, keeps_none, keeps_whole}
 use Rattle.target_upgrade.specs.Course.{KeepsVersions, course_of, outside_course}
-use Rattle.sync_session.specs.Syncing.{AddsFrom, AddsSync, HasBegunSync, IsOpenSync, IsSyncReleased, IsWholeSync, SyncAnswers, SyncGoesOn, SyncNow, begun_at, begun_view, desk_at, ended_at, has_ended, sync_now}
+use Rattle.sync_session.specs.Syncing.{AddsFrom, HasBegunSync, IsOpenSync, IsSyncReleased, IsWholeSync, SyncAnswers, SyncGoesOn, SyncNow, begun_at, begun_view, desk_at, ended_at, has_ended}
 use Rattle.sync_session.specs.Telling.{Tells, TellsWork}
 use Rattle.sync_session.specs.Working.{is_sync}
 use Rattle.sync_session.specs.declared.sync_err.SyncErr.{SyncErr}
@@ -304,26 +301,3 @@ pub adds_open_from : (client : List ℕ) (t : Tables) (old new : SyncNow)
 adds_open_from client t old new result ended h =
     subst (λ (r : Result SyncReport SyncErr). AddsFrom client t old r new)
     (sym (not_ended result ended)) h
-
--- ---- the keeper's state
-
-pub keeper_same : (a b : KeeperNow) → b.kept ≡ a.kept → b.faults ≡ a.faults → b ≡ a
-keeper_same a b kept faults = λ i. record { kept = kept i; faults = faults i }
-
-calm : {T : Type 0} (before after : ℕ) (value : T) → HasCause before (Ok value) after
-    → after ≡ before
-calm before after value h = h.stays (λ failed. cc)
-
--- the tables were read, which leaves what is kept
-pub adds_read : (client : List ℕ) (t : Tables) (trail : List Event) (target : TargetNow)
-    (k l : KeeperNow) (made : List Change) (result : Result SyncReport SyncErr) (new : SyncNow)
-    → IsSound t → IsOfKept k.kept t → l.kept ≡ k.kept → HasCause k.faults (Ok t) l.faults
-    → AddsFrom client t (sync_now trail target l made) result new
-    → AddsSync client (sync_now trail target k made) result new
-adds_read client t trail target k l made result new sound told kept cause adds =
-    inr (
-      t,
-      record { sound = sound; told = told },
-      subst (λ (x : KeeperNow). AddsFrom client t (sync_now trail target x made) result new)
-          (keeper_same k l kept (calm k.faults l.faults t cause)) adds,
-    )

@@ -1,8 +1,8 @@
 -- A whole sync, from its begin to its end, and why it answers as it does.
-use Rattle.std.specs.Prelude.{ℕ, ◌≡◌, ◌⊎◌, List, [], ◌∷◌, ◌++◌, Bool, true, false, None, Result, Ok, Err}
+use Rattle.std.specs.Prelude.{ℕ, ◌≡◌, List, [], ◌∷◌, ◌++◌, Bool, true, false, None, Result, Ok, Err}
 use Rattle.conflicts.specs.Reports.{new_report}
 use Rattle.conflicts.specs.declared.report.SyncReport.{SyncReport}
-use Rattle.desk.specs.Desks.{DeskNow, IsSameDesk, IsTidy}
+use Rattle.desk.specs.Desks.{DeskNow, IsSameDesk}
 use Rattle.jop_base.specs.Outside.{HasRisen}
 use Rattle.jop_base.specs.declared.lock_name.LockKind.TheVariants.{Sync}
 use Rattle.jop_base.specs.declared.path.Path.TheVariants.{Lock as LockFile}
@@ -149,12 +149,6 @@ ended_at d = record {
   made = d.made;
 }
 
--- nothing was called or changed
-pub record IsUnsynced (old new : SyncNow) : Type 0 where
-  pub line : new.line ≡ old.line
-  pub kept : new.keeper.kept ≡ old.keeper.kept
-  pub made : new.made ≡ old.made
-
 -- From these tables one session was added, of work of a sync, of changes, and of its lease's calls; it has ended.
 pub record IsWholeSync (client : List ℕ) (t : Tables) (old : SyncNow)
     (result : Result SyncReport SyncErr) (new : SyncNow) : Type 0 where
@@ -175,16 +169,3 @@ pub record IsOpenSync (client : List ℕ) (t : Tables) (old new : SyncNow) : Typ
 abbrev pub AddsFrom : List ℕ → Tables → SyncNow → Result SyncReport SyncErr → SyncNow → Type 0
 AddsFrom client t old (Err NoMemory) new = IsOpenSync client t old new
 AddsFrom client t old result new = IsWholeSync client t old result new
-
--- the tables couldn't be read
-abbrev pub IsUnread : SyncNow → Result SyncReport SyncErr → SyncNow → Type 0
-IsUnread old (Err KeeperFault) new =
-    IsUnsynced old new × HasRisen old.keeper.faults new.keeper.faults
-IsUnread old (Err NoMemory) new = IsUnsynced old new
-IsUnread old result new = ⊥
-
--- What a sync adds, by its answer. It is from tables that are sound and are those that are kept, if that is told.
-abbrev pub AddsSync : List ℕ → SyncNow → Result SyncReport SyncErr → SyncNow → Type 0
-AddsSync client old result new =
-    IsUnread old result new
-    ⊎ ((t : Tables) × IsTidy (desk_at t old) × AddsFrom client t old result new)

@@ -1,4 +1,4 @@
-ghost use Rattle.std.specs.Prelude.{◌≡◌, ◌++◌, ℕ, List, [], Err, None, Some, true};
+ghost use Rattle.std.specs.Prelude.{◌≡◌, ◌++◌, ℕ, List, [], Err, None, true};
 ghost use Rattle.desk.specs.Desks.{IsSameDesk, IsTidy};
 ghost use Rattle.exclusion.specs.Exclusive.{KeepsExclusive};
 ghost use Rattle.jop_base.specs.declared.lock_name.LockKind.{LockKind};
@@ -14,14 +14,13 @@ ghost use Rattle.licences.specs.Deeds.{deeds_of};
 ghost use Rattle.licences.specs.Licences.{MergesInfo, ObeysData};
 ghost use Rattle.licences.specs.Trails.{session_calls};
 ghost use Rattle.licences.specs.Views.{at_rest};
-ghost use Rattle.local_store.specs.Keepers.{Kept};
 ghost use Rattle.local_store.specs.declared.change.Change.{Change};
 ghost use Rattle.opening.specs.Opening.{IsLawful};
 ghost use Rattle.session_steps.specs.Steps.{IsStep};
 ghost use Rattle.session_steps.specs.Work.{IsReady, view_of};
 ghost use Rattle.target_upgrade.specs.Course.{ObeysLease};
 ghost use Rattle.sync_run.specs.Sessions.{IsMarkOr};
-ghost use Rattle.sync_session.specs.Syncing.{AddsFrom, AddsSync, EndsWork, HasBegunSync, IsSyncReleased, SyncGoesOn, begun_view, desk_at, sync_now};
+ghost use Rattle.sync_session.specs.Syncing.{AddsFrom, EndsWork, HasBegunSync, IsSyncReleased, SyncGoesOn, begun_view, desk_at, sync_now};
 ghost use Rattle.sync_session.specs.Telling.{TellsWork};
 ghost use Rattle.sync_session.specs.Working.{is_sync};
 
@@ -52,11 +51,16 @@ pub fn sync_on<T: Target, K: Keeper>(
     alloc: Global,
     target: &mut T,
     keeper: &mut K,
+    tables: &mut Tables,
     client: &ClientId,
     diary: &mut Diary,
     made: &mut Changes,
 ) -> Result<SyncReport, SyncErr>
-    ensures session { AddsSync client.now
+    // They are sound, and those that are kept, if that is told.
+    requires tidy { IsTidy (desk_at tables.old
+        (sync_now diary.old.events (T.state target.old) (K.state keeper.old) made.old.changes)) }
+
+    ensures session { AddsFrom client.now tables.old
         (sync_now diary.old.events (T.state target.old) (K.state keeper.old) made.old.changes)
         result
         (sync_now diary.new.events (T.state target.new) (K.state keeper.new) made.new.changes) }
@@ -83,47 +87,26 @@ pub fn sync_on<T: Target, K: Keeper>(
         diary.new.events ≡ diary.old.events ++ added → result ≡ Err (SyncErr.Busy lock now) →
         NamesALiveLock LockKind.Sync client.now added lock now }
 
-    // If the keeper tells its tables, each call and each change has its licence, from those tables on.
-    ensures licensed { (k : Kept) (added : List Event) (changes : List Change) →
-        (K.state keeper.old).kept ≡ Some k → diary.new.events ≡ diary.old.events ++ added →
+    // Each call and each change has its licence, from these tables on.
+    ensures licensed { (added : List Event) (changes : List Change) →
+        diary.new.events ≡ diary.old.events ++ added →
         made.new.changes ≡ made.old.changes ++ changes →
-        ObeysData (at_rest k.tables) (deeds_of added changes)
-        × MergesInfo (at_rest k.tables) (deeds_of added changes) }
+        ObeysData (at_rest tables.old) (deeds_of added changes)
+        × MergesInfo (at_rest tables.old) (deeds_of added changes) }
 
     // Then no saved note is lost, in whatever history this is the client's last run, if no other
     // upload of the note falls between a check and its write, and the other clients have their
     // licences too.
-    ensures kept { (k : Kept) (added : List Event) (changes : List Change) →
-        (K.state keeper.old).kept ≡ Some k → diary.new.events ≡ diary.old.events ++ added →
+    ensures kept { (added : List Event) (changes : List Change) →
+        diary.new.events ≡ diary.old.events ++ added →
         made.new.changes ≡ made.old.changes ++ changes →
-        KeepsNotes client.now k.tables added changes }
+        KeepsNotes client.now tables.old added changes }
 {
     held_apart();
     exclusive();
     blocked();
     notes_are_kept_by_tables();
-    read_and_sync(alloc, target, keeper, client, diary, made)
-}
-
-/// Reads the tables, and makes the session from them.
-fn read_and_sync<T: Target, K: Keeper>(
-    alloc: Global,
-    target: &mut T,
-    keeper: &mut K,
-    client: &ClientId,
-    diary: &mut Diary,
-    made: &mut Changes,
-) -> Result<SyncReport, SyncErr>
-    ensures session { AddsSync client.now
-        (sync_now diary.old.events (T.state target.old) (K.state keeper.old) made.old.changes)
-        result
-        (sync_now diary.new.events (T.state target.new) (K.state keeper.new) made.new.changes) }
-    ensures line { Continues (IsMarkOr (IsStep is_sync client.now))
-        (record { trail = diary.old.events; target = T.state target.old })
-        (record { trail = diary.new.events; target = T.state target.new }) }
-{
-    let mut tables = keeper.read(alloc)?;
-    make_session(alloc, target, keeper, &mut tables, client, diary, made)
+    make_session(alloc, target, keeper, tables, client, diary, made)
 }
 
 /// Makes the session, and writes down where it begins and ends.

@@ -1,5 +1,5 @@
 -- The commands on this machine's own tables: their words, and what each comes to.
-use Rattle.std.specs.Prelude.{ℕ, ◌≡◌, ◌≤◌, List, [], ◌∷◌, length, codes, bytes_eq, nat_le, Bool, not, ◌&&◌, if◌then◌else◌}
+use Rattle.std.specs.Prelude.{ℕ, ◌≡◌, List, [], ◌∷◌, length, codes, bytes_eq, nat_le, Bool, not, ◌&&◌, if◌then◌else◌}
 use Rattle.std.specs.Prelude.{Option, Some, None, option_map, Result, Ok, Err}
 use Rattle.dav_parts.specs.Fields.{number_in}
 use Rattle.item_text.specs.Lines.{has, trimmed}

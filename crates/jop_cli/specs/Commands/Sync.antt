@@ -4,6 +4,7 @@ use Rattle.std.specs.Prelude.{ℕ, ◌≤◌, ◌≡◌, List, [], ◌∷◌, �
 use Rattle.std.specs.Fmt.{decimal}
 use Rattle.std.specs.List.{flat_map}
 use Rattle.conflicts.specs.declared.report.SyncReport.{SyncReport}
+use Rattle.desk.specs.Desks.{IsTidy}
 use Rattle.exclusion.specs.Exclusive.{KeepsExclusive}
 use Rattle.jop_base.specs.declared.lock_name.LockKind.TheVariants.{Sync as SyncLock}
 use Rattle.jop_target.specs.Replies.{TargetNow}
@@ -14,18 +15,20 @@ use Rattle.lease.specs.declared.lock.Lock.{Lock}
 use Rattle.licences.specs.Deeds.{deeds_of}
 use Rattle.licences.specs.Licences.{MergesInfo, ObeysData}
 use Rattle.licences.specs.Views.{at_rest}
-use Rattle.local_store.specs.Keepers.{Kept}
 use Rattle.local_store.specs.declared.change.Change.{Change}
+use Rattle.local_store.specs.declared.tables.Tables.{Tables}
 use Rattle.session_steps.specs.Steps.{IsStep}
 use Rattle.site.specs.Owning.{OwnNow, Owns}
+use Rattle.site.specs.declared.own_err.OwnErr.{OwnErr}
 use Rattle.sync_run.specs.Sessions.{IsMarkOr}
-use Rattle.sync_session.specs.Syncing.{AddsSync, SyncNow, sync_now}
+use Rattle.sync_session.specs.Syncing.{AddsFrom, SyncNow, desk_at, sync_now}
 use Rattle.sync_session.specs.Working.{is_sync}
 use Rattle.sync_session.specs.declared.sync_err.SyncErr.{SyncErr}
 use Rattle.sync_session.specs.declared.sync_err.SyncErr.TheVariants as sync_errors
 use Rattle.target_upgrade.specs.Course.{ObeysLease}
 use Rattle.jop_cli.specs.declared.command.Verb.{Verb}
 use Rattle.jop_cli.specs.declared.command.Verb.TheVariants.{Sync}
+use Rattle.jop_cli.specs.declared.command.sync.Known.{Known}
 use Rattle.jop_cli.specs.declared.command.sync.SyncRefusal.{SyncRefusal}
 use Rattle.jop_cli.specs.declared.command.sync.SyncRefusal.TheVariants as refusals
 use Rattle.jop_cli.specs.declared.status.Status.{Status}
@@ -48,20 +51,27 @@ sync_words words = None
 
 -- ---- the room
 
+-- the client that is known, or why none is
+abbrev pub client_of : Result Known OwnErr → Result (List ℕ) OwnErr
+client_of (Ok known) = Ok known.client
+client_of (Err error) = Err error
+
 -- the client's own side and the target, as a sync sees them
 abbrev pub sync_at : OwnNow → TargetNow → SyncNow
 sync_at own target = sync_now own.site.trail target own.site.keeper own.site.made
 
--- The client was known or named, and then its session was added. In every history its events keep
--- what a lease promises; and each call and each change has its licence, from the tables on that were
--- kept once the client was named, if they are told.
+-- The client was known or named, and then its session was added, from the tables that were kept then.
+-- In every history its events keep what a lease promises; and each call and each change has its
+-- licence, from these tables on.
 pub record HasSynced (before : ClientNow) (result : Result SyncReport SyncErr) (after : ClientNow)
     : Type 0 where
   pub client : List ℕ
   pub named : OwnNow
   pub owns : Owns before.own (Ok client) named
   pub later : before.own.site.keeper.faults ≤ named.site.keeper.faults
-  pub session : AddsSync client (sync_at named before.target) result
+  pub tables : Tables
+  pub tidy : IsTidy (desk_at tables (sync_at named before.target))
+  pub session : AddsFrom client tables (sync_at named before.target) result
       (sync_at after.own after.target)
   pub line : Continues (IsMarkOr (IsStep is_sync client)) (line_at named before.target)
       (line_at after.own after.target)
@@ -70,10 +80,9 @@ pub record HasSynced (before : ClientNow) (result : Result SyncReport SyncErr) (
   pub exclusive : KeepsExclusive client line.more
   pub busy : (lock : Lock) (now : ℕ) → result ≡ Err (sync_errors.Busy lock now) →
       NamesALiveLock SyncLock client line.more lock now
-  pub licensed : (k : Kept) (changes : List Change) → named.site.keeper.kept ≡ Some k →
-      after.own.site.made ≡ named.site.made ++ changes →
-      ObeysData (at_rest k.tables) (deeds_of line.more changes)
-      × MergesInfo (at_rest k.tables) (deeds_of line.more changes)
+  pub licensed : (changes : List Change) → after.own.site.made ≡ named.site.made ++ changes →
+      ObeysData (at_rest tables) (deeds_of line.more changes)
+      × MergesInfo (at_rest tables) (deeds_of line.more changes)
   pub random : after.own.entropy ≡ named.entropy
 
 abbrev pub SyncsBy : ClientNow → Result SyncReport SyncRefusal → ClientNow → Type 0

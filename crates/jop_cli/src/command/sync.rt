@@ -1,6 +1,8 @@
-ghost use Rattle.std.specs.Prelude.{◌≡◌, ◌≤◌, [], IfOk, None};
+ghost use Rattle.std.specs.Prelude.{◌≡◌, ◌≤◌, [], IfOk, None, OnOk};
+ghost use Rattle.local_store.specs.Keepers.{IsOfKept};
+ghost use Rattle.local_store.specs.Sound.{IsSound};
 ghost use Rattle.site.specs.Owning.{NamesClient, Owns, own};
-ghost use Rattle.jop_cli.specs.Commands.Sync.{SyncsBy, sync_of, sync_words};
+ghost use Rattle.jop_cli.specs.Commands.Sync.{SyncsBy, client_of, sync_of, sync_words};
 ghost use Rattle.jop_cli.specs.Words.{target_of};
 
 use crate::command::Verb;
@@ -8,7 +10,7 @@ use crate::words::read_target;
 use conflicts::SyncReport;
 use jop_base::{ClientId, Entropy, Text};
 use jop_target::{Diary, Target};
-use local_store::{Change, Changes, Keeper};
+use local_store::{Change, Changes, Keeper, Tables};
 use site::{OwnErr, commit, draw_id};
 use std::alloc::{AllocError, Global};
 use sync_session::{SyncErr, sync_on};
@@ -62,44 +64,62 @@ fn read_one(alloc: Global, target: &Text) -> Result<Option<Verb>, AllocError>
     }
 }
 
-/// The client that the tables name. Where they name none its id is drawn, and `Named` is committed.
-/// What is refused changes nothing; the keeper's count of faults doesn't fall.
+/// A client, and the tables that name it.
+#[derive(Drop)]
+pub(crate) struct Known {
+    client: ClientId,
+    tables: Tables,
+}
+
+/// The tables, and the client that they name. Where they name none its id is drawn, and `Named` is
+/// committed. What is refused changes nothing; the keeper's count of faults doesn't fall.
 fn known_client<K: Keeper, N: Entropy>(
     alloc: Global,
     keeper: &mut K,
     entropy: &mut N,
     diary: &mut Diary,
     made: &mut Changes,
-) -> Result<ClientId, OwnErr>
+) -> Result<Known, OwnErr>
     ensures owns { Owns
         (own (K.state keeper.old) (N.state entropy.old) diary.old.events made.old.changes)
-        result
+        (client_of result)
         (own (K.state keeper.new) (N.state entropy.new) diary.new.events made.new.changes) }
     ensures later { (K.state keeper.old).faults ≤ (K.state keeper.new).faults }
+    ensures sound { IfOk result (λ known. IsSound known.tables) }
+    ensures told { IfOk result (λ known. IsOfKept (K.state keeper.new).kept known.tables) }
 {
-    match keeper.read(alloc)?.client {
-        Some(client) => Ok(client),
-        None => name_client(alloc, keeper, entropy, diary, made),
-    }
+    let mut tables = keeper.read(alloc)?;
+    let client = match tables.client {
+        Some(client) => client,
+        None => name_client(alloc, keeper, &mut tables, entropy, diary, made)?,
+    };
+    Ok(Known { client, tables })
 }
 
 /// Draws the client's id, and commits it.
+#[tactic(auto, using(crate::proofs::Naming::named_sound, crate::proofs::Naming::named_told))]
 fn name_client<K: Keeper, N: Entropy>(
     alloc: Global,
     keeper: &mut K,
+    tables: &mut Tables,
     entropy: &mut N,
     diary: &mut Diary,
     made: &mut Changes,
 ) -> Result<ClientId, OwnErr>
+    requires sound { IsSound tables.old }
+    requires told { IsOfKept (K.state keeper.old).kept tables.old }
     requires unnamed { NamesClient (K.state keeper.old).kept None }
     ensures owns { Owns
         (own (K.state keeper.old) (N.state entropy.old) diary.old.events made.old.changes)
         result
         (own (K.state keeper.new) (N.state entropy.new) diary.new.events made.new.changes) }
     ensures later { (K.state keeper.old).faults ≤ (K.state keeper.new).faults }
+    ensures sound { IsSound tables.new }
+    ensures told { OnOk result (IsOfKept (K.state keeper.new).kept tables.new) }
 {
     let client = draw_id(entropy)?;
     commit(alloc, keeper, diary, made, Change::Named(client))?;
+    tables.client = Some(client);
     Ok(client)
 }
 
@@ -124,6 +144,6 @@ pub(crate) fn sync<T: Target, K: Keeper, N: Entropy>(
           target = T.state target.new;
         }) }
 {
-    let client = known_client(alloc, keeper, entropy, diary, made)?;
-    Ok(sync_on(alloc, target, keeper, &client, diary, made)?)
+    let Known { client, mut tables } = known_client(alloc, keeper, entropy, diary, made)?;
+    Ok(sync_on(alloc, target, keeper, &mut tables, &client, diary, made)?)
 }

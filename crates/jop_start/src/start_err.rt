@@ -21,7 +21,7 @@ impl StartErr {
 
 impl From<AllocError> for StartErr {
     ghost use Rattle.std.specs.Prelude.{◌≡◌};
-    ghost use Rattle.jop.specs.declared.start_err.StartErr.TheVariants.{NoMemory};
+    ghost use Rattle.jop_start.specs.declared.start_err.StartErr.TheVariants.{NoMemory};
 
     ghost from_gives = { λ _ e. e ≡ NoMemory };
 
@@ -32,7 +32,7 @@ impl From<AllocError> for StartErr {
 
 impl<T: Drop> From<AllocFailed<T>> for StartErr {
     ghost use Rattle.std.specs.Prelude.{◌≡◌};
-    ghost use Rattle.jop.specs.declared.start_err.StartErr.TheVariants.{NoMemory};
+    ghost use Rattle.jop_start.specs.declared.start_err.StartErr.TheVariants.{NoMemory};
 
     ghost from_gives = { λ _ e. e ≡ NoMemory };
 
@@ -43,7 +43,7 @@ impl<T: Drop> From<AllocFailed<T>> for StartErr {
 
 impl From<Failed> for StartErr {
     ghost use Rattle.std.specs.Prelude.{◌≡◌};
-    ghost use Rattle.jop.specs.declared.start_err.StartErr.TheVariants.{EntropyFault};
+    ghost use Rattle.jop_start.specs.declared.start_err.StartErr.TheVariants.{EntropyFault};
 
     ghost from_gives = { λ _ e. e ≡ EntropyFault };
 

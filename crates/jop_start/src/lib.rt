@@ -1,0 +1,15 @@
+//! The start of a run: the file of tables and the target that its words name are made, and the run is on these.
+//!
+//! What stands in a file or on a server, no contract can say. What is proved is that a run is one of [`jop_cli::run`],
+//! on a keeper and a target of its own. Begin with [`run_named`].
+#![tactic(auto)]
+
+mod outside;
+mod server;
+mod start_err;
+mod starting;
+
+pub use outside::Outside;
+pub use server::server_target;
+pub use start_err::StartErr;
+pub use starting::run_named;
