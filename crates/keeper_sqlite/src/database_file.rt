@@ -60,6 +60,7 @@ impl DatabaseFile {
         }
     }
 
+    /// Does work on the file, which is opened if it isn't open yet.
     fn on_file<W: Work>(&mut self, alloc: Global, work: &W) -> Result<W::Answer, Trouble>
         requires { W.is_fit work.now }
         ensures { IfOk result W.answers }

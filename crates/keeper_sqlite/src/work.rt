@@ -24,7 +24,8 @@ pub(crate) trait Work {
         ensures { IfOk result answers };
 }
 
-/// Does work on an open file. Only here it counts that the pages are in a file, which costs a proof its time.
+/// Does work on an open file. This function alone knows that the pages are in a file: in a proof of each that
+/// does, all that the type of such pages means is written out.
 pub(crate) fn done_on<W: Work>(
     alloc: Global,
     database: &mut Database,

@@ -5,5 +5,6 @@ pub mod Settled
 pub mod Exchanged
 pub mod Worked
 pub mod Left
+pub mod Done
 pub mod Whole
 pub mod Promised

@@ -2,7 +2,8 @@ use Rattle.std.proofs.Common.{◌∙◌, refl}
 use Rattle.std.proofs.lemmas.Result.{err_from_is_err_and}
 use Rattle.std.specs.Prelude.{Ok}
 use Rattle.session_steps.proofs.Asked.{calls_locks}
-use Rattle.sync_session.proofs.Left.{HasTaken, counted_locked, ends_from, goes_idle, goes_taken, lawful_begun, lawful_taken, released_done, released_none, released_work, tells_taken}
+use Rattle.sync_session.proofs.Done.{counted_locked, released_done}
+use Rattle.sync_session.proofs.Left.{HasTaken, ends_from, goes_idle, goes_taken, lawful_begun, lawful_taken, released_none, released_work, tells_taken}
 use Rattle.sync_session.proofs.Telling.{tells_locks}
 use Rattle.sync_session.specs.Syncing.{begun_view}
 use Rattle.sync_session.proofs.syncing.take_and_sync.Goals as goal
