@@ -1,15 +1,43 @@
 -- What a run on a keeper and a target of its own comes to.
-use Rattle.std.specs.Prelude.{ℕ, ◌≡◌, Option}
+use Rattle.std.specs.Prelude.{ℕ, ◌≡◌, List, Bool, true, false, Option, Some, None}
 use Rattle.jop_base.specs.Clocks.{ClockNow}
 use Rattle.jop_base.specs.Outside.{SinkNow, SourceNow}
 use Rattle.jop_base.specs.Random.{EntropyNow}
 use Rattle.jop_target.specs.Replies.{TargetNow}
 use Rattle.local_store.specs.Keepers.{KeeperNow}
+use Rattle.jop_cli.specs.Commands.{target_words}
 use Rattle.jop_cli.specs.Outside.{Ran, seen}
 use Rattle.jop_cli.specs.Run.{Does, Reports}
 use Rattle.jop_cli.specs.Statuses.{row_of}
 use Rattle.jop_cli.specs.declared.command.Verb.{Verb}
 use Rattle.jop_cli.specs.declared.status.Status.{Status}
+use Rattle.jop_cli.specs.declared.target_name.TargetKind.{TargetKind}
+use Rattle.jop_cli.specs.declared.target_name.TargetKind.TheVariants.{Mem, Dir}
+use Rattle.jop_cli.specs.declared.target_name.TargetName.{TargetName}
+use Rattle.jop_start.specs.declared.start_err.StartErr.{StartErr}
+use Rattle.jop_start.specs.declared.start_err.StartErr.TheVariants.{EntropyFault, NoMemory}
+
+-- ---- refusals
+
+-- the exit status of the program when nothing was run
+abbrev pub exit_of : StartErr → ℕ
+exit_of EntropyFault = 14
+exit_of NoMemory = 22
+
+-- a target that isn't named is one in memory
+abbrev pub kind_or_mem : Option TargetName → TargetKind
+kind_or_mem None = Mem
+kind_or_mem (Some target) = target.kind
+
+-- the kind of the target that words name
+abbrev pub kind_named : List (List ℕ) → TargetKind
+kind_named words = kind_or_mem (target_words words)
+
+abbrev pub is_folder : TargetKind → Bool
+is_folder (Dir path) = true
+is_folder kind = false
+
+-- ---- a run
 
 -- what the streams, the clock and the random source tell of themselves
 pub record Around : Type 0 where

@@ -1,3 +1,6 @@
+ghost use Rattle.std.specs.Prelude.{◌≡◌};
+ghost use Rattle.jop_start.specs.Starting.{exit_of};
+
 use jop_base::Failed;
 use std::alloc::{AllocError, AllocFailed};
 
@@ -11,7 +14,9 @@ pub enum StartErr {
 
 impl StartErr {
     /// The exit status of the program.
-    pub fn exit(self) -> u8 {
+    pub fn exit(self) -> u8
+        ensures { result ≡ exit_of self }
+    {
         match self {
             StartErr::EntropyFault => 14,
             StartErr::NoMemory => 22,

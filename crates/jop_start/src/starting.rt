@@ -1,6 +1,6 @@
-ghost use Rattle.std.specs.Prelude.{IfOk};
+ghost use Rattle.std.specs.Prelude.{◌≡◌, Err, IfOk, true};
 ghost use Rattle.jop_cli.specs.Commands.{meant};
-ghost use Rattle.jop_start.specs.Starting.{IsRun, around};
+ghost use Rattle.jop_start.specs.Starting.{IsRun, around, is_folder, kind_named};
 
 use crate::outside::Outside;
 use crate::server::server_target;
@@ -31,6 +31,8 @@ pub fn run_named<I: Source, O: Sink, E: Sink, C: Clock, N: Entropy>(
         (C.state outside.old.clock) (N.state outside.old.entropy))
         (around (I.state outside.new.input) (O.state outside.new.out) (E.state outside.new.err)
         (C.state outside.new.clock) (N.state outside.new.entropy))) }
+    ensures drawn { result ≡ Err StartErr.EntropyFault →
+        is_folder (kind_named words.now.list) ≡ true }
 {
     let alloc = rt.alloc();
     let mut keeper: Box<dyn Keeper> = match profile_words(alloc, words)? {
@@ -52,6 +54,8 @@ fn run_keeper<K: Keeper, I: Source, O: Sink, E: Sink, C: Clock, N: Entropy>(
         (C.state outside.old.clock) (N.state outside.old.entropy))
         (around (I.state outside.new.input) (O.state outside.new.out) (E.state outside.new.err)
         (C.state outside.new.clock) (N.state outside.new.entropy))) }
+    ensures drawn { result ≡ Err StartErr.EntropyFault →
+        is_folder (kind_named words.now.list) ≡ true }
 {
     let alloc = rt.alloc();
     let mut target: Box<dyn Target> = match kind_of(rt, words)? {
@@ -66,7 +70,9 @@ fn run_keeper<K: Keeper, I: Source, O: Sink, E: Sink, C: Clock, N: Entropy>(
 }
 
 /// The kind of the target that the words name.
-fn kind_of(rt: &HostRuntime, words: &Words) -> Result<TargetKind, AllocError> {
+fn kind_of(rt: &HostRuntime, words: &Words) -> Result<TargetKind, AllocError>
+    ensures { IfOk result (λ kind. kind ≡ kind_named words.now.list) }
+{
     match target_words(rt.alloc(), words)? {
         Some(TargetName { text: _, kind }) => Ok(kind),
         None => Ok(TargetKind::Mem),

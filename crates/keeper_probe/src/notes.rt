@@ -9,20 +9,16 @@ use local_store::{Change, Content, Row};
 use std::alloc::{AllocError, Global};
 use stored_records::{Record, RowRecord};
 
-/// The text of a note of this number, whose body has 900 letters.
-fn text_of(alloc: Global, number: u64) -> Result<String, AllocError> {
-    let mut text = format!(in alloc; "Note {number}\n\n")?;
-    for _ in 0..90 {
-        text.push_str("nine words")?;
-    }
-    let end = format!(in alloc; "\n\nid: {number:032x}\ntype_: 1")?;
-    text.push_str(end.as_str())?;
-    Ok(text)
+/// The text of a note of this number and id, whose body has 900 letters.
+fn text_of(alloc: Global, number: u64, id: &str) -> Result<String, AllocError> {
+    let body = "nine words".repeat(alloc, 90)?;
+    let body = body.as_str();
+    format!(in alloc; "Note {number}\n\n{body}\n\nid: {id}\ntype_: 1")
 }
 
 fn record_of(alloc: Global, number: u64) -> Result<RowRecord, AllocError> {
     let id = format!(in alloc; "{number:032x}")?;
-    let text = text_of(alloc, number)?;
+    let text = text_of(alloc, number, id.as_str())?;
     Ok(RowRecord {
         id: Text::of(alloc, id.as_str())?,
         sealed: 0,

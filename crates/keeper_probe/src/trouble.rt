@@ -1,5 +1,5 @@
 use local_store::KeeperErr;
-use std::alloc::AllocError;
+use std::alloc::{AllocError, AllocFailed};
 use std::io;
 use stored_records::RecordErr;
 
@@ -34,6 +34,12 @@ impl From<io::Error> for Trouble {
 
 impl From<AllocError> for Trouble {
     fn from(_error: AllocError) -> Trouble {
+        Trouble::NoMemory
+    }
+}
+
+impl<T: Drop> From<AllocFailed<T>> for Trouble {
+    fn from(_error: AllocFailed<T>) -> Trouble {
         Trouble::NoMemory
     }
 }
