@@ -13,14 +13,21 @@ pub(crate) struct Due<'a> {
     text: &'a str,
 }
 
+/// What stands before the first `|`, and what stands behind it.
+fn cut(line: &str) -> (&str, &str) {
+    line.split_once('|').unwrap_or((line, ""))
+}
+
 /// A line that says so, with `|` between each two.
 pub(crate) fn read_due(line: &str) -> Due<'_> {
-    let mut parts = line.split('|');
+    let (words, rest) = cut(line);
+    let (input, rest) = cut(rest);
+    let (exit, text) = cut(rest);
     Due {
-        words: parts.next().unwrap_or(""),
-        input: parts.next().unwrap_or(""),
-        exit: parts.next().unwrap_or(""),
-        text: parts.next().unwrap_or(""),
+        words,
+        input,
+        exit,
+        text,
     }
 }
 

@@ -1,6 +1,6 @@
 use crate::client::{Client, client_at, random_bytes};
 use jop_base::Bytes;
-use local_store::MemKeeper;
+use local_store::Keeper;
 use record_keeper::{MemRecords, RecordKeeper};
 use std::alloc::{AllocError, Global};
 use std::test::Fail;
@@ -12,13 +12,22 @@ fn failing_records(alloc: Global) -> Result<MemRecords, AllocError> {
     Ok(records)
 }
 
-/// Whether `ls` over records whose first call fails tells so.
-fn tells_a_failed_record(alloc: Global) -> Result<bool, AllocError> {
+/// A client over records whose first call fails.
+fn failing_client(alloc: Global) -> Result<Client<RecordKeeper<MemRecords>>, AllocError> {
     let entropy = random_bytes(alloc)?;
     let records = failing_records(alloc)?;
-    let mut client = Client::new(alloc, RecordKeeper::over(records), 5, entropy);
+    Ok(Client::new(alloc, RecordKeeper::over(records), 5, entropy))
+}
+
+/// Whether `ls` tells that the keeper failed.
+fn is_told<K: Keeper>(alloc: Global, client: &mut Client<K>) -> Result<bool, AllocError> {
     let exit = client.play(alloc, "ls", b"")?;
     Ok(exit == 10 && client.err.written.as_slice() == b"keeper fault\n".as_slice())
+}
+
+fn tells_a_failed_record(alloc: Global) -> Result<bool, AllocError> {
+    let mut client = failing_client(alloc)?;
+    is_told(alloc, &mut client)
 }
 
 #[test]
@@ -35,9 +44,9 @@ fn made(alloc: Global, clock_fails: u64, entropy_fails: u64) -> Result<(u8, usiz
     Ok((exit, client.keeper.tables().rows.len()))
 }
 
-fn make(
+fn make<K: Keeper>(
     alloc: Global,
-    client: &mut Client<MemKeeper>,
+    client: &mut Client<K>,
     clock_fails: u64,
     entropy_fails: u64,
 ) -> Result<u8, AllocError> {
@@ -61,7 +70,7 @@ fn added(alloc: Global, input: &[u8]) -> Result<u8, AllocError> {
     add(alloc, &mut client, input)
 }
 
-fn add(alloc: Global, client: &mut Client<MemKeeper>, input: &[u8]) -> Result<u8, AllocError> {
+fn add<K: Keeper>(alloc: Global, client: &mut Client<K>, input: &[u8]) -> Result<u8, AllocError> {
     client.play(alloc, "mkbook Home", b"")?;
     client.play(alloc, "add 000102030405060708090a0b0c0d0e0f Milk", input)
 }

@@ -1,12 +1,12 @@
 use crate::client::{Client, client_at};
 use item_kinds::updated_of;
 use jop_base::{Id, MAX_TIME, MemClock};
-use local_store::{MemKeeper, Tables};
+use local_store::{Keeper, Tables};
 use std::alloc::{AllocError, Global};
 use std::test::Fail;
 
 /// Makes a note in a notebook, and edits it at five milliseconds past 1970.
-fn make_and_edit(alloc: Global, client: &mut Client<MemKeeper>) -> Result<u8, AllocError> {
+fn make_and_edit<K: Keeper>(alloc: Global, client: &mut Client<K>) -> Result<u8, AllocError> {
     client.play(alloc, "mkbook Home", b"")?;
     client.play(alloc, "add 000102030405060708090a0b0c0d0e0f Milk", b"two")?;
     client.clock = MemClock::new(alloc, 5, 0);

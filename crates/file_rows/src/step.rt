@@ -9,15 +9,23 @@ pub(crate) struct Step<'a> {
     pub text: &'a str,
 }
 
+/// What stands before the first `|`, and what stands behind it.
+fn cut(line: &str) -> (&str, &str) {
+    line.split_once('|').unwrap_or((line, ""))
+}
+
 /// A line that says so, with `|` between each two.
 pub(crate) fn read_step(line: &str) -> Step<'_> {
-    let mut parts = line.split('|');
+    let (client, rest) = cut(line);
+    let (words, rest) = cut(rest);
+    let (input, rest) = cut(rest);
+    let (exit, text) = cut(rest);
     Step {
-        client: parts.next().unwrap_or(""),
-        words: parts.next().unwrap_or(""),
-        input: parts.next().unwrap_or(""),
-        exit: parts.next().unwrap_or(""),
-        text: parts.next().unwrap_or(""),
+        client,
+        words,
+        input,
+        exit,
+        text,
     }
 }
 

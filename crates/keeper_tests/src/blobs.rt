@@ -56,9 +56,13 @@ impl Work {
     }
 }
 
+fn count_saved_alike(rt: &HostRuntime) -> Result<u64, Trouble> {
+    let mut work = Work::new(rt, 6)?;
+    work.count_saved_alike(rt, 10)
+}
+
 #[test]
 fn ten_blobs_are_saved_and_replaced_alike(rt: HostRuntime) -> Result<(), Fail> {
-    let mut work = Work::new(&rt, 6)?;
-    assert_eq!(rt; work.count_saved_alike(&rt, 10)?, 10);
+    assert_eq!(rt; count_saved_alike(&rt)?, 10);
     Ok(remove(&rt)?)
 }

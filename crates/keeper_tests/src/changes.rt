@@ -226,9 +226,13 @@ impl Keepers {
     }
 }
 
+fn count_same(rt: &HostRuntime) -> Result<usize, Trouble> {
+    let mut keepers = Keepers::new(rt)?;
+    keepers.count_same(rt)
+}
+
 #[test]
 fn each_change_comes_to_the_same_tables(rt: HostRuntime) -> Result<(), Fail> {
-    let mut keepers = Keepers::new(&rt)?;
-    assert_eq!(rt; keepers.count_same(&rt)?, 19);
+    assert_eq!(rt; count_same(&rt)?, 19);
     Ok(remove(&rt)?)
 }

@@ -77,12 +77,21 @@ impl Case {
         let mut file = opened(rt, path)?;
         self.is_met(rt.alloc(), &mut file)
     }
+
+    fn is_met_by_both(
+        &self,
+        rt: &HostRuntime,
+        path: &Text,
+        memory: &mut MemRecords,
+    ) -> Result<bool, Trouble> {
+        Ok(self.is_met(rt.alloc(), memory)? && self.is_met_by_file(rt, path)?)
+    }
 }
 
 /// How many of the cases are met, until one isn't.
 fn count_met(rt: &HostRuntime, path: &Text, memory: &mut MemRecords) -> Result<usize, Trouble> {
     for (count, case) in CASES.into_iter().enumerate() {
-        if !case.is_met(rt.alloc(), memory)? || !case.is_met_by_file(rt, path)? {
+        if !case.is_met_by_both(rt, path, memory)? {
             return Ok(count);
         }
     }

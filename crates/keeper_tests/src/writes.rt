@@ -48,9 +48,13 @@ impl Work {
     }
 }
 
+fn count_alike(rt: &HostRuntime) -> Result<u64, Trouble> {
+    let mut work = Work::new(rt, 5)?;
+    work.count_alike(rt, 301)
+}
+
 #[test]
 fn three_hundred_writes_come_to_the_same_tables(rt: HostRuntime) -> Result<(), Fail> {
-    let mut work = Work::new(&rt, 5)?;
-    assert_eq!(rt; work.count_alike(&rt, 301)?, 301);
+    assert_eq!(rt; count_alike(&rt)?, 301);
     Ok(remove(&rt)?)
 }
