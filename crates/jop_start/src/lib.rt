@@ -1,7 +1,7 @@
 //! The start of a run: the file of tables and the target that its words name are made, and the run is on these.
 //!
-//! What stands in a file or on a server, no contract can say. What is proved is that a run is one of [`jop_cli::run`],
-//! on a keeper and a target of its own. Begin with [`run_named`].
+//! What stands in a file or on a server, no contract can say. What is proved is that a run is one of [`jop_cli::run`]
+//! on some keeper and some target, and that a start that is refused does nothing. Begin with [`run_named`].
 #![tactic(auto)]
 
 mod outside;

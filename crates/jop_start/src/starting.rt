@@ -1,4 +1,4 @@
-ghost use Rattle.std.specs.Prelude.{◌≡◌, Err, IfOk, true};
+ghost use Rattle.std.specs.Prelude.{◌≡◌, Err, IfOk, OnErr, true};
 ghost use Rattle.jop_cli.specs.Commands.{meant};
 ghost use Rattle.jop_start.specs.Starting.{IsRun, around, is_folder, kind_named};
 
@@ -33,6 +33,11 @@ pub fn run_named<I: Source, O: Sink, E: Sink, C: Clock, N: Entropy>(
         (C.state outside.new.clock) (N.state outside.new.entropy))) }
     ensures drawn { result ≡ Err StartErr.EntropyFault →
         is_folder (kind_named words.now.list) ≡ true }
+    ensures idle { OnErr result (
+        around (I.state outside.new.input) (O.state outside.new.out) (E.state outside.new.err)
+        (C.state outside.new.clock) (N.state outside.new.entropy)
+        ≡ around (I.state outside.old.input) (O.state outside.old.out) (E.state outside.old.err)
+        (C.state outside.old.clock) (N.state outside.old.entropy)) }
 {
     let alloc = rt.alloc();
     let mut keeper: Box<dyn Keeper> = match profile_words(alloc, words)? {
@@ -56,6 +61,11 @@ fn run_keeper<K: Keeper, I: Source, O: Sink, E: Sink, C: Clock, N: Entropy>(
         (C.state outside.new.clock) (N.state outside.new.entropy))) }
     ensures drawn { result ≡ Err StartErr.EntropyFault →
         is_folder (kind_named words.now.list) ≡ true }
+    ensures idle { OnErr result (
+        around (I.state outside.new.input) (O.state outside.new.out) (E.state outside.new.err)
+        (C.state outside.new.clock) (N.state outside.new.entropy)
+        ≡ around (I.state outside.old.input) (O.state outside.old.out) (E.state outside.old.err)
+        (C.state outside.old.clock) (N.state outside.old.entropy)) }
 {
     let alloc = rt.alloc();
     let mut target: Box<dyn Target> = match kind_of(rt, words)? {
