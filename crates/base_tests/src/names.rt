@@ -16,20 +16,21 @@ pub fn id(text: &[u8]) -> Result<Id, Fail> {
     Ok(read_id(text).ok_or("an id")?)
 }
 
+const NEXT_IDS: [(&[u8], &str); 3] = [
+    (ONES, "11111111111111111111111111111112"),
+    (
+        b"0000000000000000000000000000009f",
+        "000000000000000000000000000000a0",
+    ),
+    (
+        b"ffffffffffffffffffffffffffffffff",
+        "00000000000000000000000000000000",
+    ),
+];
+
 #[test]
 fn ids_count_up(rt: HostRuntime) -> Result<(), Fail> {
-    let table = [
-        (ONES, "11111111111111111111111111111112"),
-        (
-            b"0000000000000000000000000000009f".as_slice(),
-            "000000000000000000000000000000a0",
-        ),
-        (
-            b"ffffffffffffffffffffffffffffffff".as_slice(),
-            "00000000000000000000000000000000",
-        ),
-    ];
-    for (text, next) in table {
+    for (text, next) in NEXT_IDS {
         assert_eq!(rt; id(text)?.after().as_str(), next);
     }
     Ok(())

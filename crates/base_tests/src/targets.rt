@@ -116,24 +116,30 @@ fn are_written(
     Ok(heard && are(alloc, diary.events(), lines)?)
 }
 
+const STEPS: [(Step, u64); 5] = [
+    (Step::Put(b"ab"), 1000),
+    (Step::List, 1010),
+    (Step::Get, 1020),
+    (Step::Delete, 1030),
+    (Step::Get, 1040),
+];
+
+const LINES: [&str; 5] = [
+    "put 11111111111111111111111111111111.md, 2 bytes: done at 1000",
+    "list /: listed at 1010, 11111111111111111111111111111111.md of 1000",
+    "get 11111111111111111111111111111111.md: got 2 bytes at 1020",
+    "delete 11111111111111111111111111111111.md: done at 1030",
+    "get 11111111111111111111111111111111.md: absent at 1040",
+];
+
+fn calls_are_written_down(alloc: Global) -> Result<bool, Fail> {
+    let mut target = MemTarget::new(alloc, 1000, 10);
+    are_written(alloc, &mut target, &STEPS, &LINES)
+}
+
 #[test]
 fn a_call_is_written_down_with_its_reply(rt: HostRuntime) -> Result<(), Fail> {
-    let mut target = MemTarget::new(rt.alloc(), 1000, 10);
-    let steps = [
-        (Step::Put(b"ab"), 1000),
-        (Step::List, 1010),
-        (Step::Get, 1020),
-        (Step::Delete, 1030),
-        (Step::Get, 1040),
-    ];
-    let lines = [
-        "put 11111111111111111111111111111111.md, 2 bytes: done at 1000",
-        "list /: listed at 1010, 11111111111111111111111111111111.md of 1000",
-        "get 11111111111111111111111111111111.md: got 2 bytes at 1020",
-        "delete 11111111111111111111111111111111.md: done at 1030",
-        "get 11111111111111111111111111111111.md: absent at 1040",
-    ];
-    assert!(rt; are_written(rt.alloc(), &mut target, &steps, &lines)?);
+    assert!(rt; calls_are_written_down(rt.alloc())?);
     Ok(())
 }
 
@@ -148,24 +154,31 @@ fn fail_twice(target: &mut MemTarget) -> Result<(), AllocError> {
     target.fail(3, true)
 }
 
+const PLANNED_STEPS: [(Step, u64); 4] = [
+    (Step::Delete, 0),
+    (Step::List, 1),
+    (Step::Delete, 1),
+    (Step::Get, 3),
+];
+
+const PLANNED_LINES: [&str; 4] = [
+    "delete 11111111111111111111111111111111.md: failed",
+    "list /: listed at 1, 11111111111111111111111111111111.md of 5",
+    "delete 11111111111111111111111111111111.md: failed",
+    "get 11111111111111111111111111111111.md: absent at 3",
+];
+
+/// Whether a target that holds an item fails as it was planned.
+fn fails_as_planned(alloc: Global) -> Result<bool, Fail> {
+    let mut target = MemTarget::new(alloc, 0, 1);
+    place_item(alloc, &mut target, id(ONES)?)?;
+    fail_twice(&mut target)?;
+    are_written(alloc, &mut target, &PLANNED_STEPS, &PLANNED_LINES)
+}
+
 #[test]
 fn a_target_fails_when_it_is_planned(rt: HostRuntime) -> Result<(), Fail> {
-    let mut target = MemTarget::new(rt.alloc(), 0, 1);
-    place_item(rt.alloc(), &mut target, id(ONES)?)?;
-    fail_twice(&mut target)?;
-    let steps = [
-        (Step::Delete, 0),
-        (Step::List, 1),
-        (Step::Delete, 1),
-        (Step::Get, 3),
-    ];
-    let lines = [
-        "delete 11111111111111111111111111111111.md: failed",
-        "list /: listed at 1, 11111111111111111111111111111111.md of 5",
-        "delete 11111111111111111111111111111111.md: failed",
-        "get 11111111111111111111111111111111.md: absent at 3",
-    ];
-    assert!(rt; are_written(rt.alloc(), &mut target, &steps, &lines)?);
+    assert!(rt; fails_as_planned(rt.alloc())?);
     Ok(())
 }
 
@@ -185,18 +198,23 @@ fn round_trip<T: Target>(
     Ok(got)
 }
 
+const BLOB_LINES: [&str; 2] = [
+    "put .resource/11111111111111111111111111111111, 3 bytes: done at 253402300799999",
+    "get .resource/11111111111111111111111111111111: got blob of 3 bytes at 253402300799999",
+];
+
+/// Whether a blob that was put comes back, over whatever target, and both calls are written down.
+fn comes_back<T: Target>(alloc: Global, target: &mut T) -> Result<bool, Fail> {
+    let mut diary = Diary::new(alloc);
+    let got = round_trip(alloc, target, &mut diary, id(ONES)?)?;
+    Ok(got.as_slice() == b"xyz".as_slice() && are(alloc, diary.events(), &BLOB_LINES)?)
+}
+
 #[test]
 fn a_blob_comes_back(rt: HostRuntime) -> Result<(), Fail> {
     let alloc = rt.alloc();
     let mut target: Box<dyn Target> = Box::new(alloc, MemTarget::new(alloc, u64::MAX, 1))?;
-    let mut diary = Diary::new(alloc);
-    let got = round_trip(alloc, &mut target, &mut diary, id(ONES)?)?;
-    assert_eq!(rt; got.as_slice(), b"xyz".as_slice());
-    let lines = [
-        "put .resource/11111111111111111111111111111111, 3 bytes: done at 253402300799999",
-        "get .resource/11111111111111111111111111111111: got blob of 3 bytes at 253402300799999",
-    ];
-    assert!(rt; are(alloc, diary.events(), &lines)?);
+    assert!(rt; comes_back(alloc, &mut target)?);
     Ok(())
 }
 
@@ -321,13 +339,21 @@ const ASKED: [Asked; 5] = [
     },
 ];
 
+/// The first answer that a store of one item gives otherwise, or that the store isn't empty then.
+fn first_other_of_one(alloc: Global, id: Id) -> Result<&'static str, AllocError> {
+    let mut store = MemStore::new(alloc);
+    store.place(Path::Item(id), bytes_of(alloc, b"ab")?, 9)?;
+    let other = first_other(alloc, &mut store, id, &ASKED)?;
+    Ok(if store.tree().files.is_empty() {
+        other
+    } else {
+        "not empty"
+    })
+}
+
 #[test]
 fn a_store_answers_at_any_moment(rt: HostRuntime) -> Result<(), Fail> {
-    let mut store = MemStore::new(rt.alloc());
-    let id = id(ONES)?;
-    store.place(Path::Item(id), bytes_of(rt.alloc(), b"ab")?, 9)?;
-    assert_eq!(rt; first_other(rt.alloc(), &mut store, id, &ASKED)?, "");
-    assert!(rt; store.tree().files.is_empty());
+    assert_eq!(rt; first_other_of_one(rt.alloc(), id(ONES)?)?, "");
     Ok(())
 }
 

@@ -5,13 +5,25 @@ use local_store::{Changes, Keeper, MemKeeper};
 use std::alloc::{AllocError, Global};
 
 /// A client with all that is outside it. The sinks have what the last command wrote.
-#[derive(Drop)]
 pub(crate) struct Client<K: Keeper> {
     pub keeper: K,
     pub clock: MemClock,
     pub entropy: MemEntropy,
     pub out: MemSink,
     pub err: MemSink,
+}
+
+// Written out, so that what lets go of a client calls this. A derived one is written out at each end.
+impl<K: Keeper> Drop for Client<K> {
+    fn drop(self) {
+        let Client {
+            keeper: _,
+            clock: _,
+            entropy: _,
+            out: _,
+            err: _,
+        } = self;
+    }
 }
 
 /// The bytes 0 to 255, so that the first id is 000102030405060708090a0b0c0d0e0f.

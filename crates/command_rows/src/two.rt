@@ -7,11 +7,21 @@ use std::alloc::{AllocError, Global};
 use std::test::Fail;
 
 /// Two clients and their target.
-#[derive(Drop)]
 struct Two {
     one: Client<MemKeeper>,
     two: Client<MemKeeper>,
     target: MemTarget,
+}
+
+// Written out, as that of a client is.
+impl Drop for Two {
+    fn drop(self) {
+        let Two {
+            one: _,
+            two: _,
+            target: _,
+        } = self;
+    }
 }
 
 /// A line a command: whose it is, and what is to become of it. The first client's first 16 random bytes

@@ -17,11 +17,21 @@ const YIELDED: Standing = Standing {
 };
 
 /// Two clients of one target.
-#[derive(Drop)]
 struct Pair {
     one: Client,
     two: Client,
     target: MemTarget,
+}
+
+// Written out, so that each end of its owners calls this: a derived one is written out at each end.
+impl Drop for Pair {
+    fn drop(self) {
+        let Pair {
+            one: _,
+            two: _,
+            target: _,
+        } = self;
+    }
 }
 
 /// Both have read a note and edited it, each otherwise.

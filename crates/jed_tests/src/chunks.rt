@@ -2,8 +2,11 @@ use jed_format::{JedErr, read_chunk, write_chunk};
 use std::alloc::Global;
 use std::test::*;
 
-const GOOD: &str =
-    "{\"iv\":\"AAAAAAAAAAAAAAAAAAAAAA==\",\"v\":1,\"iter\":101,\"ks\":128,\"ts\":64,\"mode\":\"ccm\",\"adata\":\"\",\"cipher\":\"aes\",\"salt\":\"AAAAAAAAAAA=\",\"ct\":\"AAAAAAAAAAA=\"}";
+const GOOD: &str = concat!(
+    "{\"iv\":\"AAAAAAAAAAAAAAAAAAAAAA==\",\"v\":1,\"iter\":101,\"ks\":128,\"ts\":64,",
+    "\"mode\":\"ccm\",\"adata\":\"\",\"cipher\":\"aes\",\"salt\":\"AAAAAAAAAAA=\",",
+    "\"ct\":\"AAAAAAAAAAA=\"}"
+);
 
 /// The good text with one part of it replaced.
 fn with(alloc: Global, part: &str, other: &str) -> Result<String, Fail> {
@@ -25,21 +28,24 @@ fn what_is_written_is_read_back(rt: HostRuntime) -> Result<(), Fail> {
     Ok(())
 }
 
+/// Parts of the good text, and others that stand for a chunk as well.
+const OTHER_FORMS: [(&str, &str); 11] = [
+    ("\"iter\":101", "\"iter\":1"),
+    ("\"iter\":101", "\"iter\":100000"),
+    ("\"ks\":128", "\"ks\":192"),
+    ("\"ks\":128", " \"ks\" : 256 "),
+    ("\"v\":1", "\"v\":2,\"v\":1"),
+    ("\"v\":1", "\"w\":[{}]"),
+    ("\"adata\":\"\",\"cipher\":\"aes\",", ""),
+    ("AAAAAAAAAAAAAAAAAAAAAA==", "AAAAAAAAAAAAAAAAAAAAAA"),
+    ("AAAAAAAAAAAAAAAAAAAAAA==", "AAAAAAAAAA=="),
+    ("\"salt\":\"AAAAAAAAAAA=\"", "\"salt\":\"\""),
+    ("\"salt\":\"AAAAAAAAAAA=\"", "\"s\\u0061lt\":\"A\\u0041A=\""),
+];
+
 #[test]
 fn members_may_be_in_other_forms(rt: HostRuntime) -> Result<(), Fail> {
-    for (part, other) in [
-        ("\"iter\":101", "\"iter\":1"),
-        ("\"iter\":101", "\"iter\":100000"),
-        ("\"ks\":128", "\"ks\":192"),
-        ("\"ks\":128", " \"ks\" : 256 "),
-        ("\"v\":1", "\"v\":2,\"v\":1"),
-        ("\"v\":1", "\"w\":[{}]"),
-        ("\"adata\":\"\",\"cipher\":\"aes\",", ""),
-        ("AAAAAAAAAAAAAAAAAAAAAA==", "AAAAAAAAAAAAAAAAAAAAAA"),
-        ("AAAAAAAAAAAAAAAAAAAAAA==", "AAAAAAAAAA=="),
-        ("\"salt\":\"AAAAAAAAAAA=\"", "\"salt\":\"\""),
-        ("\"salt\":\"AAAAAAAAAAA=\"", "\"s\\u0061lt\":\"A\\u0041A=\""),
-    ] {
+    for (part, other) in OTHER_FORMS {
         assert_eq!(rt; refusal(rt.alloc(), part, other)?, None, "{other}");
     }
     Ok(())
@@ -54,37 +60,40 @@ fn another_mode_is_told_apart(rt: HostRuntime) -> Result<(), Fail> {
     Ok(())
 }
 
+/// Parts of the good text, and others that make it no chunk.
+const NO_CHUNKS: [(&str, &str); 27] = [
+    ("\"ccm\"", "1"),
+    ("\"mode\":\"ccm\",", ""),
+    ("\"iter\":101", "\"iter\":0"),
+    ("\"iter\":101", "\"iter\":100001"),
+    ("\"iter\":101", "\"iter\":101.0"),
+    ("\"iter\":101", "\"iter\":-101"),
+    ("\"iter\":101", "\"iter\":18446744073709551617"),
+    ("\"ks\":128", "\"ks\":129"),
+    ("\"ks\":128", "\"ks\":\"128\""),
+    ("\"ts\":64", "\"ts\":65"),
+    ("\"ts\":64", "\"ts\":96"),
+    ("\"v\":1", "\"v\":2"),
+    ("\"v\":1", "\"v\":1.0"),
+    ("\"v\":1", "\"v\":null"),
+    ("\"aes\"", "\"AES\""),
+    ("\"adata\":\"\"", "\"adata\":\"x\""),
+    ("AAAAAAAAAAAAAAAAAAAAAA==", "AAAAAAAAAAAAAAAAAAAAAA="),
+    ("AAAAAAAAAAAAAAAAAAAAAA==", "AAAAAAAAAAAAAAAAAAAAAB=="),
+    ("AAAAAAAAAAAAAAAAAAAAAA==", "AAAAAAAAAAA\\nAAAAAAAAAAA=="),
+    ("AAAAAAAAAAAAAAAAAAAAAA==", "AAAAAAAA"),
+    ("AAAAAAAAAAAAAAAAAAAAAA==", "AAAAAAAAA-AAAAAAAAAAAA=="),
+    ("AAAAAAAAAAAAAAAAAAAAAA==", "\\ud800"),
+    ("\"ct\":\"AAAAAAAAAAA=\"", "\"ct\":\"AAAAAAAAAA==\""),
+    ("\"ct\":\"AAAAAAAAAAA=\"", "\"ct\":[]"),
+    ("}", ""),
+    ("}", "}}"),
+    ("{", "[{"),
+];
+
 #[test]
 fn what_is_no_chunk_is_refused(rt: HostRuntime) -> Result<(), Fail> {
-    for (part, other) in [
-        ("\"ccm\"", "1"),
-        ("\"mode\":\"ccm\",", ""),
-        ("\"iter\":101", "\"iter\":0"),
-        ("\"iter\":101", "\"iter\":100001"),
-        ("\"iter\":101", "\"iter\":101.0"),
-        ("\"iter\":101", "\"iter\":-101"),
-        ("\"iter\":101", "\"iter\":18446744073709551617"),
-        ("\"ks\":128", "\"ks\":129"),
-        ("\"ks\":128", "\"ks\":\"128\""),
-        ("\"ts\":64", "\"ts\":65"),
-        ("\"ts\":64", "\"ts\":96"),
-        ("\"v\":1", "\"v\":2"),
-        ("\"v\":1", "\"v\":1.0"),
-        ("\"v\":1", "\"v\":null"),
-        ("\"aes\"", "\"AES\""),
-        ("\"adata\":\"\"", "\"adata\":\"x\""),
-        ("AAAAAAAAAAAAAAAAAAAAAA==", "AAAAAAAAAAAAAAAAAAAAAA="),
-        ("AAAAAAAAAAAAAAAAAAAAAA==", "AAAAAAAAAAAAAAAAAAAAAB=="),
-        ("AAAAAAAAAAAAAAAAAAAAAA==", "AAAAAAAAAAA\\nAAAAAAAAAAA=="),
-        ("AAAAAAAAAAAAAAAAAAAAAA==", "AAAAAAAA"),
-        ("AAAAAAAAAAAAAAAAAAAAAA==", "AAAAAAAAA-AAAAAAAAAAAA=="),
-        ("AAAAAAAAAAAAAAAAAAAAAA==", "\\ud800"),
-        ("\"ct\":\"AAAAAAAAAAA=\"", "\"ct\":\"AAAAAAAAAA==\""),
-        ("\"ct\":\"AAAAAAAAAAA=\"", "\"ct\":[]"),
-        ("}", ""),
-        ("}", "}}"),
-        ("{", "[{"),
-    ] {
+    for (part, other) in NO_CHUNKS {
         let refused = refusal(rt.alloc(), part, other)?;
         assert_eq!(rt; refused, Some(JedErr::BadChunk { n: 3 }), "{other}");
     }

@@ -35,67 +35,71 @@ fn a_header_that_is_cut_is_refused_at_its_field(rt: HostRuntime) -> Result<(), F
     Ok(())
 }
 
+const WRONG_FIELDS: [(&[u8], JedErr); 10] = [
+    (b"JED02", JedErr::NotJed { at: 0 }),
+    (
+        b"jed010000220511111111111111111111111111111111",
+        JedErr::NotJed { at: 0 },
+    ),
+    (
+        b"JED010000340511111111111111111111111111111111",
+        JedErr::NotJed { at: 5 },
+    ),
+    (
+        b"JED01-000220511111111111111111111111111111111",
+        JedErr::NotJed { at: 5 },
+    ),
+    (
+        b"JED01000022g511111111111111111111111111111111",
+        JedErr::NotJed { at: 11 },
+    ),
+    (
+        b"JED01000022051111111111111111111111111111111A",
+        JedErr::NotJed { at: 13 },
+    ),
+    (
+        b"JED010000220611111111111111111111111111111111",
+        JedErr::UnsupportedMethod(6),
+    ),
+    (
+        b"JED010000220011111111111111111111111111111111",
+        JedErr::UnsupportedMethod(0),
+    ),
+    (
+        b"JED0100002208111111111111111111111111111111110",
+        JedErr::UnsupportedMethod(8),
+    ),
+    (
+        b"JED01000022fF11111111111111111111111111111111",
+        JedErr::UnsupportedMethod(255),
+    ),
+];
+
 #[test]
 fn the_first_wrong_field_is_told(rt: HostRuntime) -> Result<(), Fail> {
-    for (text, want) in [
-        (b"JED02".as_slice(), JedErr::NotJed { at: 0 }),
-        (
-            b"jed010000220511111111111111111111111111111111",
-            JedErr::NotJed { at: 0 },
-        ),
-        (
-            b"JED010000340511111111111111111111111111111111",
-            JedErr::NotJed { at: 5 },
-        ),
-        (
-            b"JED01-000220511111111111111111111111111111111",
-            JedErr::NotJed { at: 5 },
-        ),
-        (
-            b"JED01000022g511111111111111111111111111111111",
-            JedErr::NotJed { at: 11 },
-        ),
-        (
-            b"JED01000022051111111111111111111111111111111A",
-            JedErr::NotJed { at: 13 },
-        ),
-        (
-            b"JED010000220611111111111111111111111111111111",
-            JedErr::UnsupportedMethod(6),
-        ),
-        (
-            b"JED010000220011111111111111111111111111111111",
-            JedErr::UnsupportedMethod(0),
-        ),
-        (
-            b"JED0100002208111111111111111111111111111111110",
-            JedErr::UnsupportedMethod(8),
-        ),
-        (
-            b"JED01000022fF11111111111111111111111111111111",
-            JedErr::UnsupportedMethod(255),
-        ),
-    ] {
+    for (text, want) in WRONG_FIELDS {
         assert_eq!(rt; read_jed(rt.alloc(), text).err(), Some(want));
     }
     Ok(())
 }
 
+const LYING_LENGTHS: [&[u8]; 11] = [
+    b"0",
+    b"00000",
+    b"000000",
+    b"000001",
+    b"000002{}",
+    b"000003{}",
+    b"ffffff",
+    b"FFFFFF{}",
+    b"00000g{}",
+    b"+00002{}",
+    b"0x0002{}",
+];
+
 #[test]
 fn lengths_that_lie_are_refused(rt: HostRuntime) -> Result<(), Fail> {
-    for body in [
-        b"0".as_slice(),
-        b"00000",
-        b"000000",
-        b"000001",
-        b"000002{}",
-        b"000003{}",
-        b"ffffff",
-        b"FFFFFF{}",
-        b"00000g{}",
-        b"+00002{}",
-        b"0x0002{}",
-    ] {
+    for body in LYING_LENGTHS {
         assert_eq!(rt; refusal(rt.alloc(), body)?, Some(JedErr::BadChunk { n: 1 }));
     }
     Ok(())
@@ -111,19 +115,21 @@ fn many_empty_chunks_are_refused_at_the_first(rt: HostRuntime) -> Result<(), Fai
     Ok(())
 }
 
+const NESTED: [&[u8]; 9] = [
+    b"[",
+    b"{\"iv\":",
+    b"{\"iv\":\"",
+    b"[1e400,",
+    b"\"",
+    b"\\",
+    b"9",
+    b" ",
+    b"\xff",
+];
+
 #[test]
 fn nested_and_huge_objects_are_refused(rt: HostRuntime) -> Result<(), Fail> {
-    for letters in [
-        b"[".as_slice(),
-        b"{\"iv\":",
-        b"{\"iv\":\"",
-        b"[1e400,",
-        b"\"",
-        b"\\",
-        b"9",
-        b" ",
-        b"\xff",
-    ] {
+    for letters in NESTED {
         let text = repeated(rt.alloc(), letters, 500_000)?;
         let refused = read_chunk(rt.alloc(), &text, 7).err();
         assert_eq!(rt; refused, Some(JedErr::BadChunk { n: 7 }));

@@ -112,6 +112,14 @@ fn a_text_without_chunks_opens_to_nothing(rt: HostRuntime) -> Result<(), Fail> {
     Ok(())
 }
 
+const BAD_PIECES: [[&[u8]; 2]; 5] = [
+    [b"QQ==", b"Q"],
+    [b"QQ==", b"QQ==Qg=="],
+    [b"QQ==", b"Q%u0151"],
+    [b"QQ==", b"QQ\n=="],
+    [b"QQ==", b"\xff"],
+];
+
 #[test]
 fn each_piece_of_a_blob_is_base64_by_itself(rt: HostRuntime) -> Result<(), Fail> {
     let alloc = rt.alloc();
@@ -121,13 +129,7 @@ fn each_piece_of_a_blob_is_base64_by_itself(rt: HostRuntime) -> Result<(), Fail>
         open_blob(alloc, &jed, b"password")?.as_slice(),
         b"AB".as_slice()
     );
-    for pieces in [
-        [b"QQ==".as_slice(), b"Q"],
-        [b"QQ==", b"QQ==Qg=="],
-        [b"QQ==", b"Q%u0151"],
-        [b"QQ==", b"QQ\n=="],
-        [b"QQ==", b"\xff"],
-    ] {
+    for pieces in BAD_PIECES {
         let bytes = written(alloc, &sealed(alloc, 5, &pieces)?)?;
         let jed = read_jed(alloc, &bytes)?;
         let refused = open_blob(alloc, &jed, b"password").err();
@@ -158,17 +160,19 @@ fn units_are_joined_before_they_are_read(rt: HostRuntime) -> Result<(), Fail> {
     Ok(())
 }
 
+const METHODS: [(u8, &str); 6] = [
+    (b'1', "%41"),
+    (b'2', "%41"),
+    (b'3', "%41"),
+    (b'4', "%41"),
+    (b'5', "A"),
+    (b'7', "A"),
+];
+
 #[test]
 fn pieces_of_other_methods_are_not_escaped(rt: HostRuntime) -> Result<(), Fail> {
     let alloc = rt.alloc();
-    for (method, want) in [
-        (b'1', "%41"),
-        (b'2', "%41"),
-        (b'3', "%41"),
-        (b'4', "%41"),
-        (b'5', "A"),
-        (b'7', "A"),
-    ] {
+    for (method, want) in METHODS {
         let mut bytes = written(alloc, &sealed(alloc, 5, &[b"%41"])?)?;
         if let Some(digit) = bytes.get_mut(12) {
             *digit = method;

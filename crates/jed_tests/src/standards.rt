@@ -90,22 +90,24 @@ fn texts_are_sealed_as_in_the_standard(rt: HostRuntime) -> Result<(), Fail> {
     Ok(())
 }
 
+const PARAMETERS: [(usize, usize, usize, usize, bool); 10] = [
+    (6, 0, 0, 4, false),
+    (7, 0, 0, 4, true),
+    (13, 65_279, 65_535, 16, true),
+    (13, 65_280, 0, 16, false),
+    (13, 0, 65_536, 16, false),
+    (12, 0, 65_536, 16, true),
+    (14, 0, 0, 16, false),
+    (12, 0, 0, 2, false),
+    (12, 0, 0, 5, false),
+    (12, 0, 0, 18, false),
+];
+
 #[test]
 fn parameters_end_where_the_standard_says(rt: HostRuntime) -> Result<(), Fail> {
     let aes = Aes::new(&[0; 16]).ok_or("a key")?;
     let bytes = vec![in rt.alloc(); 0u8; 65_536]?;
-    for (nonce_len, adata_len, text_len, tag_len, good) in [
-        (6, 0, 0, 4, false),
-        (7, 0, 0, 4, true),
-        (13, 65_279, 65_535, 16, true),
-        (13, 65_280, 0, 16, false),
-        (13, 0, 65_536, 16, false),
-        (12, 0, 65_536, 16, true),
-        (14, 0, 0, 16, false),
-        (12, 0, 0, 2, false),
-        (12, 0, 0, 5, false),
-        (12, 0, 0, 18, false),
-    ] {
+    for (nonce_len, adata_len, text_len, tag_len, good) in PARAMETERS {
         let mut text = vec![in rt.alloc(); 0u8; text_len]?;
         let sealed = ccm_seal(
             &aes,

@@ -1,5 +1,5 @@
 ghost use Rattle.std.specs.Prelude.{◌≡◌, None, Some, IfOk, option_map};
-ghost use Rattle.jop_cli.specs.Commands.{command_of, profile_at, profile_words};
+ghost use Rattle.jop_cli.specs.Commands.{command_of, profile_at, profile_in, profile_words};
 ghost use Rattle.jop_cli.specs.Commands.Local.{local_words};
 ghost use Rattle.jop_cli.specs.declared.command.Verb.TheVariants as verbs;
 ghost use Rattle.jop_cli.specs.Commands.{target_in, target_words, uses, verb_of, with_profile};
@@ -16,6 +16,7 @@ use crate::target_name::TargetName;
 use crate::words::Words;
 use jop_base::{ClientId, Copied, Text};
 use local_commands::LocalCommand;
+use local_store::let_go;
 use std::alloc::{AllocError, Global};
 
 /// What the words on the command line mean.
@@ -169,10 +170,22 @@ pub fn profile_words(alloc: Global, words: &Words) -> Result<Profile, AllocError
     ensures { IfOk result (λ profile. profile ≡ profile_words words.now.list) }
 {
     match read_words(alloc, words) {
-        Ok(command) if uses_tables(&command.verb) => profile_at(alloc, command.profile),
-        Ok(_) => Ok(Profile::Memory),
+        Ok(command) => profile_of(alloc, command),
         Err(WordsErr::Usage) => Ok(Profile::Memory),
         Err(WordsErr::NoMemory) => Err(AllocError),
+    }
+}
+
+fn profile_of(alloc: Global, command: Command) -> Result<Profile, AllocError>
+    ensures { IfOk result (λ profile. profile ≡ profile_in (Some command)) }
+{
+    let Command { profile, verb } = command;
+    let used = uses_tables(&verb);
+    let_go(verb);
+    if used {
+        profile_at(alloc, profile)
+    } else {
+        Ok(Profile::Memory)
     }
 }
 

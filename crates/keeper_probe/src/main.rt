@@ -1,9 +1,9 @@
 //! `keeper_probe`, for `bench/keeper`: how long a keeper in a file takes.
 //!
-//! - `keeper_probe notes FILE COUNT` saves so many notes of 1 KiB, a change each, and prints the microseconds that the
-//!   changes took.
-//! - `keeper_probe read FILE` prints the microseconds of opening a file, which is made if it isn't there, and of reading
-//!   its tables, and how many rows they have.
+//! - `keeper_probe notes FILE COUNT` saves so many notes of 1 KiB, a change each, and prints the
+//!   microseconds that the changes took.
+//! - `keeper_probe read FILE` prints the microseconds of opening a file, which is made if it isn't
+//!   there, and of reading its tables, and how many rows they have.
 #![tactic(auto)]
 
 mod notes;

@@ -1,30 +1,39 @@
 //! Opening the file.
 
 ghost use Rattle.std.specs.Prelude.{All, IfOk, ⊤};
+ghost use Rattle.local_store.specs.Sound.{IsSound};
 ghost use Rattle.record_keeper.specs.Writes.{IsSoundWrite};
 
 use crate::columns::number_at;
-use crate::database::{Database, Queries, begin, commit, run_all};
+use crate::database::{Database, Queries, Statements, begin, commit, run_all};
 use crate::statements::{COUNT_TABLES, TABLES};
 use crate::trouble::Trouble;
 use crate::work::{Work, done_on};
 use crate::writing::make_all;
-use jop_base::Seq;
+use jop_base::{Copied, Seq};
 use local_store::Tables;
 use record_keeper::Write;
 use sqlite::{Alter, Connection, Row};
 use std::alloc::{AllocError, Global};
+
+/// What the keys of a database hold that has these tables.
+fn key_writes(alloc: Global, tables: &Tables) -> Result<Seq<Write>, AllocError>
+    requires { IsSound tables.now }
+    ensures { IfOk result (λ writes. All IsSoundWrite writes) }
+{
+    let mut writes = Seq::new(alloc);
+    writes.push(Write::SetNext(tables.next_conflict))?;
+    writes.push(Write::SetContext(tables.context.copy(alloc)?))?;
+    writes.push(Write::SetInfo(tables.info.copy(alloc)?))?;
+    Ok(writes)
+}
 
 /// What the keys of a new database hold.
 fn first_writes(alloc: Global) -> Result<Seq<Write>, AllocError>
     ensures { IfOk result (λ writes. All IsSoundWrite writes) }
 {
     let tables = Tables::new(alloc);
-    let mut writes = Seq::new(alloc);
-    writes.push(Write::SetNext(tables.next_conflict))?;
-    writes.push(Write::SetContext(tables.context))?;
-    writes.push(Write::SetInfo(tables.info))?;
-    Ok(writes)
+    key_writes(alloc, &tables)
 }
 
 /// The first writes, if there are no keys yet.
@@ -35,6 +44,16 @@ fn missing_writes(alloc: Global, has_keys: bool) -> Result<Seq<Write>, AllocErro
         return Ok(Seq::new(alloc));
     }
     first_writes(alloc)
+}
+
+/// Makes the keys of a new database, if there are none yet.
+fn make_keys<D: Statements>(
+    alloc: Global,
+    together: &mut D,
+    has_keys: bool,
+) -> Result<(), Trouble> {
+    let missing = missing_writes(alloc, has_keys)?;
+    make_all(alloc, together, missing.as_slice())
 }
 
 fn counts(row: &Row) -> Result<(i64, bool), Trouble> {
@@ -65,10 +84,9 @@ impl Work for Missing {
         if count == 5 {
             return Ok(());
         }
-        let first = missing_writes(alloc, has_keys)?;
         let mut together = begin(database)?;
         run_all(&mut together, TABLES)?;
-        make_all(alloc, &mut together, first.as_slice())?;
+        make_keys(alloc, &mut together, has_keys)?;
         commit(together)
     }
 }

@@ -188,11 +188,21 @@ fn context(alloc: Global) -> Result<Context, AllocError> {
 }
 
 /// A keeper in memory, one over records in memory, and the file of a third.
-#[derive(Drop)]
 struct Keepers {
     memory: MemKeeper,
     records: RecordKeeper<MemRecords>,
     path: Text,
+}
+
+// Written out, so that each end of its owners calls this: a derived one is written out at each end.
+impl Drop for Keepers {
+    fn drop(self) {
+        let Keepers {
+            memory: _,
+            records: _,
+            path: _,
+        } = self;
+    }
 }
 
 impl Keepers {

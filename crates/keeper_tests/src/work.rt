@@ -5,11 +5,21 @@ use jop_base::Text;
 use record_keeper::MemRecords;
 
 /// Records in memory and in a file, to which the same is drawn.
-#[derive(Drop)]
 pub(crate) struct Work {
     pub source: Source,
     pub memory: MemRecords,
     pub path: Text,
+}
+
+// Written out, so that each end of its owners calls this: a derived one is written out at each end.
+impl Drop for Work {
+    fn drop(self) {
+        let Work {
+            source: _,
+            memory: _,
+            path: _,
+        } = self;
+    }
 }
 
 impl Work {

@@ -19,7 +19,9 @@ use Rattle.kept.specs.Own.{Row, Own, base_of, new_own, own_after}
 use Rattle.kept.specs.Standing.{Copy, Standing, Desk, World, noted, noted_if, without_number, stands_after, desk_after, opening_world, happened, world_from, world_at, world_end}
 use Rattle.kept.proofs.Clients.{same_or_not, some_same}
 use Rattle.kept.proofs.Gaps.{no_gap_at}
-use Rattle.kept.proofs.Holding.{Turn, FileFate, Stands, WentOver, Went, RowStandsFor, CheckHolds, IsReadable, Invariant, fate_next, GotItem, got_item, invariant_next}
+use Rattle.kept.proofs.FileFates.{Turn, FileFate, Stands, WentOver, Went, RowStandsFor, CheckHolds, IsReadable, Invariant, fate_next}
+use Rattle.kept.proofs.RowFates.{GotItem, got_item}
+use Rattle.kept.proofs.Holding.{invariant_next}
 use Rattle.kept.proofs.Places.{world_next, take_past, own_run, obeys_at, honest_at}
 
 -- ---- the words

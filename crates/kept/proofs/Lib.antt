@@ -2,6 +2,8 @@ pub mod Accounts
 pub mod Clients
 pub mod Crossings
 pub mod Gaps
+pub mod FileFates
+pub mod RowFates
 pub mod Holding
 pub mod Losses
 pub mod Obeying

@@ -65,7 +65,9 @@ its_text : IsIdText it
 its_text = record { long = refl; digits = AllPass-from_list_all is_digit it refl }
 
 pub told_fair : IsFairFor it a_told_conflict
-unfolding refused_from puts_uncrossed steps_from at put cut item_in is_utf8 chars encode first_fault lines_fault block_fault colon_fault type_fault block above_block item_of pair_of written joined lines has_text trimmed value_of is_type_value
+unfolding refused_from puts_uncrossed steps_from at put cut item_in is_utf8 chars encode first_fault
+    lines_fault block_fault colon_fault type_fault block above_block item_of pair_of written joined
+    lines has_text trimmed value_of is_type_value
 told_fair = record {
   honest = told_honest;
   text = its_text;

@@ -11,7 +11,8 @@ use Rattle.kept.proofs.TaleFiles.{fair}
 use Rattle.kept.specs.Standing.{opening_world}
 use Rattle.kept.specs.Telling.{bytes_at, version_of}
 use Rattle.kept_tables.proofs.Keeping.{fair_for}
-use Rattle.kept_tables.proofs.Standing.{FileIsTrue, IsTrue, true_from}
+use Rattle.kept_tables.proofs.TrueCalls.{FileIsTrue, IsTrue}
+use Rattle.kept_tables.proofs.Standing.{true_from}
 use Rattle.kept_tables.specs.Fair.{new_view, AllObeyData, view_of, IsServed}
 use Rattle.kept_tables.specs.Holding.{RowIsTrue, copies_of, copies_onto, tables_of, standing_of, HoldsAsTold, IsToldWell}
 

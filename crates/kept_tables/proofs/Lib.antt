@@ -6,6 +6,8 @@ pub mod Licensed
 pub mod Ordered
 pub mod Rows
 pub mod Seeing
+pub mod TrueCalls
+pub mod TrueChanges
 pub mod Standing
 pub mod Story
 pub mod Texts

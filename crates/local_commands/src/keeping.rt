@@ -5,7 +5,7 @@ ghost use Rattle.local_commands.specs.Keeping.{notes, notes_if, save_then};
 
 use jop_base::{Bytes, Copied, Id};
 use jop_target::Diary;
-use local_store::{Change, Changes, Keeper, KeeperErr, Tables};
+use local_store::{Change, Changes, Keeper, KeeperErr, Tables, let_go};
 use std::alloc::Global;
 
 /// The tables of a keeper.
@@ -86,7 +86,11 @@ pub(crate) fn save_resource<K: Keeper>(
         result
         (K.state keeper.new) (notes made.new.changes diary.new.events) }
 {
-    save_blob(alloc, keeper, id, bytes)?;
-    commit(alloc, keeper, diary, made, change)?;
-    Ok(())
+    match save_blob(alloc, keeper, id, bytes) {
+        Ok(()) => commit(alloc, keeper, diary, made, change),
+        Err(error) => {
+            let_go(change);
+            Err(error)
+        }
+    }
 }

@@ -1,6 +1,6 @@
 ghost use Rattle.std.specs.Prelude.{◌≡◌, OnOk, OnErr, not, nat_eq};
 ghost use Rattle.std.specs.List.{filter};
-ghost use Rattle.local_store.specs.Changing.{saved, removed, uploaded, taken, with_remote, noted, conflicted, opened, cleared};
+ghost use Rattle.local_store.specs.Changing.{saved, removed, uploaded, taken, with_remote, without_row, noted, conflicted, opened, cleared};
 ghost use Rattle.local_store.specs.Tables.{row_at, is_synced, is_resource};
 
 use crate::conflict_note::ConflictNote;
@@ -11,9 +11,10 @@ use crate::row::Row;
 use crate::tables::Tables;
 use item_kinds::Kind;
 use item_text::Item;
-use jop_base::{Bytes, Copied, Id, Seq};
+use jop_base::{Bytes, Context, Copied, Id, Seq};
 use std::alloc::{AllocError, Global};
 use std::mem;
+use sync_info::Info;
 
 /// Takes out each note of this number.
 fn clear(notes: &mut Vec<ConflictNote>, number: u64)
@@ -67,8 +68,15 @@ impl Tables {
             let resource = self.is_resource(id);
             self.deletions.put(Deletion { id: *id, resource })?;
         }
-        self.rows.cut(id);
+        self.gone(id);
         Ok(())
+    }
+
+    /// The row goes, if it is there.
+    pub(crate) fn gone(&mut self, id: &Id)
+        ensures { self.new ≡ without_row self.old id.now }
+    {
+        self.rows.cut(id);
     }
 
     pub(crate) fn uploaded(
@@ -129,7 +137,7 @@ impl Tables {
         match remote {
             Some((bytes, content)) => self.taken(alloc, id, bytes, content),
             None => {
-                self.rows.cut(id);
+                self.gone(id);
                 Ok(())
             }
         }
@@ -208,6 +216,22 @@ impl Tables {
             base,
             pending,
         })?;
+        Ok(())
+    }
+
+    pub(crate) fn informed(&mut self, alloc: Global, info: &Info) -> Result<(), AllocError>
+        ensures ok { OnOk result (self.new ≡ record self.old { info = info.now }) }
+        ensures err { OnErr result (self.new ≡ self.old) }
+    {
+        self.info = info.copy(alloc)?;
+        Ok(())
+    }
+
+    pub(crate) fn listed(&mut self, alloc: Global, context: &Context) -> Result<(), AllocError>
+        ensures ok { OnOk result (self.new ≡ record self.old { context = context.now }) }
+        ensures err { OnErr result (self.new ≡ self.old) }
+    {
+        self.context = context.copy(alloc)?;
         Ok(())
     }
 

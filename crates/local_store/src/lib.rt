@@ -16,6 +16,7 @@ mod keeper;
 mod keeper_err;
 mod kinds;
 mod laws;
+mod letting_go;
 mod mem_keeper;
 mod order;
 mod row;
@@ -35,6 +36,7 @@ pub use laws::{
     allowed_changes_keep_sound, runs_make_their_changes, told_tables_are_sound,
     told_tables_follow_changes,
 };
+pub use letting_go::let_go;
 pub use mem_keeper::MemKeeper;
 pub use row::Row;
 pub use table::Table;

@@ -90,7 +90,7 @@ impl Tables {
             Change::Conflict(id, remote, copies) => self.conflict(alloc, id, remote, *copies),
             Change::Moved(id) => self.conflict(alloc, id, &None, true),
             Change::Gone(id) => {
-                self.rows.cut(id);
+                self.gone(id);
                 Ok(())
             }
             Change::Opened(id, item) => self.opened(alloc, id, item),
@@ -98,14 +98,8 @@ impl Tables {
                 self.cleared(alloc, *number);
                 Ok(())
             }
-            Change::InfoIs(info) => {
-                self.info = info.copy(alloc)?;
-                Ok(())
-            }
-            Change::ContextIs(context) => {
-                self.context = context.copy(alloc)?;
-                Ok(())
-            }
+            Change::InfoIs(info) => self.informed(alloc, info),
+            Change::ContextIs(context) => self.listed(alloc, context),
         }
     }
 }

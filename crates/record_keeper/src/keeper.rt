@@ -6,7 +6,7 @@ ghost use Rattle.record_keeper.specs.Stores.{IsSoundRowFor, IsRowFor, IsNumberFo
 use crate::making::{needs_number, row_needed, writes_of};
 use crate::record_store::RecordStore;
 use jop_base::{Bytes, Id};
-use local_store::{Change, Keeper, KeeperErr, Row, Tables};
+use local_store::{Change, Keeper, KeeperErr, Row, Tables, let_go};
 use std::alloc::Global;
 
 /// A keeper over a store of records. What it keeps, and how often it has failed, are the store's. A change is one
@@ -64,9 +64,11 @@ impl<S: RecordStore> Keeper for RecordKeeper<S> {
 
     #[tactic(auto, using(crate::proofs::Made::writes_are_sound, crate::proofs::Made::kept_is_changed))]
     fn commit(&mut self, alloc: Global, change: &Change) -> Result<(), KeeperErr> {
-        let row = self.row_for(alloc, change)?;
         let number = self.number_for(alloc, change)?;
-        let writes = writes_of(alloc, change, row, number)?;
+        let row = self.row_for(alloc, change)?;
+        let made = writes_of(alloc, change, &row, number);
+        let_go(row);
+        let writes = made?;
         self.store.write(alloc, &writes)?;
         Ok(())
     }

@@ -1,6 +1,6 @@
 //! The writes that make a change.
 
-ghost use Rattle.std.specs.Prelude.{◌≡◌, ◌≢◌, ◌++◌, ◌∷◌, [], ℕ, All, Option, IfOk, OnOk, None, true};
+ghost use Rattle.std.specs.Prelude.{◌≡◌, ◌≢◌, ◌++◌, ◌∷◌, [], ℕ, All, Option, IfOk, OnOk, None, Some, true};
 ghost use Rattle.local_store.specs.declared.row.Row.{Row};
 ghost use Rattle.item_text.specs.Valid.{IsItem};
 ghost use Rattle.local_store.specs.Rows.{item_of};
@@ -44,19 +44,13 @@ pub(crate) fn needs_number(change: &Change) -> bool
     }
 }
 
-fn base_of(row: Option<Row>) -> Option<Bytes>
-    ensures { result ≡ base_of row }
+fn base_of(alloc: Global, row: &Option<Row>) -> Result<Option<Bytes>, AllocError>
+    ensures { IfOk result (λ base. base ≡ base_of row.now) }
 {
     match row {
-        Some(row) => row.base,
-        None => None,
+        Some(row) => row.base.copy(alloc),
+        None => Ok(None),
     }
-}
-
-fn content_of(row: Row) -> Content
-    ensures { result ≡ row.content }
-{
-    row.content
 }
 
 fn is_synced(row: &Option<Row>) -> bool
@@ -83,19 +77,19 @@ fn add_saved(
     alloc: Global,
     id: &Id,
     item: &Item,
-    row: Option<Row>,
+    row: &Option<Row>,
 ) -> Result<(), AllocError>
     ensures { OnOk result
-        (writes.new ≡ writes.old ++ Write.SetRow (saved_row id.now item.now row) ∷ []) }
+        (writes.new ≡ writes.old ++ Write.SetRow (saved_row id.now item.now row.now) ∷ []) }
 {
+    let base = base_of(alloc, row)?;
     let content = Content::Plain(item.copy(alloc)?);
     writes.push(Write::SetRow(Row {
         id: *id,
         content,
-        base: base_of(row),
+        base,
         pending: true,
-    }))?;
-    Ok(())
+    }))
 }
 
 /// Puts a row as it is with its file.
@@ -103,20 +97,20 @@ fn add_synced(
     writes: &mut Seq<Write>,
     alloc: Global,
     id: &Id,
-    content: Content,
+    content: &Content,
     bytes: &Bytes,
 ) -> Result<(), AllocError>
     ensures { OnOk result
-        (writes.new ≡ writes.old ++ Write.SetRow (synced_row id.now content bytes.now) ∷ []) }
+        (writes.new ≡ writes.old ++ Write.SetRow (synced_row id.now content.now bytes.now) ∷ []) }
 {
+    let content = content.copy(alloc)?;
     let base = Some(bytes.copy(alloc)?);
     writes.push(Write::SetRow(Row {
         id: *id,
         content,
         base,
         pending: false,
-    }))?;
-    Ok(())
+    }))
 }
 
 /// Takes a row out, which joins the deletions if it was synced.
@@ -137,15 +131,14 @@ fn add_upload(
     alloc: Global,
     id: &Id,
     bytes: &Bytes,
-    row: Option<Row>,
+    row: &Option<Row>,
 ) -> Result<(), AllocError>
-    ensures { OnOk result (writes.new ≡ writes.old ++ upload_writes id.now bytes.now row) }
+    ensures { OnOk result (writes.new ≡ writes.old ++ upload_writes id.now bytes.now row.now) }
 {
     match row {
-        Some(row) => add_synced(writes, alloc, id, row.content, bytes)?,
-        None => {}
+        Some(row) => add_synced(writes, alloc, id, &row.content, bytes),
+        None => Ok(()),
     }
-    Ok(())
 }
 
 /// Puts a conflict note of this number.
@@ -167,21 +160,6 @@ fn add_note(
     Ok(())
 }
 
-/// Puts a row as it is with its file, whose content is copied.
-fn add_taken(
-    writes: &mut Seq<Write>,
-    alloc: Global,
-    id: &Id,
-    content: &Content,
-    bytes: &Bytes,
-) -> Result<(), AllocError>
-    ensures { OnOk result (writes.new
-        ≡ writes.old ++ Write.SetRow (synced_row id.now content.now bytes.now) ∷ []) }
-{
-    let content = content.copy(alloc)?;
-    add_synced(writes, alloc, id, content, bytes)
-}
-
 fn add_remote(
     writes: &mut Seq<Write>,
     alloc: Global,
@@ -191,7 +169,7 @@ fn add_remote(
     ensures { OnOk result (writes.new ≡ writes.old ++ remote_writes id.now remote.now) }
 {
     match remote {
-        Some((bytes, content)) => add_taken(writes, alloc, id, content, bytes),
+        Some((bytes, content)) => add_synced(writes, alloc, id, content, bytes),
         None => writes.push(Write::DropRow(*id)),
     }
 }
@@ -202,11 +180,11 @@ fn add_conflict(
     id: &Id,
     remote: &Option<(Bytes, Content)>,
     copies: bool,
-    row: Option<Row>,
+    row: &Option<Row>,
     number: u64,
 ) -> Result<(), AllocError>
     ensures { OnOk result (writes.new
-        ≡ writes.old ++ conflict_writes id.now remote.now copies row number) }
+        ≡ writes.old ++ conflict_writes id.now remote.now copies row.now number) }
 {
     if let Some(row) = row {
         if copies {
@@ -222,13 +200,35 @@ fn add_moved(
     writes: &mut Seq<Write>,
     alloc: Global,
     id: &Id,
-    row: Option<Row>,
+    row: &Option<Row>,
     number: u64,
 ) -> Result<(), AllocError>
-    ensures { OnOk result (writes.new ≡ writes.old ++ conflict_writes id.now None true row number) }
+    ensures { OnOk result (writes.new
+        ≡ writes.old ++ conflict_writes id.now None true row.now number) }
 {
     let remote = None;
     add_conflict(writes, alloc, id, &remote, true, row, number)
+}
+
+/// Puts a sealed row as it was opened.
+fn add_open_row(
+    writes: &mut Seq<Write>,
+    alloc: Global,
+    id: &Id,
+    item: &Item,
+    row: &Row,
+) -> Result<(), AllocError>
+    ensures { OnOk result (writes.new ≡ writes.old
+        ++ open_writes id.now item.now (Some row.now)) }
+{
+    let base = row.base.copy(alloc)?;
+    let content = Content::Plain(item.copy(alloc)?);
+    writes.push(Write::SetRow(Row {
+        id: *id,
+        content,
+        base,
+        pending: row.pending,
+    }))
 }
 
 fn add_opened(
@@ -236,20 +236,14 @@ fn add_opened(
     alloc: Global,
     id: &Id,
     item: &Item,
-    row: Option<Row>,
+    row: &Option<Row>,
 ) -> Result<(), AllocError>
-    ensures { OnOk result (writes.new ≡ writes.old ++ open_writes id.now item.now row) }
+    ensures { OnOk result (writes.new ≡ writes.old ++ open_writes id.now item.now row.now) }
 {
-    if let Some(row) = row {
-        let content = Content::Plain(item.copy(alloc)?);
-        writes.push(Write::SetRow(Row {
-            id: *id,
-            content,
-            base: row.base,
-            pending: row.pending,
-        }))?;
+    match row {
+        Some(row) => add_open_row(writes, alloc, id, item, row),
+        None => Ok(()),
     }
-    Ok(())
 }
 
 fn add_info(writes: &mut Seq<Write>, alloc: Global, info: &Info) -> Result<(), AllocError>
@@ -275,7 +269,7 @@ fn add_alone(writes: &mut Seq<Write>, alloc: Global, change: &Change) -> Result<
     match change {
         Change::Named(client) => writes.push(Write::SetClient(*client)),
         Change::Dropped(id) => writes.push(Write::DropDeletion(*id)),
-        Change::Taken(id, bytes, content) => add_taken(writes, alloc, id, content, bytes),
+        Change::Taken(id, bytes, content) => add_synced(writes, alloc, id, content, bytes),
         Change::Gone(id) => writes.push(Write::DropRow(*id)),
         Change::Cleared(number) => writes.push(Write::DropConflict(*number)),
         Change::InfoIs(info) => add_info(writes, alloc, info),
@@ -294,15 +288,15 @@ fn add_to_row(
     writes: &mut Seq<Write>,
     alloc: Global,
     change: &Change,
-    row: Option<Row>,
+    row: &Option<Row>,
     number: u64,
 ) -> Result<(), AllocError>
     requires { row_needed change.now ≢ None }
-    ensures { OnOk result (writes.new ≡ writes.old ++ writes_of change.now row number) }
+    ensures { OnOk result (writes.new ≡ writes.old ++ writes_of change.now row.now number) }
 {
     match change {
         Change::Saved(id, item) => add_saved(writes, alloc, id, item, row),
-        Change::Removed(id) => add_removal(writes, id, &row),
+        Change::Removed(id) => add_removal(writes, id, row),
         Change::Uploaded(id, bytes) => add_upload(writes, alloc, id, bytes, row),
         Change::Conflict(id, remote, copies) => {
             add_conflict(writes, alloc, id, remote, *copies, row, number)
@@ -323,10 +317,10 @@ fn add_to_row(
 pub(crate) fn writes_of(
     alloc: Global,
     change: &Change,
-    row: Option<Row>,
+    row: &Option<Row>,
     number: u64,
 ) -> Result<Seq<Write>, AllocError>
-    ensures { IfOk result (λ writes. writes ≡ writes_of change.now row number) }
+    ensures { IfOk result (λ writes. writes ≡ writes_of change.now row.now number) }
 {
     let mut writes = Seq::new(alloc);
     match row_needed(change) {

@@ -6,7 +6,7 @@ ghost use Rattle.std.specs.List.{list_all};
 
 use crate::write::Write;
 use jop_base::{Context, Copied, Id};
-use local_store::{Change, ConflictNote, KeeperErr, Row, Tables};
+use local_store::{Change, ConflictNote, KeeperErr, Row, Tables, let_go};
 use std::alloc::{AllocError, Global};
 use sync_info::Info;
 
@@ -71,7 +71,10 @@ fn add_conflict(tables: &mut Tables, alloc: Global, note: &ConflictNote) -> Resu
 fn drop_conflict(tables: &mut Tables, alloc: Global, number: u64) -> Result<(), AllocError>
     ensures { OnOk result (tables.new ≡ written tables.old (Write.DropConflict number)) }
 {
-    tables.apply(alloc, &Change::Cleared(number))
+    let change = Change::Cleared(number);
+    let cleared = tables.apply(alloc, &change);
+    let_go(change);
+    cleared
 }
 
 fn set_context(tables: &mut Tables, alloc: Global, context: &Context) -> Result<(), AllocError>

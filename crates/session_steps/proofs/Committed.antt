@@ -29,7 +29,7 @@ use Rattle.local_store.specs.Keepers.{KeeperNow, Kept, IsOfKept, changed}
 use Rattle.local_store.specs.Sound.{IsAllowed, IsSound}
 use Rattle.local_store.specs.declared.change.Change.{Change}
 use Rattle.local_store.specs.declared.tables.Tables.{Tables}
-use Rattle.session_steps.proofs.Asked.{kept-same, tables-same}
+use Rattle.session_steps.proofs.Leased.{kept-same, tables-same}
 use Rattle.session_steps.proofs.Agreeing.{agrees_made}
 use Rattle.session_steps.specs.Doing.{IsTold, KeeperFails, DoesTo, Stops, Went}
 use Rattle.session_steps.specs.Parts.{Any, Changes, but_locks}

@@ -20,7 +20,7 @@ use Rattle.licences.specs.Views.{Shown, Stage, view_from}
 use Rattle.local_store.specs.Changing.{after_all}
 use Rattle.session_steps.proofs.Joins.{client_is, does_then, told_on, went_on}
 use Rattle.session_steps.specs.Doing.{Does, DoesTo, Ends, EndsAt, GivesUp, HasLapsed, Stops, Went}
-use Rattle.session_steps.proofs.Asked.{kept-same}
+use Rattle.session_steps.proofs.Leased.{kept-same}
 use Rattle.session_steps.specs.Parts.{Nothing, Part, Then, but_locks}
 use Rattle.session_steps.specs.Reported.{reported}
 use Rattle.session_steps.specs.Saving.{Told, blobs_got}

@@ -5,6 +5,7 @@ pub mod LockDeeds
 pub mod NoFailed
 pub mod Saves
 pub mod Agreeing
+pub mod Leased
 pub mod Asked
 pub mod Committed
 pub mod Ending

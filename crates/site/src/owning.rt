@@ -22,7 +22,8 @@ pub fn own_client<K: Keeper, N: Entropy>(
         result
         (own (K.state keeper.new) (N.state entropy.new) diary.new.events made.new.changes) }
 {
-    match keeper.read(alloc)?.client {
+    let named = keeper.read(alloc)?.client;
+    match named {
         Some(client) => Ok(client),
         None => name_client(alloc, keeper, entropy, diary, made),
     }

@@ -22,20 +22,30 @@ fn is_made(alloc: Global, keeper: &mut MemKeeper, step: Step) -> Result<bool, St
     Ok(keeper.commit(alloc, &change) == Ok(()))
 }
 
+/// What is done with a notebook and a note, and how many rows, pending rows, deletions and conflict
+/// notes there are then.
+const WAY: [(Step, [usize; 4]); 6] = [
+    (Step::MakeBook, [1, 1, 0, 0]),
+    (Step::MakeNote, [2, 2, 0, 0]),
+    (Step::Upload, [2, 1, 0, 0]),
+    (Step::Edit, [2, 2, 0, 0]),
+    (Step::Remove, [1, 1, 1, 0]),
+    (Step::Drop, [1, 1, 0, 0]),
+];
+
+fn goes_its_way(alloc: Global, keeper: &mut MemKeeper) -> Result<bool, StoreErr> {
+    for (step, left) in WAY {
+        if !is_made(alloc, keeper, step)? || counts(keeper.tables()) != left {
+            return Ok(false);
+        }
+    }
+    Ok(true)
+}
+
 #[test]
 fn a_note_goes_its_way(rt: HostRuntime) -> Result<(), Fail> {
     let alloc = rt.alloc();
     let mut keeper = MemKeeper::new(alloc);
-    for (step, left) in [
-        (Step::MakeBook, [1, 1, 0, 0]),
-        (Step::MakeNote, [2, 2, 0, 0]),
-        (Step::Upload, [2, 1, 0, 0]),
-        (Step::Edit, [2, 2, 0, 0]),
-        (Step::Remove, [1, 1, 1, 0]),
-        (Step::Drop, [1, 1, 0, 0]),
-    ] {
-        assert!(rt; is_made(alloc, &mut keeper, step) == Ok(true));
-        assert!(rt; counts(keeper.tables()) == left);
-    }
+    assert!(rt; goes_its_way(alloc, &mut keeper) == Ok(true));
     Ok(())
 }

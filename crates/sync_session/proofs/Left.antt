@@ -31,7 +31,8 @@ use Rattle.licences.specs.Licences.{IsInside}
 use Rattle.licences.specs.Views.{View}
 use Rattle.local_store.specs.Keepers.{KeeperNow}
 use Rattle.opening.specs.Opening.{IsLawful, MergesBetween}
-use Rattle.session_steps.proofs.Asked.{calls_locks, step_of}
+use Rattle.session_steps.proofs.Asked.{calls_locks}
+use Rattle.session_steps.proofs.Leased.{step_of}
 use Rattle.session_steps.proofs.Joins.{client_is, seen_between}
 use Rattle.session_steps.specs.Doing.{Went}
 use Rattle.session_steps.specs.Steps.{IsStep}

@@ -15,7 +15,7 @@ use Rattle.local_store.specs.Keepers.{KeeperNow}
 use Rattle.local_store.specs.declared.change.Change.{Change}
 use Rattle.opening.proofs.Merging.{merges_of}
 use Rattle.opening.specs.Opening.{MergesBetween}
-use Rattle.session_steps.proofs.Asked.{kept-same}
+use Rattle.session_steps.proofs.Leased.{kept-same}
 use Rattle.session_steps.proofs.Joins.{count_is, kept_after-append, trail_is}
 use Rattle.session_steps.proofs.LockDeeds.{AreCalls-locks, AreLocks, AreWork-calls, changes_in-calls, obeys-locks, told_locks, view_from-locks}
 use Rattle.session_steps.specs.Doing.{Went}

@@ -17,7 +17,7 @@ use Rattle.licences.specs.Licences.{AreWork, Each, MayDo, MayMerge}
 use Rattle.licences.specs.Views.{View, at_rest}
 use Rattle.local_store.specs.declared.change.Change.{Change}
 use Rattle.local_store.specs.declared.tables.Tables.{Tables}
-use Rattle.session_steps.proofs.Asked.{kept-same}
+use Rattle.session_steps.proofs.Leased.{kept-same}
 use Rattle.session_steps.specs.Saving.{kept_after}
 use Rattle.session_steps.specs.Steps.{IsStep}
 use Rattle.sync_run.proofs.Whole.{before_end}

@@ -12,7 +12,7 @@ use Rattle.sync_info.specs.declared.info.Info.{Info}
 use Rattle.target_upgrade.specs.Target.{info_of, upgraded_info, file_of, files_from, steps_from, upgraded_from, upgraded_with, upgraded, is_lock, content_at, has_dir, IsAlike}
 use Rattle.jop_target.proofs.Files.{file_at-other_put, file_at-put}
 use Rattle.target_upgrade.proofs.Files.{has_dir-with, info_apart_old, info_apart, old_apart}
-use Rattle.target_upgrade.proofs.Redo.{Final, as_is, final_at, final_with, final, final_same, HasSameRest, ComesToSame}
+use Rattle.target_upgrade.proofs.InTune.{Final, as_is, final_at, final_with, final, final_same, HasSameRest, ComesToSame}
 
 at_from : (v : ℕ) (info : Info) (t : Tree) → as_is (upgraded_from v info t) ≡ final_at v info t
 at_from zero info t = final_same (as_is (steps_from 0 info t)) (final_at 0 info t)

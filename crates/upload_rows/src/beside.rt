@@ -74,101 +74,95 @@ struct Case {
     done: (u64, u64),
 }
 
-fn edits() -> [Case; 3] {
-    [
-        Case {
-            name: "an edit before the check",
-            deed: Deed::Edits,
-            first: 1,
-            last: 5,
-            standing: Standing {
-                rows: &[(A, THEIRS, false), (F, RENAMED, false)],
-                copies: &[(A, MINE)],
-            },
-            files: (Some(THEIRS), Some(RENAMED)),
-            done: (1, 1),
+const EDITS: [Case; 3] = [
+    Case {
+        name: "an edit before the check",
+        deed: Deed::Edits,
+        first: 1,
+        last: 5,
+        standing: Standing {
+            rows: &[(A, THEIRS, false), (F, RENAMED, false)],
+            copies: &[(A, MINE)],
         },
-        Case {
-            name: "an edit between the check and the put",
-            deed: Deed::Edits,
-            first: 6,
-            last: 6,
-            standing: PUT,
-            files: (Some(MINE), Some(RENAMED)),
-            done: (2, 0),
-        },
-        Case {
-            name: "an edit after the put",
-            deed: Deed::Edits,
-            first: 7,
-            last: 8,
-            standing: PUT,
-            files: (Some(THEIRS), Some(RENAMED)),
-            done: (2, 0),
-        },
-    ]
-}
+        files: (Some(THEIRS), Some(RENAMED)),
+        done: (1, 1),
+    },
+    Case {
+        name: "an edit between the check and the put",
+        deed: Deed::Edits,
+        first: 6,
+        last: 6,
+        standing: PUT,
+        files: (Some(MINE), Some(RENAMED)),
+        done: (2, 0),
+    },
+    Case {
+        name: "an edit after the put",
+        deed: Deed::Edits,
+        first: 7,
+        last: 8,
+        standing: PUT,
+        files: (Some(THEIRS), Some(RENAMED)),
+        done: (2, 0),
+    },
+];
 
-fn deletions() -> [Case; 3] {
-    [
-        Case {
-            name: "a deletion before the check",
-            deed: Deed::Deletes,
-            first: 1,
-            last: 5,
-            standing: Standing {
-                rows: &[(F, RENAMED, false)],
-                copies: &[(A, MINE)],
-            },
-            files: (None, Some(RENAMED)),
-            done: (1, 1),
+const DELETIONS: [Case; 3] = [
+    Case {
+        name: "a deletion before the check",
+        deed: Deed::Deletes,
+        first: 1,
+        last: 5,
+        standing: Standing {
+            rows: &[(F, RENAMED, false)],
+            copies: &[(A, MINE)],
         },
-        Case {
-            name: "a deletion between the check and the put",
-            deed: Deed::Deletes,
-            first: 6,
-            last: 6,
-            standing: PUT,
-            files: (Some(MINE), Some(RENAMED)),
-            done: (2, 0),
-        },
-        Case {
-            name: "a deletion after the put",
-            deed: Deed::Deletes,
-            first: 7,
-            last: 8,
-            standing: PUT,
-            files: (None, Some(RENAMED)),
-            done: (2, 0),
-        },
-    ]
-}
+        files: (None, Some(RENAMED)),
+        done: (1, 1),
+    },
+    Case {
+        name: "a deletion between the check and the put",
+        deed: Deed::Deletes,
+        first: 6,
+        last: 6,
+        standing: PUT,
+        files: (Some(MINE), Some(RENAMED)),
+        done: (2, 0),
+    },
+    Case {
+        name: "a deletion after the put",
+        deed: Deed::Deletes,
+        first: 7,
+        last: 8,
+        standing: PUT,
+        files: (None, Some(RENAMED)),
+        done: (2, 0),
+    },
+];
 
-fn folder_deletions() -> [Case; 2] {
-    [
-        Case {
-            name: "a deletion of the folder before its check",
-            deed: Deed::DeletesFolder,
-            first: 1,
-            last: 7,
-            standing: Standing {
-                rows: &[],
-                copies: &[(A, MINE)],
-            },
-            files: (Some(MINE), None),
-            done: (1, 1),
+const FOLDER_DELETIONS: [Case; 2] = [
+    Case {
+        name: "a deletion of the folder before its check",
+        deed: Deed::DeletesFolder,
+        first: 1,
+        last: 7,
+        standing: Standing {
+            rows: &[],
+            copies: &[(A, MINE)],
         },
-        Case {
-            name: "a deletion of the folder between its check and its put",
-            deed: Deed::DeletesFolder,
-            first: 8,
-            last: 8,
-            standing: PUT,
-            files: (Some(MINE), Some(RENAMED)),
-            done: (2, 0),
-        },
-    ]
-}
+        files: (Some(MINE), None),
+        done: (1, 1),
+    },
+    Case {
+        name: "a deletion of the folder between its check and its put",
+        deed: Deed::DeletesFolder,
+        first: 8,
+        last: 8,
+        standing: PUT,
+        files: (Some(MINE), Some(RENAMED)),
+        done: (2, 0),
+    },
+];
 
 fn call_of(alloc: Global, deed: Deed) -> Result<Call, BrokenOff>
     ensures { IfOk result (λ call. is_plain call ≡ true) }
@@ -195,10 +189,19 @@ fn script(alloc: Global, number: u64, call: Call) -> Result<Vec<(u64, Call)>, Al
 }
 
 /// A client, and a target on which another client's call lands.
-#[derive(Drop)]
 struct Crossing {
     client: Client,
     target: ScriptedTarget,
+}
+
+// Written out, so that each end of its owners calls this: a derived one is written out at each end.
+impl Drop for Crossing {
+    fn drop(self) {
+        let Crossing {
+            client: _,
+            target: _,
+        } = self;
+    }
 }
 
 fn target_with(alloc: Global, deed: Deed, number: u64) -> Result<ScriptedTarget, BrokenOff> {
@@ -272,18 +275,18 @@ fn first_other(alloc: Global, cases: &[Case]) -> Result<&'static str, BrokenOff>
 /// Another client's text is lost in one case alone: it was put between the check and the put.
 #[test]
 fn an_edit_beside_an_upload(rt: HostRuntime) -> Result<(), Fail> {
-    assert_eq!(rt; first_other(rt.alloc(), edits().as_slice())?, "");
+    assert_eq!(rt; first_other(rt.alloc(), &EDITS)?, "");
     Ok(())
 }
 
 #[test]
 fn a_deletion_beside_an_upload(rt: HostRuntime) -> Result<(), Fail> {
-    assert_eq!(rt; first_other(rt.alloc(), deletions().as_slice())?, "");
+    assert_eq!(rt; first_other(rt.alloc(), &DELETIONS)?, "");
     Ok(())
 }
 
 #[test]
 fn a_folder_that_goes_beside_an_upload(rt: HostRuntime) -> Result<(), Fail> {
-    assert_eq!(rt; first_other(rt.alloc(), folder_deletions().as_slice())?, "");
+    assert_eq!(rt; first_other(rt.alloc(), &FOLDER_DELETIONS)?, "");
     Ok(())
 }

@@ -27,48 +27,43 @@ const NOTE_B: &str = concat!(
 );
 
 /// A folder was renamed whose file is gone.
-fn cases() -> [Case; 2] {
-    [
-        Case {
-            name: "notes leave it",
-            steps: &[
-                Step::Take(A, NOTE_A),
-                Step::Take(B, NOTE_B),
-                Step::Take(F, FOLDER),
-                Step::Save(F, RENAMED),
-            ],
-            files: &[(A, NOTE_A), (B, NOTE_B)],
-            standing: Standing {
-                rows: &[],
-                copies: &[(A, NOTE_A), (B, NOTE_B)],
-            },
-            left: &[(A, NOTE_A), (B, NOTE_B)],
-            counts: [0, 0, 0, 0, 2, 0],
+const CASES: [Case; 2] = [
+    Case {
+        name: "notes leave it",
+        steps: &[
+            Step::Take(A, NOTE_A),
+            Step::Take(B, NOTE_B),
+            Step::Take(F, FOLDER),
+            Step::Save(F, RENAMED),
+        ],
+        files: &[(A, NOTE_A), (B, NOTE_B)],
+        standing: Standing {
+            rows: &[],
+            copies: &[(A, NOTE_A), (B, NOTE_B)],
         },
-        Case {
-            name: "an edited note is put before it leaves",
-            steps: &[
-                Step::Take(A, NOTE_A),
-                Step::Take(F, FOLDER),
-                Step::Save(A, EDITED_A),
-                Step::Save(F, RENAMED),
-            ],
-            files: &[(A, NOTE_A)],
-            standing: Standing {
-                rows: &[],
-                copies: &[(A, EDITED_A)],
-            },
-            left: &[(A, EDITED_A)],
-            counts: [1, 0, 0, 0, 1, 0],
+        left: &[(A, NOTE_A), (B, NOTE_B)],
+        counts: [0, 0, 0, 0, 2, 0],
+    },
+    Case {
+        name: "an edited note is put before it leaves",
+        steps: &[
+            Step::Take(A, NOTE_A),
+            Step::Take(F, FOLDER),
+            Step::Save(A, EDITED_A),
+            Step::Save(F, RENAMED),
+        ],
+        files: &[(A, NOTE_A)],
+        standing: Standing {
+            rows: &[],
+            copies: &[(A, EDITED_A)],
         },
-    ]
-}
+        left: &[(A, EDITED_A)],
+        counts: [1, 0, 0, 0, 1, 0],
+    },
+];
 
 #[test]
 fn notes_leave_a_folder_that_is_gone(rt: HostRuntime) -> Result<(), Fail> {
-    assert_eq!(rt;
-        first_other(rt.alloc(), Part::Upload, cases().as_slice())?,
-        ""
-    );
+    assert_eq!(rt; first_other(rt.alloc(), Part::Upload, &CASES)?, "");
     Ok(())
 }

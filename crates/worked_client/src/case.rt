@@ -23,6 +23,11 @@ impl Case {
     /// Whether this part of a session comes to that.
     fn is_met(&self, alloc: Global, part: Part) -> Result<bool, BrokenOff> {
         let mut place = Place::new(alloc, self.steps, self.files)?;
+        self.is_met_at(alloc, part, &mut place)
+    }
+
+    /// The same at a place where the client has done its steps.
+    fn is_met_at(&self, alloc: Global, part: Part, place: &mut Place) -> Result<bool, BrokenOff> {
         let done = place.counts(alloc, part)? == self.counts;
         Ok(done && place.has(alloc, &self.standing)? && place.holds_alone(self.left)?)
     }

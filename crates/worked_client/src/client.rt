@@ -1,3 +1,6 @@
+ghost use Rattle.local_store.specs.Keepers.{IsOfKept};
+ghost use Rattle.local_store.specs.Sound.{IsSound};
+
 use crate::broken_off::BrokenOff;
 use crate::files::bytes_of;
 use crate::parts::{Part, work};
@@ -6,20 +9,27 @@ use conflicts::SyncReport;
 use desk::Site;
 use jop_base::{Bytes, Id};
 use jop_target::{Diary, Target};
-use local_store::{Changes, Keeper, MemKeeper};
+use local_store::{Changes, Keeper, MemKeeper, Tables, let_go};
 use std::alloc::Global;
 
 /// A client, and the keeper of its tables.
-#[derive(Drop)]
 pub struct Client {
     pub id: Id,
     pub keeper: MemKeeper,
 }
 
+// Written out, so that what lets go of a client calls this. A derived one is written out at each end.
+impl Drop for Client {
+    fn drop(self) {
+        let Client { id: _, keeper: _ } = self;
+    }
+}
+
 fn make(alloc: Global, keeper: &mut MemKeeper, step: Step) -> Result<(), BrokenOff> {
     let change = change_of(alloc, step)?;
-    keeper.commit(alloc, &change)?;
-    Ok(())
+    let made = keeper.commit(alloc, &change);
+    let_go(change);
+    Ok(made?)
 }
 
 /// A keeper of a client that has done this. Each step is one call of the keeper.
@@ -32,25 +42,53 @@ fn keeper_after(alloc: Global, steps: &[Step]) -> Result<MemKeeper, BrokenOff> {
 }
 
 /// A session over this keeper, or a part of one.
-fn session<T: Target>(
+fn session<K: Keeper, T: Target>(
     alloc: Global,
     id: &Id,
-    keeper: &mut MemKeeper,
+    keeper: &mut K,
     target: &mut T,
     part: Part,
 ) -> Result<SyncReport, BrokenOff> {
     let mut tables = keeper.read(alloc)?;
+    let mut diary = Diary::new(alloc);
+    let mut made = Changes::new(alloc);
+    session_on(
+        alloc,
+        id,
+        keeper,
+        &mut tables,
+        target,
+        &mut diary,
+        &mut made,
+        part,
+    )
+}
+
+/// The same on the tables as they were read.
+fn session_on<K: Keeper, T: Target>(
+    alloc: Global,
+    id: &Id,
+    keeper: &mut K,
+    tables: &mut Tables,
+    target: &mut T,
+    diary: &mut Diary,
+    made: &mut Changes,
+    part: Part,
+) -> Result<SyncReport, BrokenOff>
+    requires sound { IsSound tables.old }
+    requires told { IsOfKept (K.state keeper.old).kept tables.old }
+{
     if tables.info.e2ee.value {
         return Err(BrokenOff::Sealed);
     }
+    diary.begin()?;
     let mut site = Site {
         target,
         keeper,
-        tables: &mut tables,
-        diary: &mut Diary::new(alloc),
-        made: &mut Changes::new(alloc),
+        tables,
+        diary,
+        made,
     };
-    site.diary.begin()?;
     work(alloc, &mut site, id, part)
 }
 

@@ -11,10 +11,19 @@ use std::alloc::Global;
 pub const OWN: &str = "11111111111111111111111111111111";
 
 /// A client, and the target of its sessions.
-#[derive(Drop)]
 pub struct Place {
     pub client: Client,
     pub target: MemTarget,
+}
+
+// Written out, as that of a client is.
+impl Drop for Place {
+    fn drop(self) {
+        let Place {
+            client: _,
+            target: _,
+        } = self;
+    }
 }
 
 impl Place {

@@ -6,12 +6,23 @@ use std::alloc::{AllocError, Global};
 
 /// What a run came to: its status, what it wrote on standard output and standard error, and its
 /// trail.
-#[derive(Drop)]
 pub(crate) struct Ran {
     pub status: Status,
     pub out: MemSink,
     pub err: MemSink,
     pub trail: String,
+}
+
+// Written out, so that each end of its owners calls this: a derived one is written out at each end.
+impl Drop for Ran {
+    fn drop(self) {
+        let Ran {
+            status: _,
+            out: _,
+            err: _,
+            trail: _,
+        } = self;
+    }
 }
 
 /// What is to come of a run: its exit status, and what it writes.

@@ -7,8 +7,8 @@ use std::test::Fail;
 const NOTE: &str =
     "T\n\nid: aaaaaaaaaaaaaaaaaaaaaaaaaaaaaaaa\nlatitude: 0.00000000\nx_new: a:b\ntype_: 1";
 
-const NOTE_WITH_A_BAD_LINE: &str =
-    "T\n\nid: aaaaaaaaaaaaaaaaaaaaaaaaaaaaaaaa\nlatitude: 0.00000000\nx_new: a:b\nbad line\ntype_: 1";
+const NOTE_WITH_A_BAD_LINE: &[u8] =
+    b"T\n\nid: aaaaaaaaaaaaaaaaaaaaaaaaaaaaaaaa\nlatitude: 0.00000000\nx_new: a:b\nbad line\ntype_: 1";
 
 const INPUT_FAULT: Due = Due {
     exit: 11,
@@ -63,13 +63,15 @@ fn tidies_text(alloc: Global, text: &[u8], due: &Due) -> Result<bool, AllocError
     Ok(told && input.left.as_slice().is_empty())
 }
 
+const CANONICAL: [(&str, &str); 3] = [
+    (NOTE, NOTE),
+    ("type_: 1", "type_: 1"),
+    (" type_ :1", "type_: 1"),
+];
+
 #[test]
 fn prints_the_canonical_text_and_nothing_more(rt: HostRuntime) -> Result<(), Fail> {
-    for (text, out) in [
-        (NOTE, NOTE),
-        ("type_: 1", "type_: 1"),
-        (" type_ :1", "type_: 1"),
-    ] {
+    for (text, out) in CANONICAL {
         let due = Due {
             exit: 0,
             out,
@@ -80,20 +82,16 @@ fn prints_the_canonical_text_and_nothing_more(rt: HostRuntime) -> Result<(), Fai
     Ok(())
 }
 
+const FIRST_FAULTS: [(&[u8], &str); 4] = [
+    (NOTE_WITH_A_BAD_LINE, "bad item line 6 no colon\n"),
+    (b"type_: 1\n", "bad item line 0 no type\n"),
+    (b"type_: 1000\nid:", "bad item line 1 type value\n"),
+    (b"\xff", "bad item line 0 not text\n"),
+];
+
 #[test]
 fn names_the_first_fault_of_a_text(rt: HostRuntime) -> Result<(), Fail> {
-    for (text, err) in [
-        (
-            NOTE_WITH_A_BAD_LINE.as_bytes(),
-            "bad item line 6 no colon\n",
-        ),
-        (b"type_: 1\n".as_slice(), "bad item line 0 no type\n"),
-        (
-            b"type_: 1000\nid:".as_slice(),
-            "bad item line 1 type value\n",
-        ),
-        (b"\xff".as_slice(), "bad item line 0 not text\n"),
-    ] {
+    for (text, err) in FIRST_FAULTS {
         let due = Due {
             exit: 21,
             out: "",

@@ -60,9 +60,9 @@ client_of (Err error) = Err error
 abbrev pub sync_at : OwnNow → TargetNow → SyncNow
 sync_at own target = sync_now own.site.trail target own.site.keeper own.site.made
 
--- The client was known or named, and then its session was added, from the tables that were kept then.
--- In every history its events keep what a lease promises; and each call and each change has its
--- licence, from these tables on.
+-- The client was known or named, and then its session was added, from sound tables: those that were
+-- kept then, if that is told. In every history its events keep what a lease promises; and each call
+-- and each change has its licence, from these tables on.
 pub record HasSynced (before : ClientNow) (result : Result SyncReport SyncErr) (after : ClientNow)
     : Type 0 where
   pub client : List ℕ

@@ -10,7 +10,7 @@ use crate::words::read_target;
 use conflicts::SyncReport;
 use jop_base::{ClientId, Entropy, Text};
 use jop_target::{Diary, Target};
-use local_store::{Change, Changes, Keeper, Tables};
+use local_store::{Change, Changes, Keeper, Tables, let_go};
 use site::{OwnErr, commit, draw_id};
 use std::alloc::{AllocError, Global};
 use sync_session::{SyncErr, sync_on};
@@ -90,10 +90,16 @@ fn known_client<K: Keeper, N: Entropy>(
 {
     let mut tables = keeper.read(alloc)?;
     let client = match tables.client {
-        Some(client) => client,
-        None => name_client(alloc, keeper, &mut tables, entropy, diary, made)?,
+        Some(client) => Ok(client),
+        None => name_client(alloc, keeper, &mut tables, entropy, diary, made),
     };
-    Ok(Known { client, tables })
+    match client {
+        Ok(client) => Ok(Known { client, tables }),
+        Err(error) => {
+            let_go(tables);
+            Err(error)
+        }
+    }
 }
 
 /// Draws the client's id, and commits it.
@@ -145,5 +151,7 @@ pub(crate) fn sync<T: Target, K: Keeper, N: Entropy>(
         }) }
 {
     let Known { client, mut tables } = known_client(alloc, keeper, entropy, diary, made)?;
-    Ok(sync_on(alloc, target, keeper, &mut tables, &client, diary, made)?)
+    let synced = sync_on(alloc, target, keeper, &mut tables, &client, diary, made);
+    let_go(tables);
+    Ok(synced?)
 }

@@ -3,16 +3,16 @@ use Rattle.std.proofs.lemmas.Result.{err_from_is_err_and}
 use Rattle.site.specs.Owning.{own}
 use Rattle.jop_cli.proofs.command.sync.sync.Goals as goal
 
-pub sync_on-requires : goal.sync_on-requires
-sync_on-requires g c = record {
+pub sync_on-synced-requires : goal.sync_on-synced-requires
+sync_on-synced-requires g c = record {
   tidy = record { sound = c.in_ok-client.ensures.sound; told = c.in_ok-client.ensures.told };
 }
 
-pub returns-in_err-sync_on : goal.returns-in_err-sync_on
-returns-in_err-sync_on g c =
-    let p = err_from_is_err_and c.from_residual-in_err-sync_on.result
-    c.from_residual-in_err-sync_on.ensures.1 in
-    let ended = c.in_err-sync_on.ensures in
+pub returns-in_err-synced : goal.returns-in_err-synced
+returns-in_err-synced g c =
+    let p = err_from_is_err_and c.from_residual-in_err-synced.result
+    c.from_residual-in_err-synced.ensures.1 in
+    let ended = c.in_err-synced.ensures in
     rw (p.1, p.2) (record {
       client = c.in_ok-client.field-0.client;
       named = own (g.K.Keeper.state c.known_client.new.keeper)
@@ -34,7 +34,7 @@ returns-in_err-sync_on g c =
 
 pub returns : goal.returns
 returns g c =
-    let ended = c.in_ok-sync_on.ensures in
+    let ended = c.in_ok-synced.ensures in
     record {
       client = c.in_ok-client.field-0.client;
       named = own (g.K.Keeper.state c.known_client.new.keeper)
