@@ -135,9 +135,8 @@ checked target client before late out trail result status adds line obeys apart 
 
 -- a check that was added to an empty trail
 pub acts_checked : (target : TargetName) (client : List ℕ) (before : Outside) (late : TargetNow)
-    (out : SinkNow) (old trail : List Event) (made : List Change)
-    (result : Result (Unit {0}) SessionErr) (status : Status) → old ≡ [] → made ≡ [] →
-    AddsCheck client old trail result →
+    (out : SinkNow) (old trail : List Event) (result : Result (Unit {0}) SessionErr)
+    (status : Status) → old ≡ [] → AddsCheck client old trail result →
     Continues (IsMarkOr (IsLeaseEvent client)) (line_of old before.target) (line_of trail late) →
     ((added : List Event) → trail ≡ old ++ added → ObeysLease client added) →
     ((added : List Event) → trail ≡ old ++ added → KeepsApart client added) →
@@ -145,13 +144,11 @@ pub acts_checked : (target : TargetName) (client : List ℕ) (before : Outside) 
     ((added : List Event) (lock : Lock) (now : ℕ) → trail ≡ old ++ added →
     result ≡ Err (Busy lock now) → NamesALiveLock Sync client added lock now) →
     Emits (outcome_by free result) before.out status out →
-    Acts (Some (Check target client)) before (did trail made) status
+    Acts (Some (Check target client)) before (did trail []) status
     (record before { target = late; out = out })
-acts_checked target client before late out old trail made result status none same
-    adds line obeys apart exclusive names emits =
-    subst (λ (m : List Change). Acts (Some (Check target client)) before (did trail m) status
-    (record before { target = late; out = out })) (sym same)
-    (checked target client before late out trail result status
+acts_checked target client before late out old trail result status none adds line obeys apart
+    exclusive names emits =
+    checked target client before late out trail result status
     (subst (λ (o : List Event). AddsCheck client o trail result) none adds)
     (subst (λ (o : List Event). Continues (IsMarkOr (IsLeaseEvent client))
     (line_of o before.target) (line_of trail late)) none line)
@@ -163,4 +160,4 @@ acts_checked target client before late out old trail made result status none sam
     KeepsExclusive client added) none exclusive)
     (subst (λ (o : List Event). (added : List Event) (lock : Lock) (now : ℕ) → trail ≡ o ++ added →
     result ≡ Err (Busy lock now) → NamesALiveLock Sync client added lock now) none names)
-    emits)
+    emits

@@ -286,6 +286,13 @@ pub acts_as : (verb v : Verb) (before after : Outside) (ran : Ran) (status : Sta
 acts_as verb v before after ran status is h =
     subst (λ (x : Verb). Acts (Some x) before ran status after) (sym is) h
 
+-- nothing was changed
+pub as_unchanged : (verb : Option Verb) (before after : Outside) (trail : List Event)
+    (made : List Change) (status : Status) → made ≡ [] → Acts verb before (did trail []) status after →
+    Acts verb before (did trail made) status after
+as_unchanged verb before after trail made status none h =
+    subst (λ (m : List Change). Acts verb before (did trail m) status after) (sym none) h
+
 -- a command that touches neither target nor tables
 pub acts_quiet : (v : Verb) (before after : Outside) (trail : List Event) (made : List Change)
     (status : Status) → trail ≡ [] → made ≡ [] → (used (Some v)).session ≡ None →

@@ -3,13 +3,10 @@ ghost use Rattle.jop_cli.specs.Commands.{IsFit, meant};
 ghost use Rattle.jop_cli.specs.Outside.{did, seen};
 ghost use Rattle.jop_cli.specs.Run.{Acts, Does, Reports};
 
-use crate::command::check::FREE_LINE;
 use crate::command::help::USAGE_LINE;
-use crate::command::sync::sync;
 use crate::command::tidy::tidy;
-use crate::command::upgrade::upgrade;
-use crate::command::{Verb, WordsErr, read_words};
-use crate::emit::{emit, emit_printed, emit_report, emit_version};
+use crate::command::{Verb, WordsErr, check, local, read_words, sync, upgrade};
+use crate::emit::emit;
 use crate::piece::Piece;
 use crate::report::report;
 use crate::status::Status;
@@ -17,10 +14,8 @@ use crate::words::Words;
 use jop_base::{Clock, Entropy, Sink, Source};
 use jop_target::{Diary, Target};
 use kept_tables::notes_are_kept_by_tables;
-use local_commands::obey as obey_locally;
 use local_store::{Changes, Keeper};
 use std::alloc::Global;
-use sync_run::check_on;
 
 /// Does what the words say, with these things of the outside, and writes the status's line on `err`.
 pub fn run<K: Keeper, T: Target, I: Source, O: Sink, E: Sink, C: Clock, N: Entropy>(
@@ -118,29 +113,15 @@ fn obey<K: Keeper, T: Target, I: Source, O: Sink, C: Clock, N: Entropy>(
         (O.state out.new) (C.state clock.new) (N.state entropy.new)) }
 {
     match verb {
-        Verb::Check { target: _, client } => match check_on(alloc, target, &client, diary) {
-            Ok(()) => emit(out, &[Piece::Word(FREE_LINE)]),
-            Err(ended) => Status::from(ended),
-        },
+        Verb::Check { target: _, client } => check::obey(alloc, &client, target, out, diary),
         Verb::Help => emit(out, &[Piece::Word(USAGE_LINE)]),
-        Verb::Local(command) => {
-            match obey_locally(alloc, command, keeper, input, clock, entropy, diary, made) {
-                Ok(printed) => emit_printed(out, &printed),
-                Err(error) => Status::from(error),
-            }
-        }
-        Verb::Sync { target: _ } => {
-            match sync(alloc, keeper, target, entropy, diary, made) {
-                Ok(report) => emit_report(out, &report),
-                Err(error) => Status::from(error),
-            }
-        }
+        Verb::Local(command) => local::obey(
+            alloc, command, keeper, input, out, clock, entropy, diary, made,
+        ),
+        Verb::Sync { target: _ } => { sync::obey(alloc, keeper, target, out, entropy, diary, made) }
         Verb::Tidy => tidy(alloc, input, out),
         Verb::Upgrade { target: _ } => {
-            match upgrade(alloc, keeper, target, entropy, diary, made) {
-                Ok(version) => emit_version(out, version),
-                Err(error) => Status::from(error),
-            }
+            upgrade::obey(alloc, keeper, target, out, entropy, diary, made)
         }
     }
 }

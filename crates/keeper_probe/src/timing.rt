@@ -1,7 +1,9 @@
+ghost use Rattle.local_store.specs.Sound.{IsAllowed};
+
 use crate::notes::note_saved;
 use crate::trouble::Trouble;
 use jop_base::Id;
-use local_store::{Keeper, Tables};
+use local_store::{Change, Keeper, let_go};
 use std::time::Instant;
 
 /// Opens the file, which the first call does, and answers the microseconds that it took.
@@ -15,8 +17,14 @@ fn open<K: Keeper>(rt: &HostRuntime, keeper: &mut K) -> Result<u128, Trouble> {
 /// Saves the note of this number, and answers the microseconds that the keeper took.
 fn save<K: Keeper>(rt: &HostRuntime, keeper: &mut K, number: u64) -> Result<u128, Trouble> {
     let change = note_saved(rt.alloc(), number)?;
+    commit(rt, keeper, &change)
+}
+
+fn commit<K: Keeper>(rt: &HostRuntime, keeper: &mut K, change: &Change) -> Result<u128, Trouble>
+    requires { IsAllowed change.now }
+{
     let start = Instant::now(rt)?;
-    keeper.commit(rt.alloc(), &change)?;
+    keeper.commit(rt.alloc(), change)?;
     Ok(start.elapsed(rt)?.as_micros())
 }
 
@@ -38,14 +46,18 @@ pub(crate) fn time_notes<K: Keeper>(
     Ok(println!(rt; "{took}")?)
 }
 
-fn read<K: Keeper>(rt: &HostRuntime, keeper: &mut K) -> Result<(u128, Tables), Trouble> {
+/// Reads the tables, and answers the microseconds that the keeper took, and how many rows they have.
+fn read<K: Keeper>(rt: &HostRuntime, keeper: &mut K) -> Result<(u128, usize), Trouble> {
     let start = Instant::now(rt)?;
     let tables = keeper.read(rt.alloc())?;
-    Ok((start.elapsed(rt)?.as_micros(), tables))
+    let took = start.elapsed(rt);
+    let rows = tables.rows.len();
+    let_go(tables);
+    Ok((took?.as_micros(), rows))
 }
 
 pub(crate) fn time_reading<K: Keeper>(rt: &HostRuntime, keeper: &mut K) -> Result<(), Trouble> {
     let opening = open(rt, keeper)?;
-    let (reading, tables) = read(rt, keeper)?;
-    Ok(println!(rt; "{opening} {reading} {}", tables.rows.len())?)
+    let (reading, rows) = read(rt, keeper)?;
+    Ok(println!(rt; "{opening} {reading} {rows}")?)
 }

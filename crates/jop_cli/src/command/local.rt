@@ -1,17 +1,26 @@
-ghost use Rattle.std.specs.Prelude.{◌≡◌, ◌∷◌, [], IfOk};
+ghost use Rattle.std.specs.Prelude.{◌≡◌, ◌∷◌, [], IfOk, Some};
 ghost use Rattle.item_text.specs.Lines.{has};
+ghost use Rattle.jop_target.specs.Replies.{TargetNow};
 ghost use Rattle.jop_cli.specs.Commands.Local.{add_words, attach_words, both, cat_words};
 ghost use Rattle.jop_cli.specs.Commands.Local.{conflicts_words, count_in, edit_to, edit_words};
 ghost use Rattle.jop_cli.specs.Commands.Local.{in_parent, is_line, line_in, local_words, ls_words};
 ghost use Rattle.jop_cli.specs.Commands.Local.{mime_in, mkbook_words, rm_words, tag_words};
+ghost use Rattle.jop_cli.specs.Outside.{did, seen};
+ghost use Rattle.jop_cli.specs.Run.{Acts};
 ghost use Rattle.jop_cli.specs.Words.{id_of};
+ghost use Rattle.jop_cli.specs.declared.command.Verb.TheVariants as verbs;
+ghost use Rattle.local_commands.specs.Plans.{IsWellFormed};
 ghost use Rattle.local_commands.specs.declared.local_command.LocalCommand.TheVariants as commands;
 
+use crate::emit::emit_printed;
+use crate::status::Status;
 use crate::words::read_id;
 use dav_parts::read_decimal;
 use item_text::trimmed;
-use jop_base::{Copied, Text};
-use local_commands::LocalCommand;
+use jop_base::{Clock, Copied, Entropy, Sink, Source, Text};
+use jop_target::Diary;
+use local_commands::{LocalCommand, obey as obey_locally};
+use local_store::{Changes, Keeper};
 use std::alloc::{AllocError, Global};
 
 /// A row for each command on the tables: its first word, and who reads the others.
@@ -278,4 +287,32 @@ fn read_tag_with(
         return Ok(None);
     };
     Ok(Some(LocalCommand::Tag { note, title }))
+}
+
+/// Does a command on the tables, and prints what it tells.
+pub(crate) fn obey<K: Keeper, I: Source, O: Sink, C: Clock, N: Entropy>(
+    alloc: Global,
+    command: LocalCommand,
+    keeper: &mut K,
+    input: &mut I,
+    out: &mut O,
+    clock: &mut C,
+    entropy: &mut N,
+    diary: &mut Diary,
+    made: &mut Changes,
+) -> Status
+    requires fit { IsWellFormed command }
+    requires unwritten { diary.old.events ≡ [] }
+    requires unchanged { made.old.changes ≡ [] }
+    ensures { (target : TargetNow) → Acts (Some (verbs.Local command))
+        (seen (K.state keeper.old) target (I.state input.old) (O.state out.old)
+        (C.state clock.old) (N.state entropy.old))
+        (did diary.new.events made.new.changes) result
+        (seen (K.state keeper.new) target (I.state input.new) (O.state out.new)
+        (C.state clock.new) (N.state entropy.new)) }
+{
+    match obey_locally(alloc, command, keeper, input, clock, entropy, diary, made) {
+        Ok(printed) => emit_printed(out, &printed),
+        Err(error) => Status::from(error),
+    }
 }

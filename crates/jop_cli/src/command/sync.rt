@@ -1,14 +1,22 @@
-ghost use Rattle.std.specs.Prelude.{◌≡◌, ◌≤◌, [], IfOk, None, OnOk};
+ghost use Rattle.std.specs.Prelude.{◌≡◌, ◌≤◌, [], IfOk, None, OnOk, Some};
+ghost use Rattle.jop_base.specs.Clocks.{ClockNow};
+ghost use Rattle.jop_base.specs.Outside.{SourceNow};
 ghost use Rattle.local_store.specs.Keepers.{IsOfKept};
 ghost use Rattle.local_store.specs.Sound.{IsSound};
 ghost use Rattle.site.specs.Owning.{NamesClient, Owns, own};
 ghost use Rattle.jop_cli.specs.Commands.Sync.{SyncsBy, client_of, sync_of, sync_words};
+ghost use Rattle.jop_cli.specs.Outside.{did, seen};
+ghost use Rattle.jop_cli.specs.Run.{Acts};
 ghost use Rattle.jop_cli.specs.Words.{target_of};
+ghost use Rattle.jop_cli.specs.declared.command.Verb.TheVariants as verbs;
+ghost use Rattle.jop_cli.specs.declared.target_name.TargetName.{TargetName};
 
 use crate::command::Verb;
+use crate::emit::emit_report;
+use crate::status::Status;
 use crate::words::read_target;
 use conflicts::SyncReport;
-use jop_base::{ClientId, Entropy, Text};
+use jop_base::{ClientId, Entropy, Sink, Text};
 use jop_target::{Diary, Target};
 use local_store::{Change, Changes, Keeper, Tables, let_go};
 use site::{OwnErr, commit, draw_id};
@@ -154,4 +162,30 @@ pub(crate) fn sync<T: Target, K: Keeper, N: Entropy>(
     let synced = sync_on(alloc, target, keeper, &mut tables, &client, diary, made);
     let_go(tables);
     Ok(synced?)
+}
+
+/// Syncs, and prints what was done.
+pub(crate) fn obey<T: Target, K: Keeper, O: Sink, N: Entropy>(
+    alloc: Global,
+    keeper: &mut K,
+    target: &mut T,
+    out: &mut O,
+    entropy: &mut N,
+    diary: &mut Diary,
+    made: &mut Changes,
+) -> Status
+    requires unwritten { diary.old.events ≡ [] }
+    requires unchanged { made.old.changes ≡ [] }
+    ensures { (name : TargetName) (input : SourceNow) (clock : ClockNow) →
+        Acts (Some (verbs.Sync name))
+        (seen (K.state keeper.old) (T.state target.old) input (O.state out.old) clock
+        (N.state entropy.old))
+        (did diary.new.events made.new.changes) result
+        (seen (K.state keeper.new) (T.state target.new) input (O.state out.new) clock
+        (N.state entropy.new)) }
+{
+    match sync(alloc, keeper, target, entropy, diary, made) {
+        Ok(report) => emit_report(out, &report),
+        Err(error) => Status::from(error),
+    }
 }

@@ -1,11 +1,19 @@
-ghost use Rattle.std.specs.Prelude.{◌≡◌, [], IfOk};
+ghost use Rattle.std.specs.Prelude.{◌≡◌, [], IfOk, Some};
+ghost use Rattle.jop_base.specs.Clocks.{ClockNow};
+ghost use Rattle.jop_base.specs.Outside.{SourceNow};
 ghost use Rattle.site.specs.Owning.{own};
 ghost use Rattle.jop_cli.specs.Commands.Upgrade.{UpgradesBy, upgrade_of, upgrade_words};
+ghost use Rattle.jop_cli.specs.Outside.{did, seen};
+ghost use Rattle.jop_cli.specs.Run.{Acts};
 ghost use Rattle.jop_cli.specs.Words.{target_of};
+ghost use Rattle.jop_cli.specs.declared.command.Verb.TheVariants as verbs;
+ghost use Rattle.jop_cli.specs.declared.target_name.TargetName.{TargetName};
 
 use crate::command::Verb;
+use crate::emit::emit_version;
+use crate::status::Status;
 use crate::words::read_target;
-use jop_base::{Entropy, Text};
+use jop_base::{Entropy, Sink, Text};
 use jop_target::{Diary, Target};
 use local_store::{Changes, Keeper};
 use site::{OwnErr, own_client};
@@ -84,4 +92,30 @@ pub(crate) fn upgrade<T: Target, K: Keeper, N: Entropy>(
 {
     let client = own_client(alloc, keeper, entropy, diary, made)?;
     Ok(upgrade_on(alloc, target, &client, diary)?)
+}
+
+/// Upgrades the target, and prints its version.
+pub(crate) fn obey<T: Target, K: Keeper, O: Sink, N: Entropy>(
+    alloc: Global,
+    keeper: &mut K,
+    target: &mut T,
+    out: &mut O,
+    entropy: &mut N,
+    diary: &mut Diary,
+    made: &mut Changes,
+) -> Status
+    requires unwritten { diary.old.events ≡ [] }
+    requires unchanged { made.old.changes ≡ [] }
+    ensures { (name : TargetName) (input : SourceNow) (clock : ClockNow) →
+        Acts (Some (verbs.Upgrade name))
+        (seen (K.state keeper.old) (T.state target.old) input (O.state out.old) clock
+        (N.state entropy.old))
+        (did diary.new.events made.new.changes) result
+        (seen (K.state keeper.new) (T.state target.new) input (O.state out.new) clock
+        (N.state entropy.new)) }
+{
+    match upgrade(alloc, keeper, target, entropy, diary, made) {
+        Ok(version) => emit_version(out, version),
+        Err(error) => Status::from(error),
+    }
 }
