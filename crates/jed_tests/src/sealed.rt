@@ -21,7 +21,7 @@ fn sealed_bytes(alloc: Global, text: &Text) -> Result<Vec<u8>, Fail> {
     for piece in &pieces {
         texts.push(piece.as_slice())?;
     }
-    written(alloc, &sealed(alloc, 5, &texts)?)
+    written_pieces(alloc, &texts)
 }
 
 fn written(alloc: Global, jed: &Jed) -> Result<Vec<u8>, Fail> {
@@ -31,24 +31,56 @@ fn written(alloc: Global, jed: &Jed) -> Result<Vec<u8>, Fail> {
     Ok(write_jed(alloc, jed)?.into_vec())
 }
 
+/// The pieces, sealed and written.
+fn written_pieces(alloc: Global, pieces: &[&[u8]]) -> Result<Vec<u8>, Fail> {
+    written(alloc, &sealed(alloc, 5, pieces)?)
+}
+
+/// The text that the pieces open to.
+fn text_of(alloc: Global, pieces: &[&[u8]]) -> Result<Text, Fail> {
+    let jed = read_jed(alloc, &written_pieces(alloc, pieces)?)?;
+    Ok(open_text(alloc, &jed, b"password")?)
+}
+
+/// Why they open to no text.
+fn text_refusal(alloc: Global, pieces: &[&[u8]]) -> Result<Option<JedErr>, Fail> {
+    let jed = read_jed(alloc, &written_pieces(alloc, pieces)?)?;
+    Ok(open_text(alloc, &jed, b"password").err())
+}
+
+/// The bytes of a blob that the pieces open to.
+fn blob_of(alloc: Global, pieces: &[&[u8]]) -> Result<Bytes, Fail> {
+    let jed = read_jed(alloc, &written_pieces(alloc, pieces)?)?;
+    Ok(open_blob(alloc, &jed, b"password")?)
+}
+
+/// Why they open to no blob.
+fn blob_refusal(alloc: Global, pieces: &[&[u8]]) -> Result<Option<JedErr>, Fail> {
+    let jed = read_jed(alloc, &written_pieces(alloc, pieces)?)?;
+    Ok(open_blob(alloc, &jed, b"password").err())
+}
+
 #[test]
-fn a_text_of_two_pieces_is_sealed_and_opens(rt: HostRuntime) -> Result<(), Fail> {
-    let alloc = rt.alloc();
-    let text = long_text(alloc)?;
-    let bytes = sealed_bytes(alloc, &text)?;
+fn a_text_is_sealed_in_two_pieces(rt: HostRuntime) -> Result<(), Fail> {
+    let bytes = sealed_bytes(rt.alloc(), &long_text(rt.alloc())?)?;
     assert_eq!(rt; bytes.len(), 7_033);
     assert_eq!(rt; bytes.get(45..51).unwrap_or(b""), b"001aa4".as_slice());
     assert_eq!(rt;
         bytes.get(6_871..6_877).unwrap_or(b""),
         b"00009c".as_slice()
     );
-    let jed = read_jed(alloc, &bytes)?;
+    Ok(())
+}
+
+#[test]
+fn a_text_of_two_pieces_opens(rt: HostRuntime) -> Result<(), Fail> {
+    let alloc = rt.alloc();
+    let text = long_text(alloc)?;
+    let jed = read_jed(alloc, &sealed_bytes(alloc, &text)?)?;
     let opened = open_text(alloc, &jed, b"password")?;
     assert_eq!(rt; opened.as_str(), text.as_str());
-    assert_eq!(rt;
-        open_text(alloc, &jed, b"passwort").err(),
-        Some(JedErr::BadTag { n: 1 })
-    );
+    let refused = open_text(alloc, &jed, b"passwort").err();
+    assert_eq!(rt; refused, Some(JedErr::BadTag { n: 1 }));
     Ok(())
 }
 
@@ -122,41 +154,30 @@ const BAD_PIECES: [[&[u8]; 2]; 5] = [
 
 #[test]
 fn each_piece_of_a_blob_is_base64_by_itself(rt: HostRuntime) -> Result<(), Fail> {
-    let alloc = rt.alloc();
-    let bytes = written(alloc, &sealed(alloc, 5, &[b"QQ%3D%3D", b"Qg", b""])?)?;
-    let jed = read_jed(alloc, &bytes)?;
-    assert_eq!(rt;
-        open_blob(alloc, &jed, b"password")?.as_slice(),
-        b"AB".as_slice()
-    );
+    let blob = blob_of(rt.alloc(), &[b"QQ%3D%3D", b"Qg", b""])?;
+    assert_eq!(rt; blob.as_slice(), b"AB".as_slice());
     for pieces in BAD_PIECES {
-        let bytes = written(alloc, &sealed(alloc, 5, &pieces)?)?;
-        let jed = read_jed(alloc, &bytes)?;
-        let refused = open_blob(alloc, &jed, b"password").err();
+        let refused = blob_refusal(rt.alloc(), &pieces)?;
         assert_eq!(rt; refused, Some(JedErr::BadChunk { n: 2 }));
     }
     Ok(())
 }
 
+const JOINED: [([&[u8]; 2], &str); 4] = [
+    ([b"%uD83D", b"%uDE00"], "\u{1f600}"),
+    ([b"%uDE00", b"%uD83D"], "\u{fffd}\u{fffd}"),
+    ([b"%u00e", b"9"], "%u00e9"),
+    ([b"\xc3\xa9", b"%E9"], "\u{e9}\u{e9}"),
+];
+
 #[test]
 fn units_are_joined_before_they_are_read(rt: HostRuntime) -> Result<(), Fail> {
-    let alloc = rt.alloc();
-    for (pieces, want) in [
-        ([b"%uD83D".as_slice(), b"%uDE00"], "\u{1f600}"),
-        ([b"%uDE00", b"%uD83D"], "\u{fffd}\u{fffd}"),
-        ([b"%u00e", b"9"], "%u00e9"),
-        ([b"\xc3\xa9", b"%E9"], "\u{e9}\u{e9}"),
-    ] {
-        let bytes = written(alloc, &sealed(alloc, 5, &pieces)?)?;
-        let jed = read_jed(alloc, &bytes)?;
-        assert_eq!(rt; open_text(alloc, &jed, b"password")?.as_str(), want);
+    for (pieces, want) in JOINED {
+        let text = text_of(rt.alloc(), &pieces)?;
+        assert_eq!(rt; text.as_str(), want);
     }
-    let bytes = written(alloc, &sealed(alloc, 5, &[b"a", b"\xc3"])?)?;
-    let jed = read_jed(alloc, &bytes)?;
-    assert_eq!(rt;
-        open_text(alloc, &jed, b"password").err(),
-        Some(JedErr::BadChunk { n: 2 })
-    );
+    let refused = text_refusal(rt.alloc(), &[b"a", b"\xc3"])?;
+    assert_eq!(rt; refused, Some(JedErr::BadChunk { n: 2 }));
     Ok(())
 }
 
@@ -169,16 +190,21 @@ const METHODS: [(u8, &str); 6] = [
     (b'7', "A"),
 ];
 
+/// What a piece opens to whose header names this method.
+fn text_by_method(alloc: Global, method: u8) -> Result<Text, Fail> {
+    let mut bytes = written_pieces(alloc, &[b"%41"])?;
+    if let Some(digit) = bytes.get_mut(12) {
+        *digit = method;
+    }
+    let jed = read_jed(alloc, &bytes)?;
+    Ok(open_text(alloc, &jed, b"password")?)
+}
+
 #[test]
 fn pieces_of_other_methods_are_not_escaped(rt: HostRuntime) -> Result<(), Fail> {
-    let alloc = rt.alloc();
     for (method, want) in METHODS {
-        let mut bytes = written(alloc, &sealed(alloc, 5, &[b"%41"])?)?;
-        if let Some(digit) = bytes.get_mut(12) {
-            *digit = method;
-        }
-        let jed = read_jed(alloc, &bytes)?;
-        assert_eq!(rt; open_text(alloc, &jed, b"password")?.as_str(), want);
+        let text = text_by_method(rt.alloc(), method)?;
+        assert_eq!(rt; text.as_str(), want);
     }
     Ok(())
 }

@@ -1,5 +1,6 @@
 use aes_ccm::{Aes, CcmErr, ccm_open, ccm_seal, hmac, pbkdf2};
 use std::alloc::{AllocError, Global};
+use std::process::Abort;
 use std::test::Fail;
 
 /// The number that up to 16 bytes write, the first counting most.
@@ -14,6 +15,11 @@ fn number(bytes: &[u8]) -> u128 {
 /// The first bytes, and the others; all and none where there are fewer.
 fn split(bytes: &[u8], len: usize) -> (&[u8], &[u8]) {
     bytes.split_at(len.min(bytes.len()))
+}
+
+/// So many of the bytes, from this place on.
+fn part(bytes: &[u8], first: usize, len: usize) -> &[u8] {
+    split(split(bytes, first).1, len).0
 }
 
 /// So many bytes that count up, from the first on.
@@ -42,85 +48,120 @@ fn blocks_are_those_of_the_standard(rt: HostRuntime) -> Result<(), Fail> {
     Ok(())
 }
 
-// SP 800-38C, appendix C, examples 1 to 3: the sealed text, of which the first 16 bytes are compared, and the tag.
+/// An example of SP 800-38C, appendix C: the lengths of its parts in bytes, and what they are sealed to, the
+/// first 16 bytes, those behind them, and the tag.
+struct Example {
+    nonce: usize,
+    adata: usize,
+    text: usize,
+    tag_len: usize,
+    sealed: u128,
+    tail: u128,
+    tag: u128,
+}
+
+const EXAMPLES: [Example; 3] = [
+    Example {
+        nonce: 7,
+        adata: 8,
+        text: 4,
+        tag_len: 4,
+        sealed: 0x7162015b,
+        tail: 0,
+        tag: 0x4dac255d,
+    },
+    Example {
+        nonce: 8,
+        adata: 16,
+        text: 16,
+        tag_len: 6,
+        sealed: 0xd2a1f0e051ea5f62081a7792073d593d,
+        tail: 0,
+        tag: 0x1fc64fbfaccd,
+    },
+    Example {
+        nonce: 12,
+        adata: 20,
+        text: 24,
+        tag_len: 8,
+        sealed: 0xe3b201a9f5b71a7a9b1ceaeccd97e70b,
+        tail: 0x6176aad9a4428aa5,
+        tag: 0x484392fbc1b09951,
+    },
+];
+
+/// Seals the example's text, which is handed in, and opens it, with another tag and with its own. The parts
+/// stand among bytes that count up from 0.
+fn seals_and_opens(rt: &impl Abort, aes: &Aes, bytes: &[u8], example: &Example, text: &mut [u8]) {
+    let nonce = part(bytes, 0x10, example.nonce);
+    let adata = part(bytes, 0, example.adata);
+    let Ok(mut own) = ccm_seal(aes, nonce, adata, text, example.tag_len) else {
+        panic!(rt; "not sealed");
+    };
+    assert_eq!(rt; number(split(text, 16).0), example.sealed);
+    assert_eq!(rt; number(split(text, 16).1), example.tail);
+    assert_eq!(rt; number(split(&own, example.tag_len).0), example.tag);
+    own[3] ^= 1;
+    let refused = ccm_open(aes, nonce, adata, text, split(&own, example.tag_len).0);
+    assert_eq!(rt; refused, Err(CcmErr::BadTag));
+    assert_eq!(rt; number(split(text, 16).0), example.sealed);
+    own[3] ^= 1;
+    let opened = ccm_open(aes, nonce, adata, text, split(&own, example.tag_len).0);
+    assert_eq!(rt; opened, Ok(()));
+    assert_eq!(rt; &*text, part(bytes, 0x20, example.text));
+}
+
 #[test]
 fn texts_are_sealed_as_in_the_standard(rt: HostRuntime) -> Result<(), Fail> {
-    let key = counting(rt.alloc(), 0x40, 16)?;
-    let aes = Aes::new(&key).ok_or("a key")?;
-    for (nonce_len, adata_len, text_len, tag_len, sealed, tail, tag) in [
-        (7, 8, 4, 4, 0x7162015bu128, 0u128, 0x4dac255du128),
-        (
-            8,
-            16,
-            16,
-            6,
-            0xd2a1f0e051ea5f62081a7792073d593d,
-            0,
-            0x1fc64fbfaccd,
-        ),
-        (
-            12,
-            20,
-            24,
-            8,
-            0xe3b201a9f5b71a7a9b1ceaeccd97e70b,
-            0x6176aad9a4428aa5,
-            0x484392fbc1b09951,
-        ),
-    ] {
-        let nonce = counting(rt.alloc(), 0x10, nonce_len)?;
-        let adata = counting(rt.alloc(), 0, adata_len)?;
-        let plain = counting(rt.alloc(), 0x20, text_len)?;
-        let mut text = counting(rt.alloc(), 0x20, text_len)?;
-        let mut own = ccm_seal(&aes, &nonce, &adata, &mut text, tag_len)
-            .ok()
-            .ok_or("good")?;
-        assert_eq!(rt; number(split(&text, 16).0), sealed);
-        assert_eq!(rt; number(split(&text, 16).1), tail);
-        assert_eq!(rt; number(split(&own, tag_len).0), tag);
-        own[3] ^= 1;
-        let refused = ccm_open(&aes, &nonce, &adata, &mut text, split(&own, tag_len).0);
-        assert_eq!(rt; refused, Err(CcmErr::BadTag));
-        assert_eq!(rt; number(split(&text, 16).0), sealed);
-        own[3] ^= 1;
-        let opened = ccm_open(&aes, &nonce, &adata, &mut text, split(&own, tag_len).0);
-        assert_eq!(rt; opened, Ok(()));
-        assert_eq!(rt; text.as_slice(), plain.as_slice());
+    let bytes = counting(rt.alloc(), 0, 0x50)?;
+    let aes = Aes::new(part(&bytes, 0x40, 16)).ok_or("a key")?;
+    for example in &EXAMPLES {
+        let mut text = counting(rt.alloc(), 0x20, example.text)?;
+        seals_and_opens(&rt, &aes, &bytes, example, &mut text);
     }
     Ok(())
 }
 
-const PARAMETERS: [(usize, usize, usize, usize, bool); 10] = [
-    (6, 0, 0, 4, false),
-    (7, 0, 0, 4, true),
-    (13, 65_279, 65_535, 16, true),
-    (13, 65_280, 0, 16, false),
-    (13, 0, 65_536, 16, false),
-    (12, 0, 65_536, 16, true),
-    (14, 0, 0, 16, false),
-    (12, 0, 0, 2, false),
-    (12, 0, 0, 5, false),
-    (12, 0, 0, 18, false),
+/// The lengths in bytes of a nonce, a header, a text and a tag, and whether a text is sealed with them.
+const PARAMETERS: [([usize; 4], bool); 10] = [
+    ([6, 0, 0, 4], false),
+    ([7, 0, 0, 4], true),
+    ([13, 65_279, 65_535, 16], true),
+    ([13, 65_280, 0, 16], false),
+    ([13, 0, 65_536, 16], false),
+    ([12, 0, 65_536, 16], true),
+    ([14, 0, 0, 16], false),
+    ([12, 0, 0, 2], false),
+    ([12, 0, 0, 5], false),
+    ([12, 0, 0, 18], false),
 ];
+
+/// Whether a text of zeros is sealed with parts of these lengths.
+fn is_sealed(
+    alloc: Global,
+    aes: &Aes,
+    zeros: &[u8],
+    lengths: [usize; 4],
+) -> Result<bool, AllocError> {
+    let [nonce, adata, text, tag] = lengths;
+    let mut text = vec![in alloc; 0u8; text]?;
+    let sealed = ccm_seal(
+        aes,
+        split(zeros, nonce).0,
+        split(zeros, adata).0,
+        &mut text,
+        tag,
+    );
+    Ok(sealed.is_ok())
+}
 
 #[test]
 fn parameters_end_where_the_standard_says(rt: HostRuntime) -> Result<(), Fail> {
     let aes = Aes::new(&[0; 16]).ok_or("a key")?;
-    let bytes = vec![in rt.alloc(); 0u8; 65_536]?;
-    for (nonce_len, adata_len, text_len, tag_len, good) in PARAMETERS {
-        let mut text = vec![in rt.alloc(); 0u8; text_len]?;
-        let sealed = ccm_seal(
-            &aes,
-            split(&bytes, nonce_len).0,
-            split(&bytes, adata_len).0,
-            &mut text,
-            tag_len,
-        );
-        assert_eq!(rt;
-            sealed.is_ok(),
-            good,
-            "{nonce_len} {adata_len} {text_len} {tag_len}"
-        );
+    let zeros = vec![in rt.alloc(); 0u8; 65_536]?;
+    for (lengths, good) in PARAMETERS {
+        let sealed = is_sealed(rt.alloc(), &aes, &zeros, lengths)?;
+        assert_eq!(rt; sealed, good, "{lengths:?}");
     }
     Ok(())
 }
