@@ -103,7 +103,10 @@ fn make(rt: &HostRuntime, path: &Text, id: Id) -> Result<(), Trouble> {
 /// Another program changes the file: whether it could.
 fn is_changed(rt: &HostRuntime, path: &Text, sql: &str) -> bool {
     match Connection::open(rt, path.as_str()) {
-        Ok(mut database) => database.execute_batch(sql).is_ok() && database.close().is_ok(),
+        Ok(mut database) => {
+            let is_done = database.execute_batch(sql).is_ok();
+            database.close().is_ok() && is_done
+        }
         Err(_) => false,
     }
 }

@@ -98,6 +98,13 @@ fn count_met(rt: &HostRuntime, path: &Text, memory: &mut MemRecords) -> Result<u
     Ok(CASES.len())
 }
 
+/// How many a new file and a new store in memory meet.
+fn count_met_anew(rt: &HostRuntime) -> Result<usize, Trouble> {
+    let path = path(rt)?;
+    let mut memory = MemRecords::new(rt.alloc());
+    count_met(rt, &path, &mut memory)
+}
+
 fn note_count<S: RecordStore>(alloc: Global, store: &mut S) -> Result<usize, KeeperErr> {
     let tables = store.all(alloc)?;
     Ok(tables.conflicts.len())
@@ -106,8 +113,6 @@ fn note_count<S: RecordStore>(alloc: Global, store: &mut S) -> Result<usize, Kee
 #[test]
 fn a_number_that_does_not_fit_is_a_fault(rt: HostRuntime) -> Result<(), Fail> {
     clear(&rt)?;
-    let path = path(&rt)?;
-    let mut memory = MemRecords::new(rt.alloc());
-    assert_eq!(rt; count_met(&rt, &path, &mut memory)?, 4);
+    assert_eq!(rt; count_met_anew(&rt)?, 4);
     Ok(remove(&rt)?)
 }
