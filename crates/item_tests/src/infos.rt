@@ -22,7 +22,6 @@ const READ: &str = r#"{"version":3}
 {"version":3,"masterKeys":[{"id":"aaaaaaaaaaaaaaaaaaaaaaaaaaaaaaaa","content":""}]}
 {"version":3,"masterKeys":[{"id":"aaaaaaaaaaaaaaaaaaaaaaaaaaaaaaaa","content":"x","updated_time":253402300799999}]}
 {"version":3,"masterKeys":[{"id":"aaaaaaaaaaaaaaaaaaaaaaaaaaaaaaaa","content":"x","created_time":-1,"other":{"id":1}}]}
-{"version":3,"masterKeys":[{"id":"aaaaaaaaaaaaaaaaaaaaaaaaaaaaaaaa","content":"x"},{"id":"bbbbbbbbbbbbbbbbbbbbbbbbbbbbbbbb","content":"x"}]}
 {"version":3,"other":null}
 {"version":3,"other":-9223372036854775808}
 {"version":3,"other":[true,{"x":"\u00e9\n"},""]}
@@ -30,6 +29,18 @@ const READ: &str = r#"{"version":3}
 {"version":1,"version":3}
 {"version":1.5,"version":3}
 {"version":3,"":0,"\u0000":0}"#;
+
+/// The text of an info with two keys.
+const TWO_KEYS: &str = concat!(
+    r#"{"version":3,"masterKeys":[{"id":"aaaaaaaaaaaaaaaaaaaaaaaaaaaaaaaa","content":"x"},"#,
+    r#"{"id":"bbbbbbbbbbbbbbbbbbbbbbbbbbbbbbbb","content":"x"}]}"#
+);
+
+/// A text that is none, since both keys have one id.
+const ONE_ID_TWICE: &str = concat!(
+    r#"{"version":3,"masterKeys":[{"id":"aaaaaaaaaaaaaaaaaaaaaaaaaaaaaaaa","content":"x"},"#,
+    r#"{"id":"aaaaaaaaaaaaaaaaaaaaaaaaaaaaaaaa","content":"y"}]}"#
+);
 
 /// Texts that are none, one a line.
 const REFUSED: &str = r#"
@@ -87,24 +98,53 @@ null
 {"version":3,"masterKeys":[{"id":"aaaaaaaaaaaaaaaaaaaaaaaaaaaaaaaa","content":"x","updated_time":null}]}
 {"version":3,"masterKeys":[{"id":"aaaaaaaaaaaaaaaaaaaaaaaaaaaaaaaa","content":"x","updated_time":-1}]}
 {"version":3,"masterKeys":[{"id":"aaaaaaaaaaaaaaaaaaaaaaaaaaaaaaaa","content":"x","updated_time":253402300800000}]}
-{"version":3,"masterKeys":[{"id":"aaaaaaaaaaaaaaaaaaaaaaaaaaaaaaaa","content":"x","other":1.5}]}
-{"version":3,"masterKeys":[{"id":"aaaaaaaaaaaaaaaaaaaaaaaaaaaaaaaa","content":"x"},{"id":"aaaaaaaaaaaaaaaaaaaaaaaaaaaaaaaa","content":"y"}]}"#;
+{"version":3,"masterKeys":[{"id":"aaaaaaaaaaaaaaaaaaaaaaaaaaaaaaaa","content":"x","other":1.5}]}"#;
 
 /// An info as Joplin's desktop client writes it, and the same compact, with sorted names.
 const JOPLIN: &str = r#"{
   "version": 3,
-  "ppk": {"value": {"id": "BIO3FFd2nwTLZzcTrr6Mrk", "keySize": 2048, "privateKey": {"encryptionMethod": 4, "ciphertext": "{\"iv\":\"a/b\"}"}, "createdTime": 1651058221212}, "updatedTime": 1651058221212},
-  "masterKeys": [{"source_application": "net.cozic.joplin-desktop", "id": "aaaaaaaaaaaaaaaaaaaaaaaaaaaaaaaa", "hasBeenUsed": true, "encryption_method": 4, "enabled": 1, "content": "{\"ct\":\"x\"}", "created_time": 1651058221212, "checksum": "", "updated_time": 1651058221213}],
+  "ppk": {
+    "value": {
+      "id": "BIO3FFd2nwTLZzcTrr6Mrk",
+      "keySize": 2048,
+      "privateKey": {"encryptionMethod": 4, "ciphertext": "{\"iv\":\"a/b\"}"},
+      "createdTime": 1651058221212
+    },
+    "updatedTime": 1651058221212
+  },
+  "masterKeys": [
+    {
+      "source_application": "net.cozic.joplin-desktop",
+      "id": "aaaaaaaaaaaaaaaaaaaaaaaaaaaaaaaa",
+      "hasBeenUsed": true,
+      "encryption_method": 4,
+      "enabled": 1,
+      "content": "{\"ct\":\"x\"}",
+      "created_time": 1651058221212,
+      "checksum": "",
+      "updated_time": 1651058221213
+    }
+  ],
   "e2ee": {"value": true, "updatedTime": 1651058221214},
   "appMinVersion": "3.0.0",
   "activeMasterKeyId": {"value": "aaaaaaaaaaaaaaaaaaaaaaaaaaaaaaaa", "updatedTime": 1651058221215}
 }"#;
 
-const JOPLIN_COMPACT: &str =
-    r#"{"activeMasterKeyId":{"updatedTime":1651058221215,"value":"aaaaaaaaaaaaaaaaaaaaaaaaaaaaaaaa"},"appMinVersion":"3.0.0","e2ee":{"updatedTime":1651058221214,"value":true},"masterKeys":[{"checksum":"","content":"{\"ct\":\"x\"}","created_time":1651058221212,"enabled":1,"encryption_method":4,"hasBeenUsed":true,"id":"aaaaaaaaaaaaaaaaaaaaaaaaaaaaaaaa","source_application":"net.cozic.joplin-desktop","updated_time":1651058221213}],"ppk":{"updatedTime":1651058221212,"value":{"createdTime":1651058221212,"id":"BIO3FFd2nwTLZzcTrr6Mrk","keySize":2048,"privateKey":{"ciphertext":"{\"iv\":\"a/b\"}","encryptionMethod":4}}},"version":3}"#;
+const JOPLIN_COMPACT: &str = concat!(
+    r#"{"activeMasterKeyId":{"updatedTime":1651058221215,"value":"aaaaaaaaaaaaaaaaaaaaaaaaaaaaaaaa"},"#,
+    r#""appMinVersion":"3.0.0","e2ee":{"updatedTime":1651058221214,"value":true},"#,
+    r#""masterKeys":[{"checksum":"","content":"{\"ct\":\"x\"}","created_time":1651058221212,"#,
+    r#""enabled":1,"encryption_method":4,"hasBeenUsed":true,"id":"aaaaaaaaaaaaaaaaaaaaaaaaaaaaaaaa","#,
+    r#""source_application":"net.cozic.joplin-desktop","updated_time":1651058221213}],"#,
+    r#""ppk":{"updatedTime":1651058221212,"value":{"createdTime":1651058221212,"#,
+    r#""id":"BIO3FFd2nwTLZzcTrr6Mrk","keySize":2048,"#,
+    r#""privateKey":{"ciphertext":"{\"iv\":\"a/b\"}","encryptionMethod":4}}},"version":3}"#
+);
 
-const NEW: &str =
-    r#"{"activeMasterKeyId":{"updatedTime":0,"value":""},"e2ee":{"updatedTime":0,"value":false},"masterKeys":[],"version":3}"#;
+const NEW: &str = concat!(
+    r#"{"activeMasterKeyId":{"updatedTime":0,"value":""},"e2ee":{"updatedTime":0,"value":false},"#,
+    r#""masterKeys":[],"version":3}"#
+);
 
 fn is_refused(alloc: Global, text: &[u8]) -> bool {
     matches!(read_info(alloc, text), Err(InfoErr::Bad(BadInfo)))
@@ -119,6 +159,7 @@ fn reads_infos(rt: HostRuntime) {
     for text in READ.lines() {
         assert!(rt; is_read(rt.alloc(), text.as_bytes()), "{text}");
     }
+    assert!(rt; is_read(rt.alloc(), TWO_KEYS.as_bytes()));
 }
 
 #[test]
@@ -126,6 +167,7 @@ fn refuses_what_is_none(rt: HostRuntime) {
     for text in REFUSED.lines() {
         assert!(rt; is_refused(rt.alloc(), text.as_bytes()), "{text}");
     }
+    assert!(rt; is_refused(rt.alloc(), ONE_ID_TWICE.as_bytes()));
 }
 
 /// An info with a member of lists in one another.

@@ -1,5 +1,6 @@
 ghost use Rattle.std.specs.Prelude.{◌≡◌, ◌++◌, codes};
 ghost use Rattle.std.specs.Fmt.{decimal};
+ghost use Rattle.jop_base.specs.LockNames.{file_name};
 ghost use Rattle.jop_base.specs.Writing.{WritesAll};
 ghost use Rattle.jop_cli.specs.Run.{Reports};
 ghost use Rattle.jop_cli.specs.Statuses.{line_of, row_of, why_text};
@@ -8,7 +9,7 @@ use crate::command::help::USAGE_LINE;
 use crate::piece::{Piece, write_pieces};
 use crate::status::Status;
 use item_text::BadWhy;
-use jop_base::{Failed, Id, Sink};
+use jop_base::{Failed, Id, LockName, Sink};
 
 /// Writes the line of the status on standard error, or as much of it as is taken.
 pub(crate) fn report<E: Sink>(err: &mut E, status: &Status)
@@ -24,16 +25,7 @@ fn write_line<E: Sink>(err: &mut E, status: &Status) -> Result<(), Failed>
     match status {
         Status::Ok => Ok(()),
         Status::Usage => write_pieces(err, &[Piece::Word(USAGE_LINE)]),
-        Status::Busy { lock, now: _ } => write_pieces(
-            err,
-            &[
-                Piece::Word("busy "),
-                Piece::Name(lock.name),
-                Piece::Word(" "),
-                Piece::Number(lock.stamp),
-                Piece::Word("\n"),
-            ],
-        ),
+        Status::Busy { lock, now: _ } => write_busy(err, lock.name, lock.stamp),
         Status::LeaseLost(_) => write_word(err, "lease lost"),
         Status::TargetOlder(version) => {
             write_within(err, "target version ", *version, " is older than 3")
@@ -63,6 +55,23 @@ fn write_line<E: Sink>(err: &mut E, status: &Status) -> Result<(), Failed>
         Status::NotEmpty(id) => write_id(err, "not empty ", *id),
         Status::NotText => write_word(err, "input is not text"),
     }
+}
+
+/// Writes the name of the lock that is in the way, and its stamp.
+fn write_busy<E: Sink>(err: &mut E, name: LockName, stamp: u64) -> Result<(), Failed>
+    ensures { let text = codes "busy " ++ (file_name name ++ (codes " " ++ decimal stamp)) in
+        WritesAll (E.state err.old) (line_of text) result (E.state err.new) }
+{
+    write_pieces(
+        err,
+        &[
+            Piece::Word("busy "),
+            Piece::Name(name),
+            Piece::Word(" "),
+            Piece::Number(stamp),
+            Piece::Word("\n"),
+        ],
+    )
 }
 
 /// Writes a word and the id that it is about.

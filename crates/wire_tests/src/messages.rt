@@ -67,53 +67,55 @@ fn is_seen(alloc: Global, text: &[u8], wanted: Seen) -> Result<bool, AllocError>
     Ok(seen(alloc, text)? == wanted)
 }
 
+/// Texts of requests, and what is read of each.
+const REQUESTS: [(&[u8], Seen); 24] = [
+    (b"GET /info.json HTTP/1.1\r\n\r\n", ("call", 27)),
+    (b"\r\nGET /info.json HTTP/1.0\n\n", ("call", 27)),
+    (b"GET /info.json HTTP/2.0\r\n\r\n", ("bad", 400)),
+    (b"GET /info.json\r\n\r\n", ("bad", 400)),
+    (b"GET /x HTTP/1.1\r\n\r\n", ("refused", 404)),
+    (b"GET /locks/ HTTP/1.1\r\n\r\n", ("refused", 404)),
+    (b"GET /info%2Ejson HTTP/1.1\r\n\r\n", ("refused", 404)),
+    (b"GET http://h/info.json HTTP/1.1\r\n\r\n", ("refused", 404)),
+    (b"GET /\xff", ("more", 0)),
+    (b"GET /\xff HTTP/1.1\r\n\r\n", ("bad", 400)),
+    (b"\x01", ("bad", 400)),
+    (b"", ("more", 0)),
+    (b"get /info.json HTTP/1.1\r\n\r\n", ("refused", 405)),
+    (b"OPTIONS / HTTP/1.1\r\n\r\n", ("refused", 405)),
+    (b"DELETE /info.json HTTP/1.1\r\n\r\n", ("call", 30)),
+    (b"MKCOL /locks/ HTTP/1.1\r\n\r\n", ("call", 26)),
+    (b"MKCOL /x/ HTTP/1.1\r\n\r\n", ("refused", 403)),
+    (b"PROPFIND /locks/ HTTP/1.1\r\n\r\n", ("refused", 400)),
+    (
+        b"PROPFIND /locks/ HTTP/1.1\r\nDepth: 0\r\n\r\n",
+        ("refused", 400),
+    ),
+    (
+        b"PROPFIND /locks/ HTTP/1.1\r\nDepth: infinity\r\n\r\n",
+        ("refused", 400),
+    ),
+    (
+        b"PROPFIND /locks/ HTTP/1.1\r\nDepth: 1\r\nDepth: 1\r\n\r\n",
+        ("refused", 400),
+    ),
+    (
+        b"PROPFIND /locks/ HTTP/1.1\r\ndepth:1 \r\n\r\n",
+        ("call", 39),
+    ),
+    (
+        b"PROPFIND /locks HTTP/1.1\r\nDepth: 1\r\n\r\n",
+        ("refused", 404),
+    ),
+    (
+        b"POST /x HTTP/1.1\r\nTransfer-Encoding: chunked\r\n\r\n",
+        ("bad", 400),
+    ),
+];
+
 #[test]
 fn requests_are_read_or_refused(rt: HostRuntime) -> Result<(), Fail> {
-    let rows: [(&[u8], Seen); 24] = [
-        (b"GET /info.json HTTP/1.1\r\n\r\n", ("call", 27)),
-        (b"\r\nGET /info.json HTTP/1.0\n\n", ("call", 27)),
-        (b"GET /info.json HTTP/2.0\r\n\r\n", ("bad", 400)),
-        (b"GET /info.json\r\n\r\n", ("bad", 400)),
-        (b"GET /x HTTP/1.1\r\n\r\n", ("refused", 404)),
-        (b"GET /locks/ HTTP/1.1\r\n\r\n", ("refused", 404)),
-        (b"GET /info%2Ejson HTTP/1.1\r\n\r\n", ("refused", 404)),
-        (b"GET http://h/info.json HTTP/1.1\r\n\r\n", ("refused", 404)),
-        (b"GET /\xff", ("more", 0)),
-        (b"GET /\xff HTTP/1.1\r\n\r\n", ("bad", 400)),
-        (b"\x01", ("bad", 400)),
-        (b"", ("more", 0)),
-        (b"get /info.json HTTP/1.1\r\n\r\n", ("refused", 405)),
-        (b"OPTIONS / HTTP/1.1\r\n\r\n", ("refused", 405)),
-        (b"DELETE /info.json HTTP/1.1\r\n\r\n", ("call", 30)),
-        (b"MKCOL /locks/ HTTP/1.1\r\n\r\n", ("call", 26)),
-        (b"MKCOL /x/ HTTP/1.1\r\n\r\n", ("refused", 403)),
-        (b"PROPFIND /locks/ HTTP/1.1\r\n\r\n", ("refused", 400)),
-        (
-            b"PROPFIND /locks/ HTTP/1.1\r\nDepth: 0\r\n\r\n",
-            ("refused", 400),
-        ),
-        (
-            b"PROPFIND /locks/ HTTP/1.1\r\nDepth: infinity\r\n\r\n",
-            ("refused", 400),
-        ),
-        (
-            b"PROPFIND /locks/ HTTP/1.1\r\nDepth: 1\r\nDepth: 1\r\n\r\n",
-            ("refused", 400),
-        ),
-        (
-            b"PROPFIND /locks/ HTTP/1.1\r\ndepth:1 \r\n\r\n",
-            ("call", 39),
-        ),
-        (
-            b"PROPFIND /locks HTTP/1.1\r\nDepth: 1\r\n\r\n",
-            ("refused", 404),
-        ),
-        (
-            b"POST /x HTTP/1.1\r\nTransfer-Encoding: chunked\r\n\r\n",
-            ("bad", 400),
-        ),
-    ];
-    for (text, wanted) in rows {
+    for (text, wanted) in REQUESTS {
         assert!(rt; is_seen(rt.alloc(), text, wanted)?);
     }
     Ok(())
@@ -135,42 +137,46 @@ fn is_put(alloc: Global, target: &[u8], lines: &[u8], wanted: Seen) -> Result<bo
     is_seen(alloc, head.as_slice(), wanted)
 }
 
+const INFO: &[u8] = b"/info.json";
+
+const BLOB: &[u8] = b"/.resource/11111111111111111111111111111111";
+
+/// Targets of puts, lines of their heads, and what is read of them.
+const LENGTHS: [(&[u8], &[u8], Seen); 17] = [
+    (INFO, b"", ("bad", 400)),
+    (INFO, b"Content-Length: 0\r\n", ("call", 46)),
+    (INFO, b"CONTENT-LENGTH:\t00 \r\n", ("call", 48)),
+    (INFO, b"Content-Length: 3\r\n", ("more", 3)),
+    (INFO, b"Content-Length: +1\r\n", ("bad", 400)),
+    (INFO, b"Content-Length: -1\r\n", ("bad", 400)),
+    (INFO, b"Content-Length: 1 1\r\n", ("bad", 400)),
+    (INFO, b"Content-Length: 0x1\r\n", ("bad", 400)),
+    (INFO, b"Content-Length:\r\n", ("bad", 400)),
+    (
+        INFO,
+        b"Content-Length: 0\r\nContent-Length: 0\r\n",
+        ("bad", 400),
+    ),
+    (
+        INFO,
+        b"Content-Length: 18446744073709551616\r\n",
+        ("bad", 400),
+    ),
+    (
+        INFO,
+        b"Content-Length: 18446744073709551615\r\n",
+        ("bad", 413),
+    ),
+    (INFO, b"Content-Length: 16777216\r\n", ("more", 16_777_216)),
+    (INFO, b"Content-Length: 16777217\r\n", ("bad", 413)),
+    (BLOB, b"Content-Length: 67108864\r\n", ("more", 67_108_864)),
+    (BLOB, b"Content-Length: 67108865\r\n", ("bad", 413)),
+    (b"/x", b"Content-Length: 0\r\n", ("refused", 403)),
+];
+
 #[test]
 fn lengths_are_read_or_refused(rt: HostRuntime) -> Result<(), Fail> {
-    let info: &[u8] = b"/info.json";
-    let blob: &[u8] = b"/.resource/11111111111111111111111111111111";
-    let rows: [(&[u8], &[u8], Seen); 17] = [
-        (info, b"", ("bad", 400)),
-        (info, b"Content-Length: 0\r\n", ("call", 46)),
-        (info, b"CONTENT-LENGTH:\t00 \r\n", ("call", 48)),
-        (info, b"Content-Length: 3\r\n", ("more", 3)),
-        (info, b"Content-Length: +1\r\n", ("bad", 400)),
-        (info, b"Content-Length: -1\r\n", ("bad", 400)),
-        (info, b"Content-Length: 1 1\r\n", ("bad", 400)),
-        (info, b"Content-Length: 0x1\r\n", ("bad", 400)),
-        (info, b"Content-Length:\r\n", ("bad", 400)),
-        (
-            info,
-            b"Content-Length: 0\r\nContent-Length: 0\r\n",
-            ("bad", 400),
-        ),
-        (
-            info,
-            b"Content-Length: 18446744073709551616\r\n",
-            ("bad", 400),
-        ),
-        (
-            info,
-            b"Content-Length: 18446744073709551615\r\n",
-            ("bad", 413),
-        ),
-        (info, b"Content-Length: 16777216\r\n", ("more", 16_777_216)),
-        (info, b"Content-Length: 16777217\r\n", ("bad", 413)),
-        (blob, b"Content-Length: 67108864\r\n", ("more", 67_108_864)),
-        (blob, b"Content-Length: 67108865\r\n", ("bad", 413)),
-        (b"/x", b"Content-Length: 0\r\n", ("refused", 403)),
-    ];
-    for (target, lines, wanted) in rows {
+    for (target, lines, wanted) in LENGTHS {
         assert!(rt; is_put(rt.alloc(), target, lines, wanted)?);
     }
     Ok(())
@@ -232,16 +238,18 @@ fn is_limited(alloc: Global, fields: u64, value: usize, wanted: Seen) -> Result<
     Ok(is_seen(alloc, head.as_slice(), wanted)? && is_more_when_cut(alloc, head.as_slice())?)
 }
 
+/// How many fields a head has, how long the value of one is in bytes, and what is read of it.
+const LIMITS: [(u64, usize, Seen); 5] = [
+    (1, 16_353, ("call", 16_384)),
+    (1, 16_354, ("bad", 400)),
+    (128, 0, ("call", 666)),
+    (129, 0, ("bad", 400)),
+    (3_000, 0, ("bad", 400)),
+];
+
 #[test]
 fn heads_have_their_limits(rt: HostRuntime) -> Result<(), Fail> {
-    let rows: [(u64, usize, Seen); 5] = [
-        (1, 16_353, ("call", 16_384)),
-        (1, 16_354, ("bad", 400)),
-        (128, 0, ("call", 666)),
-        (129, 0, ("bad", 400)),
-        (3_000, 0, ("bad", 400)),
-    ];
-    for (fields, value, wanted) in rows {
+    for (fields, value, wanted) in LIMITS {
         assert!(rt; is_limited(rt.alloc(), fields, value, wanted)?);
     }
     Ok(())
@@ -282,69 +290,72 @@ fn is_response(
     is_told(alloc, &Call::Get(Path::Info), head.as_slice(), wanted)
 }
 
+const DATE: &[u8] = b"Date: Thu, 01 Jan 1970 00:00:01 GMT\r\n";
+
+/// Lines of status, date and length of a response, and what is read of it.
+const RESPONSES: [(&[u8], &[u8], &[u8], Seen); 17] = [
+    (b"200 OK", DATE, b"Content-Length: 0\r\n", ("got", 1_000)),
+    (b"200", DATE, b"Content-Length: 0\r\n", ("got", 1_000)),
+    (b"200 OK", DATE, b"Content-Length: 3\r\n", ("more", 3)),
+    (b"404 No", DATE, b"Content-Length: 0\r\n", ("absent", 1_000)),
+    (
+        b"200 OK",
+        DATE,
+        b"Content-Length: 16777217\r\n",
+        ("too large", 16_777_217),
+    ),
+    (b"201 Created", DATE, b"Content-Length: 0\r\n", ("bad", 0)),
+    (b"500 No", DATE, b"Content-Length: 0\r\n", ("bad", 0)),
+    (b"200 OK", b"", b"Content-Length: 0\r\n", ("bad", 0)),
+    (
+        b"200 OK",
+        DATE,
+        b"Date: Thu, 01 Jan 1970 00:00:01 GMT\r\nContent-Length: 0\r\n",
+        ("bad", 0),
+    ),
+    (
+        b"200 OK",
+        b"Date: 1\r\n",
+        b"Content-Length: 0\r\n",
+        ("bad", 0),
+    ),
+    (
+        b"200 OK",
+        b"Date: Fri, 01 Jan 1970 00:00:01 GMT\r\n",
+        b"Content-Length: 0\r\n",
+        ("bad", 0),
+    ),
+    (
+        b"200 OK",
+        b"Date: Thu Jan  1 00:00:02 1970\r\n",
+        b"Content-Length: 0\r\n",
+        ("got", 2_000),
+    ),
+    (b"200 OK", DATE, b"", ("bad", 0)),
+    (b"200 OK", DATE, b"Content-Length: +1\r\n", ("bad", 0)),
+    (
+        b"200 OK",
+        DATE,
+        b"Content-Length: 0\r\nContent-Length: 0\r\n",
+        ("bad", 0),
+    ),
+    (
+        b"200 OK",
+        DATE,
+        b"Content-Length: 18446744073709551616\r\n",
+        ("bad", 0),
+    ),
+    (
+        b"200 OK",
+        DATE,
+        b"Transfer-Encoding: chunked\r\n",
+        ("bad", 0),
+    ),
+];
+
 #[test]
 fn responses_are_read_or_refused(rt: HostRuntime) -> Result<(), Fail> {
-    let date: &[u8] = b"Date: Thu, 01 Jan 1970 00:00:01 GMT\r\n";
-    let rows: [(&[u8], &[u8], &[u8], Seen); 17] = [
-        (b"200 OK", date, b"Content-Length: 0\r\n", ("got", 1_000)),
-        (b"200", date, b"Content-Length: 0\r\n", ("got", 1_000)),
-        (b"200 OK", date, b"Content-Length: 3\r\n", ("more", 3)),
-        (b"404 No", date, b"Content-Length: 0\r\n", ("absent", 1_000)),
-        (
-            b"200 OK",
-            date,
-            b"Content-Length: 16777217\r\n",
-            ("too large", 16_777_217),
-        ),
-        (b"201 Created", date, b"Content-Length: 0\r\n", ("bad", 0)),
-        (b"500 No", date, b"Content-Length: 0\r\n", ("bad", 0)),
-        (b"200 OK", b"", b"Content-Length: 0\r\n", ("bad", 0)),
-        (
-            b"200 OK",
-            date,
-            b"Date: Thu, 01 Jan 1970 00:00:01 GMT\r\nContent-Length: 0\r\n",
-            ("bad", 0),
-        ),
-        (
-            b"200 OK",
-            b"Date: 1\r\n",
-            b"Content-Length: 0\r\n",
-            ("bad", 0),
-        ),
-        (
-            b"200 OK",
-            b"Date: Fri, 01 Jan 1970 00:00:01 GMT\r\n",
-            b"Content-Length: 0\r\n",
-            ("bad", 0),
-        ),
-        (
-            b"200 OK",
-            b"Date: Thu Jan  1 00:00:02 1970\r\n",
-            b"Content-Length: 0\r\n",
-            ("got", 2_000),
-        ),
-        (b"200 OK", date, b"", ("bad", 0)),
-        (b"200 OK", date, b"Content-Length: +1\r\n", ("bad", 0)),
-        (
-            b"200 OK",
-            date,
-            b"Content-Length: 0\r\nContent-Length: 0\r\n",
-            ("bad", 0),
-        ),
-        (
-            b"200 OK",
-            date,
-            b"Content-Length: 18446744073709551616\r\n",
-            ("bad", 0),
-        ),
-        (
-            b"200 OK",
-            date,
-            b"Transfer-Encoding: chunked\r\n",
-            ("bad", 0),
-        ),
-    ];
-    for (status, date, lines, wanted) in rows {
+    for (status, date, lines, wanted) in RESPONSES {
         assert!(rt; is_response(rt.alloc(), (status, date, lines), wanted)?);
     }
     Ok(())

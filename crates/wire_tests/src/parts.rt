@@ -54,33 +54,35 @@ fn count_in(alloc: Global, files: &[(&[u8], &[u8])], end: &[u8]) -> Result<usize
     count_of(alloc, body.as_slice())
 }
 
+/// The files of a body, its end, and how many files it is read as, 9 if it is refused.
+const BODIES: [(&[(&[u8], &[u8])], &[u8], usize); 14] = [
+    (&[], ENDING, 0),
+    (&[(NOTE, SECOND)], ENDING, 1),
+    (&[(NOTE, SECOND), (LATER_NOTE, SECOND)], ENDING, 2),
+    // Falling, and twice the same.
+    (&[(LATER_NOTE, SECOND), (NOTE, SECOND)], ENDING, 9),
+    (&[(NOTE, SECOND), (NOTE, SECOND)], ENDING, 9),
+    // No path, another folder's, and a target with a percent sign.
+    (&[(b"/x", SECOND)], ENDING, 9),
+    (
+        &[(b"/locks/1_3_11111111111111111111111111111111.json", SECOND)],
+        ENDING,
+        9,
+    ),
+    (&[(b"/info%2Ejson", SECOND)], ENDING, 9),
+    // Other forms of dates.
+    (&[(NOTE, b"Thursday, 01-Jan-70 00:00:01 GMT")], ENDING, 9),
+    (&[(NOTE, b"Thu Jan  1 00:00:01 1970")], ENDING, 9),
+    (&[(NOTE, b"Fri, 01 Jan 1970 00:00:01 GMT")], ENDING, 9),
+    // Without its end, with a carriage return in it, and with a byte after it.
+    (&[(NOTE, SECOND)], b"", 9),
+    (&[(NOTE, SECOND)], b"</d:multistatus>\r\n", 9),
+    (&[(NOTE, SECOND)], b"</d:multistatus>\n\n", 9),
+];
+
 #[test]
 fn bodies_are_read_or_refused(rt: HostRuntime) -> Result<(), Fail> {
-    let rows: [(&[(&[u8], &[u8])], &[u8], usize); 14] = [
-        (&[], ENDING, 0),
-        (&[(NOTE, SECOND)], ENDING, 1),
-        (&[(NOTE, SECOND), (LATER_NOTE, SECOND)], ENDING, 2),
-        // Falling, and twice the same.
-        (&[(LATER_NOTE, SECOND), (NOTE, SECOND)], ENDING, 9),
-        (&[(NOTE, SECOND), (NOTE, SECOND)], ENDING, 9),
-        // No path, another folder's, and a target with a percent sign.
-        (&[(b"/x", SECOND)], ENDING, 9),
-        (
-            &[(b"/locks/1_3_11111111111111111111111111111111.json", SECOND)],
-            ENDING,
-            9,
-        ),
-        (&[(b"/info%2Ejson", SECOND)], ENDING, 9),
-        // Other forms of dates.
-        (&[(NOTE, b"Thursday, 01-Jan-70 00:00:01 GMT")], ENDING, 9),
-        (&[(NOTE, b"Thu Jan  1 00:00:01 1970")], ENDING, 9),
-        (&[(NOTE, b"Fri, 01 Jan 1970 00:00:01 GMT")], ENDING, 9),
-        // Without its end, with a carriage return in it, and with a byte after it.
-        (&[(NOTE, SECOND)], b"", 9),
-        (&[(NOTE, SECOND)], b"</d:multistatus>\r\n", 9),
-        (&[(NOTE, SECOND)], b"</d:multistatus>\n\n", 9),
-    ];
-    for (files, end, wanted) in rows {
+    for (files, end, wanted) in BODIES {
         assert_eq!(rt; count_in(rt.alloc(), files, end)?, wanted);
     }
     Ok(())
@@ -125,17 +127,19 @@ fn a_listing_is_written(rt: HostRuntime) -> Result<(), Fail> {
     Ok(())
 }
 
+/// Texts of dates, and the moments that they name.
+const DATES: [(&[u8], Option<u64>); 6] = [
+    (SECOND, Some(1_000)),
+    (b"Thursday, 01-Jan-70 00:00:01 GMT", Some(1_000)),
+    (b"Thu Jan  1 00:00:01 1970", Some(1_000)),
+    (b"Thu, 01 Jan 1970 00:00:01 UTC", None),
+    (b"1", None),
+    (b"", None),
+];
+
 #[test]
 fn dates_have_three_forms(rt: HostRuntime) {
-    let rows: [(&[u8], Option<u64>); 6] = [
-        (SECOND, Some(1_000)),
-        (b"Thursday, 01-Jan-70 00:00:01 GMT", Some(1_000)),
-        (b"Thu Jan  1 00:00:01 1970", Some(1_000)),
-        (b"Thu, 01 Jan 1970 00:00:01 UTC", None),
-        (b"1", None),
-        (b"", None),
-    ];
-    for (text, wanted) in rows {
+    for (text, wanted) in DATES {
         assert!(rt; read_moment(text) == wanted);
     }
 }
