@@ -108,10 +108,10 @@ fn meta<D: Queries>(alloc: Global, database: &mut D) -> Result<MetaRecord, Troub
 fn tables<S: Alter>(alloc: Global, database: &mut Connection<S>) -> Result<Tables, Trouble>
     ensures { IfOk result (λ tables. IsSound tables) }
 {
-    let meta = meta(alloc, database)?;
     let rows = all_of::<RowRecord, S>(alloc, database, ALL_ROWS)?;
     let deletions = all_of::<DeletionRecord, S>(alloc, database, ALL_DELETIONS)?;
     let conflicts = all_of::<NoteRecord, S>(alloc, database, ALL_CONFLICTS)?;
+    let meta = meta(alloc, database)?;
     let tables = meta.tables(alloc, in_order(rows), deletions, conflicts)?;
     Ok(tables)
 }

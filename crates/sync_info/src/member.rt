@@ -17,7 +17,7 @@ pub struct Member {
 }
 
 impl Member {
-    pub fn new(alloc: Global, name: &str, value: &Value) -> Result<Member, AllocError>
+    pub(crate) fn new(alloc: Global, name: &str, value: &Value) -> Result<Member, AllocError>
         requires { has_float (view value.now) ≡ false }
         ensures member { IfOk result (λ m. m
             ≡ record { name = name.now; json = compact_text (view value.now) }) }
