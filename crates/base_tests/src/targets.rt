@@ -168,12 +168,17 @@ const PLANNED_LINES: [&str; 4] = [
     "get 11111111111111111111111111111111.md: absent at 3",
 ];
 
+/// Whether a target that is given an item fails as it is planned then.
+fn comes_as_planned(alloc: Global, target: &mut MemTarget) -> Result<bool, Fail> {
+    place_item(alloc, target, id(ONES)?)?;
+    fail_twice(target)?;
+    are_written(alloc, target, &PLANNED_STEPS, &PLANNED_LINES)
+}
+
 /// Whether a target that holds an item fails as it was planned.
 fn fails_as_planned(alloc: Global) -> Result<bool, Fail> {
     let mut target = MemTarget::new(alloc, 0, 1);
-    place_item(alloc, &mut target, id(ONES)?)?;
-    fail_twice(&mut target)?;
-    are_written(alloc, &mut target, &PLANNED_STEPS, &PLANNED_LINES)
+    comes_as_planned(alloc, &mut target)
 }
 
 #[test]
@@ -339,16 +344,20 @@ const ASKED: [Asked; 5] = [
     },
 ];
 
-/// The first answer that a store of one item gives otherwise, or that the store isn't empty then.
-fn first_other_of_one(alloc: Global, id: Id) -> Result<&'static str, AllocError> {
-    let mut store = MemStore::new(alloc);
+/// The first answer that a store gives otherwise once it has an item, or that it isn't empty then.
+fn first_other_in(alloc: Global, store: &mut MemStore, id: Id) -> Result<&'static str, AllocError> {
     store.place(Path::Item(id), bytes_of(alloc, b"ab")?, 9)?;
-    let other = first_other(alloc, &mut store, id, &ASKED)?;
+    let other = first_other(alloc, store, id, &ASKED)?;
     Ok(if store.tree().files.is_empty() {
         other
     } else {
         "not empty"
     })
+}
+
+fn first_other_of_one(alloc: Global, id: Id) -> Result<&'static str, AllocError> {
+    let mut store = MemStore::new(alloc);
+    first_other_in(alloc, &mut store, id)
 }
 
 #[test]

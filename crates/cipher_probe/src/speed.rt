@@ -10,24 +10,50 @@ use std::time::Instant;
 /// The pieces of a note of 1 MiB.
 const PIECES: u32 = 210;
 
+/// What is measured.
+#[derive(Clone, Copy)]
+enum Job<'a> {
+    Ccm,
+    Turns,
+    Opening(&'a Jed),
+    Parts,
+}
+
+impl Job<'_> {
+    /// Does it, and gives a number that it made.
+    fn done(&self, alloc: Global) -> Result<u64, AllocError> {
+        match self {
+            Job::Ccm => Ok(u64::from(seal(alloc, 16_777_216)?)),
+            Job::Turns => Ok(u64::from(pbkdf2(b"password", b"saltsalt", 10_000)[0])),
+            Job::Opening(jed) => Ok(opened_len(alloc, jed) as u64),
+            Job::Parts => Ok(u64::from(parts(alloc)?)),
+        }
+    }
+}
+
+/// How many microseconds a job took, and the number that it made.
+fn time(rt: &HostRuntime, job: &Job<'_>) -> anyhow::Result<(u128, u64)> {
+    let start = Instant::now(rt)?;
+    let made = job.done(rt.alloc())?;
+    Ok((start.elapsed(rt)?.as_micros(), made))
+}
+
+/// Does each job once, and prints a line.
+fn time_all(rt: &HostRuntime, jed: &Jed) -> anyhow::Result<()> {
+    let (ccm, one) = time(rt, &Job::Ccm)?;
+    let (turns, two) = time(rt, &Job::Turns)?;
+    let (open, three) = time(rt, &Job::Opening(jed))?;
+    let (sum, four) = time(rt, &Job::Parts)?;
+    println!(rt; "{ccm} {turns} {open} {sum} {one} {two} {three} {four}")?;
+    Ok(())
+}
+
 pub(crate) fn speed(rt: &HostRuntime) -> anyhow::Result<()> {
     let Some(jed) = sealed_note(rt.alloc())? else {
         return Ok(());
     };
     for _ in 0..5 {
-        let start = Instant::now(rt)?;
-        let one = seal(rt.alloc(), 16_777_216)?;
-        let ccm = start.elapsed(rt)?.as_micros();
-        let start = Instant::now(rt)?;
-        let two = pbkdf2(b"password", b"saltsalt", 10_000)[0];
-        let turns = start.elapsed(rt)?.as_micros();
-        let start = Instant::now(rt)?;
-        let three = opened_len(rt.alloc(), &jed);
-        let open = start.elapsed(rt)?.as_micros();
-        let start = Instant::now(rt)?;
-        let four = parts(rt.alloc())?;
-        let sum = start.elapsed(rt)?.as_micros();
-        println!(rt; "{ccm} {turns} {open} {sum} {one} {two} {three} {four}")?;
+        time_all(rt, &jed)?;
     }
     Ok(())
 }

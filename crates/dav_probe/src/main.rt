@@ -7,6 +7,7 @@
 //! - `dav_probe listing` reads the response to a listing of the root, and prints how many files it has.
 #![tactic(auto)]
 
+ghost use Rattle.std.specs.Prelude.{List, ℕ};
 ghost use Rattle.jop_target.specs.Replies.{IsCallable};
 
 use dav_wire::{
@@ -106,21 +107,36 @@ fn answer(
     Ok(())
 }
 
+/// Makes a call without a blob.
+fn answer_plain(rt: &HostRuntime, target: &mut MemTarget, call: &Call) -> anyhow::Result<()>
+    requires { (blob : List ℕ) → IsCallable call.now blob }
+{
+    answer(rt, target, call, &mut Bytes::new(rt.alloc()))
+}
+
 fn responses(rt: &HostRuntime) -> anyhow::Result<()> {
-    let alloc = rt.alloc();
-    let mut target = MemTarget::new(alloc, 0, 1_000);
-    let mut none = Bytes::new(alloc);
-    let content = Bytes::from_vec(b"content".to_vec(alloc)?);
-    answer(rt, &mut target, &Call::MakeDir(Dir::Locks), &mut none)?;
-    answer(rt, &mut target, &Call::Put(Path::Info, content), &mut none)?;
-    answer(rt, &mut target, &Call::List(Dir::Root), &mut none)?;
-    answer(rt, &mut target, &Call::Get(Path::Info), &mut none)?;
-    answer(rt, &mut target, &Call::Delete(Path::Info), &mut none)?;
-    answer(rt, &mut target, &Call::Get(Path::Info), &mut none)?;
-    if let Some(id) = Id::read(b"11111111111111111111111111111111") {
-        blobs(rt, &mut target, id)?;
-    }
+    let mut target = MemTarget::new(rt.alloc(), 0, 1_000);
+    calls(rt, &mut target)?;
     refusals(rt)
+}
+
+fn put_info(rt: &HostRuntime, target: &mut MemTarget) -> anyhow::Result<()> {
+    let content = Bytes::from_vec(b"content".to_vec(rt.alloc())?);
+    answer_plain(rt, target, &Call::Put(Path::Info, content))
+}
+
+/// A call of each kind.
+fn calls(rt: &HostRuntime, target: &mut MemTarget) -> anyhow::Result<()> {
+    answer_plain(rt, target, &Call::MakeDir(Dir::Locks))?;
+    put_info(rt, target)?;
+    answer_plain(rt, target, &Call::List(Dir::Root))?;
+    answer_plain(rt, target, &Call::Get(Path::Info))?;
+    answer_plain(rt, target, &Call::Delete(Path::Info))?;
+    answer_plain(rt, target, &Call::Get(Path::Info))?;
+    match Id::read(b"11111111111111111111111111111111") {
+        Some(id) => blobs(rt, target, id),
+        None => Ok(()),
+    }
 }
 
 fn blobs(rt: &HostRuntime, target: &mut MemTarget, id: Id) -> anyhow::Result<()> {

@@ -46,25 +46,32 @@ fn number(rt: &HostRuntime, place: usize) -> anyhow::Result<Option<u64>> {
 
 /// Serves until it is ended.
 fn stand(rt: &HostRuntime, step: u64) -> anyhow::Result<()> {
-    let mut target = target(rt, step)?;
+    let mut target = MemTarget::new(rt.alloc(), 0, step);
+    stand_on(rt, &mut target)
+}
+
+fn stand_on(rt: &HostRuntime, target: &mut MemTarget) -> anyhow::Result<()> {
+    prepare(rt, target)?;
     let listener = TcpListener::bind(rt, "127.0.0.1:0")?;
     println!(rt; "port {}", listener.local_addr()?.port())?;
-    serve(rt.alloc(), &listener, &mut target);
+    serve(rt.alloc(), &listener, target);
     Ok(())
 }
 
-/// The target that the words ask for.
-fn target(rt: &HostRuntime, step: u64) -> anyhow::Result<MemTarget> {
-    let mut target = MemTarget::new(rt.alloc(), 0, step);
+/// Makes the target what the words ask for.
+fn prepare(rt: &HostRuntime, target: &mut MemTarget) -> anyhow::Result<()> {
     match word(rt, 2)?.as_deref() {
-        Some("busy") => hold_lock(rt.alloc(), &mut target)?,
-        Some("fail") => {
-            let nth = number(rt, 3)?.context("no number of a call")?;
-            target.fail(nth, false)?;
-        }
-        _ => {}
+        Some("busy") => hold_lock(rt.alloc(), target),
+        Some("fail") => fail_at(rt, target),
+        _ => Ok(()),
     }
-    Ok(target)
+}
+
+/// The call fails whose number the words name.
+fn fail_at(rt: &HostRuntime, target: &mut MemTarget) -> anyhow::Result<()> {
+    let nth = number(rt, 3)?.context("no number of a call")?;
+    target.fail(nth, false)?;
+    Ok(())
 }
 
 fn measure_calls(rt: &HostRuntime) -> anyhow::Result<()> {

@@ -19,17 +19,21 @@ pub fn measure(rt: &HostRuntime, address: &str, count: u64) -> anyhow::Result<()
     let alloc = rt.alloc();
     let link = TcpLink::new(rt.clone()?, Text::of(alloc, address)?);
     let mut target = DavTarget::new(link, Text::of(alloc, address)?);
-    let first = Id::read(FIRST).context("no id")?;
+    measure_on(rt, &mut target, count)
+}
 
+/// Puts so many files, and prints how many milliseconds that took; then gets them.
+fn measure_on<T: Target>(rt: &HostRuntime, target: &mut T, count: u64) -> anyhow::Result<()> {
+    let first = Id::read(FIRST).context("no id")?;
     let started = Instant::now(rt)?;
-    let failed = put_all(alloc, &mut target, first, count)?;
+    let failed = put_all(rt.alloc(), target, first, count)?;
     println!(rt;
         "puts: {} ms, {failed} failed",
         started.elapsed(rt)?.as_millis()
     )?;
 
     let started = Instant::now(rt)?;
-    let failed = get_all(alloc, &mut target, first, count)?;
+    let failed = get_all(rt.alloc(), target, first, count)?;
     println!(rt;
         "gets: {} ms, {failed} failed",
         started.elapsed(rt)?.as_millis()

@@ -24,11 +24,21 @@ fn main(rt: HostRuntime) -> Result<(), Trouble> {
     let verb = words.next();
     let file = words.next();
     let count = words.next();
-    let path = Text::of(rt.alloc(), file.as_deref().unwrap_or(""))?;
-    let mut keeper: Box<dyn Keeper> = Box::new(rt.alloc(), keeper_at(rt, path))?;
-    match verb.as_deref() {
-        Some("notes") => time_notes(&rt, &mut keeper, number(count.as_deref())),
-        Some("read") => time_reading(&rt, &mut keeper),
+    run(
+        &rt,
+        verb.as_deref().unwrap_or(""),
+        file.as_deref().unwrap_or(""),
+        number(count.as_deref()),
+    )
+}
+
+/// Does what a verb says on the keeper in a file.
+fn run(rt: &HostRuntime, verb: &str, file: &str, count: u64) -> Result<(), Trouble> {
+    let path = Text::of(rt.alloc(), file)?;
+    let mut keeper: Box<dyn Keeper> = Box::new(rt.alloc(), keeper_at(*rt, path))?;
+    match verb {
+        "notes" => time_notes(rt, &mut keeper, count),
+        "read" => time_reading(rt, &mut keeper),
         _ => Ok(println!(rt; "{USAGE}")?),
     }
 }

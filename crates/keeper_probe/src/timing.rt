@@ -17,7 +17,9 @@ fn open<K: Keeper>(rt: &HostRuntime, keeper: &mut K) -> Result<u128, Trouble> {
 /// Saves the note of this number, and answers the microseconds that the keeper took.
 fn save<K: Keeper>(rt: &HostRuntime, keeper: &mut K, number: u64) -> Result<u128, Trouble> {
     let change = note_saved(rt.alloc(), number)?;
-    commit(rt, keeper, &change)
+    let took = commit(rt, keeper, &change);
+    let_go(change);
+    took
 }
 
 fn commit<K: Keeper>(rt: &HostRuntime, keeper: &mut K, change: &Change) -> Result<u128, Trouble>

@@ -8,7 +8,7 @@ use crate::thing::Thing;
 use crate::trouble::Trouble;
 use jop_base::{Context, Seq, Text};
 use keeper_sqlite::keeper_at;
-use local_store::{Change, Content, Keeper, KeeperErr, MemKeeper};
+use local_store::{Change, Content, Keeper, KeeperErr, MemKeeper, let_go};
 use record_keeper::{MemRecords, RecordKeeper};
 use std::alloc::{AllocError, Global};
 use std::test::Fail;
@@ -167,7 +167,9 @@ impl Turn {
 fn commit<K: Keeper>(alloc: Global, keeper: &mut K, change: Change) -> Result<(), KeeperErr>
     requires { IsAllowed change }
 {
-    keeper.commit(alloc, &change)
+    let answer = keeper.commit(alloc, &change);
+    let_go(change);
+    answer
 }
 
 fn info_change(alloc: Global) -> Result<Change, Trouble>
@@ -198,10 +200,12 @@ struct Keepers {
 impl Drop for Keepers {
     fn drop(self) {
         let Keepers {
-            memory: _,
-            records: _,
+            memory,
+            records,
             path: _,
         } = self;
+        let_go(memory);
+        let_go(records);
     }
 }
 

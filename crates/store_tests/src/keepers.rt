@@ -5,35 +5,46 @@ ghost use Rattle.local_store.specs.Sound.{IsAllowed};
 use crate::named::{NOW, bytes, id, line, plain_mime};
 use jop_base::{Copied, Id};
 use local_changes::new_resource;
-use local_store::{Change, Keeper, KeeperErr, MemKeeper, Tables};
+use local_store::{Change, Keeper, KeeperErr, MemKeeper, Tables, let_go};
 use std::alloc::{AllocError, Global};
+use std::process::Abort;
 use std::test::Fail;
 
 /// Names the client `c..`. Whether that is answered so, and the client is known then.
 fn is_named(alloc: Global, keeper: &mut MemKeeper, answer: Result<(), KeeperErr>) -> bool {
     let client = id(b'c');
-    let came = keeper.commit(alloc, &Change::Named(client));
+    let change = Change::Named(client);
+    let came = keeper.commit(alloc, &change);
+    let_go(change);
     came == answer && keeper.tables().client == Some(client)
 }
 
 /// Who the client is, in a copy of what a keeper reads.
 fn client_read(alloc: Global, keeper: &mut MemKeeper) -> Result<Option<Id>, KeeperErr> {
     let tables = keeper.read(alloc)?;
-    let copy = tables.copy(alloc)?;
-    Ok(copy.client)
+    let copy = tables.copy(alloc);
+    let_go(tables);
+    let copy = copy?;
+    let client = copy.client;
+    let_go(copy);
+    Ok(client)
+}
+
+/// Of three calls the second fails.
+fn fail_once(rt: &impl Abort, alloc: Global, keeper: &mut MemKeeper) -> Result<(), Fail> {
+    keeper.fail(2)?;
+    for answer in [Ok(()), Err(KeeperErr::Fault), Ok(())] {
+        assert!(rt; is_named(alloc, keeper, answer));
+    }
+    assert!(rt; keeper.faults() == 1);
+    assert!(rt; client_read(alloc, keeper) == Ok(Some(id(b'c'))));
+    Ok(())
 }
 
 #[test]
 fn a_keeper_fails_when_it_is_planned(rt: HostRuntime) -> Result<(), Fail> {
-    let alloc = rt.alloc();
-    let mut keeper = MemKeeper::new(alloc);
-    keeper.fail(2)?;
-    for answer in [Ok(()), Err(KeeperErr::Fault), Ok(())] {
-        assert!(rt; is_named(alloc, &mut keeper, answer));
-    }
-    assert!(rt; keeper.faults() == 1);
-    assert!(rt; client_read(alloc, &mut keeper) == Ok(Some(id(b'c'))));
-    Ok(())
+    let mut keeper = MemKeeper::new(rt.alloc());
+    fail_once(&rt, rt.alloc(), &mut keeper)
 }
 
 /// A resource `d..` of this name.
@@ -50,7 +61,9 @@ fn save_name<K: Keeper>(alloc: Global, keeper: &mut K, name: &str) -> Result<(),
     requires { IsLine name.now }
 {
     let made = resource(alloc, name)?;
-    keeper.commit(alloc, &made)
+    let came = keeper.commit(alloc, &made);
+    let_go(made);
+    came
 }
 
 fn save_bytes<K: Keeper>(alloc: Global, keeper: &mut K, content: &[u8]) -> Result<(), KeeperErr> {

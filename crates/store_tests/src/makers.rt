@@ -9,6 +9,7 @@ use jop_base::{Id, MAX_TIME, Seq, Text};
 use local_changes::{ITEM_LIMIT, StoreErr, edited, free_id, new_note, removed, tagged};
 use local_store::{Change, Tables};
 use std::alloc::{AllocError, Global};
+use std::process::Abort;
 use std::test::Fail;
 
 /// Why a change isn't made.
@@ -54,17 +55,22 @@ fn is_too_large(cause: Option<StoreErr>) -> bool {
     }
 }
 
-#[test]
-fn a_refusal_names_its_cause(rt: HostRuntime) -> Result<(), Fail> {
-    let alloc = rt.alloc();
-    let tables = home(alloc, NOW)?;
+fn be_refused(rt: &impl Abort, alloc: Global, tables: &Tables) -> Result<(), Fail>
+    requires { IsSound tables.now }
+{
     let (note, book, none) = (id(b'a'), id(b'b'), id(b'9'));
-    assert!(rt; refused_note(alloc, &tables) == Ok(Some(StoreErr::NotFound(note))));
-    assert!(rt; cause(removed(&tables, none)) == Some(StoreErr::NotFound(none)));
-    assert!(rt; cause(removed(&tables, book)) == Some(StoreErr::NotEmpty(book)));
-    assert!(rt; is_too_large(refused_length(alloc, &tables)?));
+    assert!(rt; refused_note(alloc, tables) == Ok(Some(StoreErr::NotFound(note))));
+    assert!(rt; cause(removed(tables, none)) == Some(StoreErr::NotFound(none)));
+    assert!(rt; cause(removed(tables, book)) == Some(StoreErr::NotEmpty(book)));
+    assert!(rt; is_too_large(refused_length(alloc, tables)?));
     assert!(rt; refused_at_the_end(alloc) == Ok(Some(StoreErr::TimeEnd(note))));
     Ok(())
+}
+
+#[test]
+fn a_refusal_names_its_cause(rt: HostRuntime) -> Result<(), Fail> {
+    let tables = home(rt.alloc(), NOW)?;
+    be_refused(&rt, rt.alloc(), &tables)
 }
 
 /// When the note was last changed, in milliseconds since 1970.

@@ -5,7 +5,7 @@ ghost use Rattle.local_store.specs.Sound.{IsAllowed, IsSound};
 use crate::named::{bytes, id, line};
 use jop_base::Text;
 use local_changes::{StoreErr, edited, new_book, new_note, removed};
-use local_store::{Change, Tables};
+use local_store::{Change, Tables, let_go};
 use std::alloc::{AllocError, Global};
 
 /// What happens to a notebook `b..` and to a note `a..` in it.
@@ -73,7 +73,9 @@ fn apply(alloc: Global, tables: &mut Tables, change: Change) -> Result<(), Alloc
     requires allowed { IsAllowed change }
     ensures { IsSound tables.new }
 {
-    tables.apply(alloc, &change)
+    let applied = tables.apply(alloc, &change);
+    let_go(change);
+    applied
 }
 
 /// Takes a step at this time.

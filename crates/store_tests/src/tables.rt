@@ -1,7 +1,7 @@
 use crate::named::NOW;
 use crate::steps::{Step, change};
 use local_changes::StoreErr;
-use local_store::{Keeper, MemKeeper, Tables};
+use local_store::{Keeper, MemKeeper, Tables, let_go};
 use std::alloc::Global;
 use std::test::Fail;
 
@@ -19,7 +19,9 @@ fn counts(tables: &Tables) -> [usize; 4] {
 /// Takes a step. Whether the keeper made its change.
 fn is_made(alloc: Global, keeper: &mut MemKeeper, step: Step) -> Result<bool, StoreErr> {
     let change = change(alloc, keeper.tables(), step, NOW)?;
-    Ok(keeper.commit(alloc, &change) == Ok(()))
+    let came = keeper.commit(alloc, &change);
+    let_go(change);
+    Ok(came == Ok(()))
 }
 
 /// What is done with a notebook and a note, and how many rows, pending rows, deletions and conflict

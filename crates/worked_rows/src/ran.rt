@@ -80,6 +80,32 @@ pub(crate) fn run_over(
     obey(alloc, &words, target, input, out, &mut entropy)
 }
 
+/// What the words do on these: how they end, and their trail.
+fn told(
+    alloc: Global,
+    words: &Words,
+    target: &mut MemTarget,
+    input: &mut MemSource,
+    (out, err): (&mut MemSink, &mut MemSink),
+    entropy: &mut MemEntropy,
+) -> Result<(Status, String), AllocError> {
+    let mut diary = Diary::new(alloc);
+    let status = run(
+        alloc,
+        words,
+        &mut MemKeeper::new(alloc),
+        target,
+        input,
+        out,
+        err,
+        &mut MemClock::new(alloc, 1, 1),
+        entropy,
+        &mut diary,
+        &mut Changes::new(alloc),
+    );
+    Ok((status, trail_text(alloc, diary.events())?))
+}
+
 fn obey(
     alloc: Global,
     words: &Words,
@@ -89,21 +115,7 @@ fn obey(
     entropy: &mut MemEntropy,
 ) -> Result<Ran, AllocError> {
     let mut err = MemSink::new(alloc);
-    let mut diary = Diary::new(alloc);
-    let status = run(
-        alloc,
-        words,
-        &mut MemKeeper::new(alloc),
-        target,
-        input,
-        &mut out,
-        &mut err,
-        &mut MemClock::new(alloc, 1, 1),
-        entropy,
-        &mut diary,
-        &mut Changes::new(alloc),
-    );
-    let trail = trail_text(alloc, diary.events())?;
+    let (status, trail) = told(alloc, words, target, input, (&mut out, &mut err), entropy)?;
     Ok(Ran {
         status,
         out,

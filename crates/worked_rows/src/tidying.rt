@@ -194,14 +194,24 @@ fn target_of_one(alloc: Global) -> Result<MemTarget, AllocError> {
     Ok(target)
 }
 
+/// Whether these words end well over a note, without a call.
+fn ends_without_a_call(
+    alloc: Global,
+    list: &[&str],
+    target: &mut MemTarget,
+) -> Result<bool, AllocError> {
+    let mut input = source_of(alloc, NOTE.as_bytes())?;
+    let ran = run_over(alloc, list, target, &mut input, MemSink::new(alloc))?;
+    Ok(ran.status.exit() == 0 && ran.trail.is_empty())
+}
+
 /// Whether these words end well over a note, without a call, and leave a target of one file as it
 /// was.
 fn leaves_the_target(alloc: Global, list: &[&str]) -> Result<bool, AllocError> {
-    let mut input = source_of(alloc, NOTE.as_bytes())?;
     let mut target = target_of_one(alloc)?;
-    let ran = run_over(alloc, list, &mut target, &mut input, MemSink::new(alloc))?;
+    let ends = ends_without_a_call(alloc, list, &mut target)?;
     let kept = target.tree().files.len() == 1 && target.tree().folders.is_empty();
-    Ok(ran.status.exit() == 0 && ran.trail.is_empty() && kept)
+    Ok(ends && kept)
 }
 
 #[test]
