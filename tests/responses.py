@@ -1,5 +1,5 @@
 #!/usr/bin/env python3
-"""Reads the responses of `dav_probe responses` by http.client: responses.py FILE. Prints `all read` last."""
+"""Reads the responses of `probe responses` by http.client: responses.py FILE. Prints `all read` last."""
 import email.utils
 import http.client
 import io

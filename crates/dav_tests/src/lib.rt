@@ -1,4 +1,5 @@
-//! Tests of the client and the server of WebDAV, and of addresses, over public calls alone.
+//! Tests of WebDAV: of its messages and their parts, of the client and the server, and of addresses,
+//! over their public calls alone.
 #![tactic(auto)]
 
 #[cfg(test)]
@@ -9,6 +10,10 @@ mod client;
 mod drip_link;
 #[cfg(test)]
 mod loops;
+#[cfg(test)]
+mod messages;
+#[cfg(test)]
+mod parts;
 #[cfg(test)]
 mod server;
 #[cfg(test)]

@@ -20,6 +20,20 @@ fn refusal(alloc: Global, part: &str, other: &str) -> Result<Option<JedErr>, Fai
     Ok(read_chunk(alloc, text.as_bytes(), 3).err())
 }
 
+/// The first part of the table with which the good text is refused for something else, counted from 0.
+fn first_other(
+    alloc: Global,
+    table: &[(&str, &str)],
+    due: Option<JedErr>,
+) -> Result<Option<usize>, Fail> {
+    for (number, (part, other)) in table.iter().enumerate() {
+        if refusal(alloc, part, other)? != due {
+            return Ok(Some(number));
+        }
+    }
+    Ok(None)
+}
+
 #[test]
 fn what_is_written_is_read_back(rt: HostRuntime) -> Result<(), Fail> {
     let alloc = rt.alloc();
@@ -45,18 +59,21 @@ const OTHER_FORMS: [(&str, &str); 11] = [
 
 #[test]
 fn members_may_be_in_other_forms(rt: HostRuntime) -> Result<(), Fail> {
-    for (part, other) in OTHER_FORMS {
-        assert_eq!(rt; refusal(rt.alloc(), part, other)?, None, "{other}");
-    }
+    assert_eq!(rt; first_other(rt.alloc(), &OTHER_FORMS, None)?, None);
     Ok(())
 }
 
+const OTHER_MODES: [(&str, &str); 4] = [
+    ("ccm", "ocb2"),
+    ("ccm", "gcm"),
+    ("ccm", "CCM"),
+    ("ccm", ""),
+];
+
 #[test]
 fn another_mode_is_told_apart(rt: HostRuntime) -> Result<(), Fail> {
-    for other in ["ocb2", "gcm", "CCM", ""] {
-        let refused = refusal(rt.alloc(), "ccm", other)?;
-        assert_eq!(rt; refused, Some(JedErr::UnsupportedMode { n: 3 }));
-    }
+    let due = Some(JedErr::UnsupportedMode { n: 3 });
+    assert_eq!(rt; first_other(rt.alloc(), &OTHER_MODES, due)?, None);
     Ok(())
 }
 
@@ -93,9 +110,7 @@ const NO_CHUNKS: [(&str, &str); 27] = [
 
 #[test]
 fn what_is_no_chunk_is_refused(rt: HostRuntime) -> Result<(), Fail> {
-    for (part, other) in NO_CHUNKS {
-        let refused = refusal(rt.alloc(), part, other)?;
-        assert_eq!(rt; refused, Some(JedErr::BadChunk { n: 3 }), "{other}");
-    }
+    let due = Some(JedErr::BadChunk { n: 3 });
+    assert_eq!(rt; first_other(rt.alloc(), &NO_CHUNKS, due)?, None);
     Ok(())
 }

@@ -1,4 +1,5 @@
-use jed_format::{JedErr, read_chunk, read_jed, unescape, units_text};
+use crate::escapes::is_unescaped;
+use jed_format::{JedErr, read_chunk, read_jed, units_text};
 use std::alloc::Global;
 use std::test::*;
 
@@ -137,12 +138,16 @@ fn nested_and_huge_objects_are_refused(rt: HostRuntime) -> Result<(), Fail> {
     Ok(())
 }
 
+/// Whether the letters, so many times, are no escapes.
+fn stays(alloc: Global, letters: &str) -> Result<bool, Fail> {
+    let text = repeated(alloc, letters.as_bytes(), 10_000)?;
+    is_unescaped(alloc, &text, &text)
+}
+
 #[test]
 fn what_is_cut_short_stays(rt: HostRuntime) -> Result<(), Fail> {
     for letters in ["%u", "%u1", "%u12", "%u123", "%", "%1", "%%", "%u%u", "%g0"] {
-        let text = repeated(rt.alloc(), letters.as_bytes(), 10_000)?;
-        let units = unescape(rt.alloc(), &text)?;
-        assert_eq!(rt; units_text(rt.alloc(), &units)?.as_slice(), text.as_slice());
+        assert!(rt; stays(rt.alloc(), letters)?, "{letters}");
     }
     Ok(())
 }

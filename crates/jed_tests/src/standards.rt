@@ -1,6 +1,5 @@
 use aes_ccm::{Aes, CcmErr, ccm_open, ccm_seal, hmac, pbkdf2};
 use std::alloc::{AllocError, Global};
-use std::process::Abort;
 use std::test::Fail;
 
 /// The number that up to 16 bytes write, the first counting most.
@@ -20,6 +19,12 @@ fn split(bytes: &[u8], len: usize) -> (&[u8], &[u8]) {
 /// So many of the bytes, from this place on.
 fn part(bytes: &[u8], first: usize, len: usize) -> &[u8] {
     split(split(bytes, first).1, len).0
+}
+
+/// Whether these are the numbers that 32 bytes write, the first 16 and the others.
+fn are_halves(bytes: &[u8], first: u128, last: u128) -> bool {
+    let (front, back) = split(bytes, 16);
+    number(front) == first && number(back) == last
 }
 
 /// So many bytes that count up, from the first on.
@@ -90,25 +95,41 @@ const EXAMPLES: [Example; 3] = [
     },
 ];
 
-/// Seals the example's text, which is handed in, and opens it, with another tag and with its own. The parts
-/// stand among bytes that count up from 0.
-fn seals_and_opens(rt: &impl Abort, aes: &Aes, bytes: &[u8], example: &Example, text: &mut [u8]) {
-    let nonce = part(bytes, 0x10, example.nonce);
-    let adata = part(bytes, 0, example.adata);
-    let Ok(mut own) = ccm_seal(aes, nonce, adata, text, example.tag_len) else {
-        panic!(rt; "not sealed");
-    };
-    assert_eq!(rt; number(split(text, 16).0), example.sealed);
-    assert_eq!(rt; number(split(text, 16).1), example.tail);
-    assert_eq!(rt; number(split(&own, example.tag_len).0), example.tag);
-    own[3] ^= 1;
-    let refused = ccm_open(aes, nonce, adata, text, split(&own, example.tag_len).0);
-    assert_eq!(rt; refused, Err(CcmErr::BadTag));
-    assert_eq!(rt; number(split(text, 16).0), example.sealed);
-    own[3] ^= 1;
-    let opened = ccm_open(aes, nonce, adata, text, split(&own, example.tag_len).0);
-    assert_eq!(rt; opened, Ok(()));
-    assert_eq!(rt; &*text, part(bytes, 0x20, example.text));
+impl Example {
+    /// Whether a text was sealed so, with this tag.
+    fn is_sealed(&self, text: &[u8], tag: &[u8]) -> bool {
+        let (front, tail) = split(text, 16);
+        number(front) == self.sealed && number(tail) == self.tail && number(tag) == self.tag
+    }
+
+    /// What opening a sealed text comes to. The parts stand among bytes that count up from 0.
+    fn open(&self, aes: &Aes, bytes: &[u8], text: &mut [u8], tag: &[u8]) -> Result<(), CcmErr> {
+        let nonce = part(bytes, 0x10, self.nonce);
+        ccm_open(aes, nonce, part(bytes, 0, self.adata), text, tag)
+    }
+
+    /// Whether a sealed text isn't opened with another tag, and is with its own.
+    fn opens(&self, aes: &Aes, bytes: &[u8], text: &mut [u8], mut tag: [u8; 16]) -> bool {
+        tag[3] ^= 1;
+        let other = self.open(aes, bytes, text, split(&tag, self.tag_len).0);
+        tag[3] ^= 1;
+        let own = self.open(aes, bytes, text, split(&tag, self.tag_len).0);
+        other == Err(CcmErr::BadTag) && own == Ok(()) && &*text == part(bytes, 0x20, self.text)
+    }
+
+    /// Whether its text, which is handed in, is sealed so and opened again.
+    fn seals_and_opens(&self, aes: &Aes, bytes: &[u8], text: &mut [u8]) -> bool {
+        let (nonce, adata) = (part(bytes, 0x10, self.nonce), part(bytes, 0, self.adata));
+        let Ok(tag) = ccm_seal(aes, nonce, adata, text, self.tag_len) else {
+            return false;
+        };
+        self.is_sealed(text, split(&tag, self.tag_len).0) && self.opens(aes, bytes, text, tag)
+    }
+
+    fn comes_out(&self, alloc: Global, aes: &Aes, bytes: &[u8]) -> Result<bool, AllocError> {
+        let mut text = counting(alloc, 0x20, self.text)?;
+        Ok(self.seals_and_opens(aes, bytes, &mut text))
+    }
 }
 
 #[test]
@@ -116,8 +137,7 @@ fn texts_are_sealed_as_in_the_standard(rt: HostRuntime) -> Result<(), Fail> {
     let bytes = counting(rt.alloc(), 0, 0x50)?;
     let aes = Aes::new(part(&bytes, 0x40, 16)).ok_or("a key")?;
     for example in &EXAMPLES {
-        let mut text = counting(rt.alloc(), 0x20, example.text)?;
-        seals_and_opens(&rt, &aes, &bytes, example, &mut text);
+        assert!(rt; example.comes_out(rt.alloc(), &aes, &bytes)?);
     }
     Ok(())
 }
@@ -192,9 +212,7 @@ fn hmacs_are_those_of_the_standard(rt: HostRuntime) -> Result<(), Fail> {
             0x8e0bc6213728c5140546040f0ee37f54,
         ),
     ] {
-        let own = hmac(key, text.as_bytes());
-        assert_eq!(rt; number(split(&own, 16).0), first);
-        assert_eq!(rt; number(split(&own, 16).1), last);
+        assert!(rt; are_halves(&hmac(key, text.as_bytes()), first, last));
     }
     Ok(())
 }
@@ -219,7 +237,6 @@ fn keys_are_those_of_the_standard(rt: HostRuntime) {
             0x962893a001ce4e11a4963873aa98134a,
         ),
     ] {
-        assert_eq!(rt; number(split(&own, 16).0), first);
-        assert_eq!(rt; number(split(&own, 16).1), last);
+        assert!(rt; are_halves(&own, first, last));
     }
 }

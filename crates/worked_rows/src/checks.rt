@@ -1,7 +1,8 @@
-use crate::ran::{Due, Ran, run_once, run_over};
-use jop_base::{Bytes, Id, LockKind, LockName, MemSink, MemSource, Path};
+use crate::alone::Alone;
+use crate::client::source_of;
+use jop_base::{Bytes, Id, LockKind, LockName, Path};
 use jop_cli::Status;
-use jop_target::MemTarget;
+use jop_target::Event;
 use lease::Seen;
 use std::alloc::{AllocError, Global};
 use std::test::Fail;
@@ -10,59 +11,157 @@ const ONE: &str = "11111111111111111111111111111111";
 
 const TWO: &str = "22222222222222222222222222222222";
 
-const CHECK: [&str; 3] = ["check", "mem:", ONE];
+/// A lock of 1000, of this kind and client.
+type Standing = (LockKind, &'static str);
 
-const FREE: Due = Due {
-    exit: 0,
-    out: "free\n",
-    err: "",
-};
+/// A check of a target, and what is to come of it.
+#[derive(Clone, Copy)]
+struct Check {
+    what: &'static str,
+    /// What stands there before.
+    lock: Option<Standing>,
+    /// The moment of its first call, and how far each call is behind the last.
+    first: u64,
+    step: u64,
+    /// The call that fails, if one does.
+    fails: Option<u64>,
+    /// Its words, no input, its exit status and its text, with `|` between each two.
+    due: &'static str,
+    /// What it calls, an event a line.
+    trail: &'static str,
+    /// How many files stand there then.
+    left: usize,
+}
 
-const BUSY: Due = Due {
-    exit: 3,
-    out: "",
-    err: "busy 2_3_22222222222222222222222222222222.json 1000\n",
-};
+const CHECKS: [Check; 7] = [
+    Check {
+        what: "takes a lock, lists again and releases it",
+        lock: None,
+        first: 0,
+        step: 1,
+        fails: None,
+        due: "check mem: 11111111111111111111111111111111||0|free~",
+        trail: "\
+began
+make locks/: done at 0
+list locks/: listed at 1
+put locks/1_3_11111111111111111111111111111111.json, 71 bytes: done at 2
+list locks/: listed at 3, locks/1_3_11111111111111111111111111111111.json of 2
+delete locks/1_3_11111111111111111111111111111111.json: done at 4
+ended
+",
+        left: 0,
+    },
+    Check {
+        what: "names the live lock in the way",
+        lock: Some((LockKind::Exclusive, TWO)),
+        first: 180_998,
+        step: 1,
+        fails: None,
+        due: "check mem: 11111111111111111111111111111111||3|\
+            busy 2_3_22222222222222222222222222222222.json 1000~",
+        trail: "\
+began
+make locks/: done at 180998
+list locks/: listed at 180999, locks/2_3_22222222222222222222222222222222.json of 1000
+ended
+",
+        left: 1,
+    },
+    Check {
+        what: "passes by a lock at the end of its life",
+        lock: Some((LockKind::Exclusive, TWO)),
+        first: 180_999,
+        step: 1,
+        fails: None,
+        due: "check mem: 11111111111111111111111111111111||0|free~",
+        trail: "\
+began
+make locks/: done at 180999
+list locks/: listed at 181000, locks/2_3_22222222222222222222222222222222.json of 1000
+put locks/1_3_11111111111111111111111111111111.json, 71 bytes: done at 181001
+list locks/: listed at 181002, locks/1_3_11111111111111111111111111111111.json of 181001, \
+locks/2_3_22222222222222222222222222222222.json of 1000
+delete locks/1_3_11111111111111111111111111111111.json: done at 181003
+ended
+",
+        left: 1,
+    },
+    Check {
+        what: "overwrites its own leftover",
+        lock: Some((LockKind::Sync, ONE)),
+        first: 1500,
+        step: 1,
+        fails: None,
+        due: "check mem: 11111111111111111111111111111111||0|free~",
+        trail: "\
+began
+make locks/: done at 1500
+list locks/: listed at 1501, locks/1_3_11111111111111111111111111111111.json of 1000
+put locks/1_3_11111111111111111111111111111111.json, 71 bytes: done at 1502
+list locks/: listed at 1503, locks/1_3_11111111111111111111111111111111.json of 1502
+delete locks/1_3_11111111111111111111111111111111.json: done at 1504
+ended
+",
+        left: 0,
+    },
+    Check {
+        what: "calls nothing more after a failed call",
+        lock: None,
+        first: 0,
+        step: 1,
+        fails: Some(3),
+        due: "check mem: 11111111111111111111111111111111||9|target fault~",
+        trail: "\
+began
+make locks/: done at 0
+list locks/: listed at 1
+put locks/1_3_11111111111111111111111111111111.json, 71 bytes: failed
+ended
+",
+        left: 1,
+    },
+    Check {
+        what: "loses a lease that is shown too late",
+        lock: None,
+        first: 0,
+        step: 60_000,
+        fails: None,
+        due: "check mem: 11111111111111111111111111111111||4|lease lost~",
+        trail: "\
+began
+make locks/: done at 0
+list locks/: listed at 60000
+put locks/1_3_11111111111111111111111111111111.json, 71 bytes: done at 120000
+list locks/: listed at 180000, locks/1_3_11111111111111111111111111111111.json of 120000
+delete locks/1_3_11111111111111111111111111111111.json: done at 240000
+ended
+",
+        left: 0,
+    },
+    Check {
+        what: "keeps a lease that is shown in time",
+        lock: None,
+        first: 0,
+        step: 59_999,
+        fails: None,
+        due: "check mem: 11111111111111111111111111111111||0|free~",
+        trail: "\
+began
+make locks/: done at 0
+list locks/: listed at 59999
+put locks/1_3_11111111111111111111111111111111.json, 71 bytes: done at 119998
+list locks/: listed at 179997, locks/1_3_11111111111111111111111111111111.json of 119998
+delete locks/1_3_11111111111111111111111111111111.json: done at 239996
+ended
+",
+        left: 0,
+    },
+];
 
-const TARGET_FAULT: Due = Due {
-    exit: 9,
-    out: "",
-    err: "target fault\n",
-};
-
-const OUTPUT_FAULT: Due = Due {
-    exit: 12,
-    out: "",
-    err: "output fault\n",
-};
-
-/// The trail of a check that went well.
-const WHOLE_CHECK: &str = concat!(
-    "began\n",
-    "make locks/: done at 0\n",
-    "list locks/: listed at 1\n",
-    "put locks/1_3_11111111111111111111111111111111.json, 71 bytes: done at 2\n",
-    "list locks/: listed at 3, locks/1_3_11111111111111111111111111111111.json of 2\n",
-    "delete locks/1_3_11111111111111111111111111111111.json: done at 4\n",
-    "ended\n"
-);
-
-const BUSY_CHECK: &str = concat!(
-    "began\n",
-    "make locks/: done at 180998\n",
-    "list locks/: listed at 180999, locks/2_3_22222222222222222222222222222222.json of 1000\n",
-    "ended\n"
-);
-
-const FAILED_CHECK: &str = concat!(
-    "began\n",
-    "make locks/: done at 0\n",
-    "list locks/: listed at 1\n",
-    "put locks/1_3_11111111111111111111111111111111.json, 71 bytes: failed\n",
-    "ended\n"
-);
-
-fn lock(kind: LockKind, client: &str) -> Result<Path, Fail> {
+/// The file of a lock.
+fn path_of(lock: Standing) -> Result<Path, Fail> {
+    let (kind, client) = lock;
     Ok(Path::Lock(LockName {
         kind,
         client_type: 3,
@@ -70,144 +169,106 @@ fn lock(kind: LockKind, client: &str) -> Result<Path, Fail> {
     }))
 }
 
-/// A target with this lock of 1000, whose next moment is this one.
-fn target_with(alloc: Global, path: Path, next: u64) -> Result<MemTarget, AllocError> {
-    let mut target = MemTarget::new(alloc, next, 1);
-    target.place(path, Bytes::new(alloc), 1000)?;
-    Ok(target)
+/// The events of a trail, one a line.
+fn trail_text(alloc: Global, events: &[Event]) -> Result<String, AllocError> {
+    let mut text = String::new(alloc);
+    for event in events {
+        text.push_str(format!(in alloc; "{event}\n")?.as_str())?;
+    }
+    Ok(text)
 }
 
-/// Whether a check of this target comes to that, by these events, and leaves so many files there.
-fn check(
-    alloc: Global,
-    target: &mut MemTarget,
-    due: &Due,
-    trail: &str,
-    left: usize,
-) -> Result<bool, AllocError> {
-    let ran = run_once(alloc, &CHECK, target)?;
-    let files = target.tree().files.len();
-    Ok(ran.is(due) && ran.trail.as_str() == trail && files == left)
+impl Alone {
+    /// Whether the last command called this, an event a line.
+    fn has_called(&self, alloc: Global, trail: &str) -> Result<bool, AllocError> {
+        Ok(trail_text(alloc, self.client.diary.events())?.as_str() == trail)
+    }
+
+    fn place(&mut self, alloc: Global, lock: Option<Standing>) -> Result<(), Fail> {
+        if let Some(lock) = lock {
+            self.target.place(path_of(lock)?, Bytes::new(alloc), 1000)?;
+        }
+        Ok(())
+    }
+
+    fn fail(&mut self, nth: Option<u64>) -> Result<(), AllocError> {
+        match nth {
+            Some(nth) => self.target.fail(nth, true),
+            None => Ok(()),
+        }
+    }
+
+    fn comes_to(&mut self, alloc: Global, check: &Check) -> Result<bool, Fail> {
+        self.place(alloc, check.lock)?;
+        self.fail(check.fails)?;
+        let came = self.comes_out(alloc, check.due)?;
+        let called = self.has_called(alloc, check.trail)?;
+        Ok(came && called && self.target.tree().files.len() == check.left)
+    }
 }
 
-fn takes_a_lock(alloc: Global) -> Result<bool, AllocError> {
-    check(
-        alloc,
-        &mut MemTarget::new(alloc, 0, 1),
-        &FREE,
-        WHOLE_CHECK,
-        0,
-    )
-}
-
-#[test]
-fn takes_a_lock_lists_again_and_releases_it(rt: HostRuntime) -> Result<(), Fail> {
-    assert!(rt; takes_a_lock(rt.alloc())?);
-    Ok(())
-}
-
-fn finds_a_lock(alloc: Global) -> Result<bool, Fail> {
-    let mut target = target_with(alloc, lock(LockKind::Exclusive, TWO)?, 180_998)?;
-    Ok(check(alloc, &mut target, &BUSY, BUSY_CHECK, 1)?)
-}
-
-#[test]
-fn names_the_live_lock_in_the_way(rt: HostRuntime) -> Result<(), Fail> {
-    assert!(rt; finds_a_lock(rt.alloc())?);
-    Ok(())
-}
-
-/// Whether a target with this lock of 1000 is free from this moment on, and so many files are left.
-fn is_free(alloc: Global, path: Path, next: u64, left: usize) -> Result<bool, AllocError> {
-    let mut target = target_with(alloc, path, next)?;
-    let free = run_once(alloc, &CHECK, &mut target)?.is(&FREE);
-    Ok(free && target.tree().files.len() == left)
+fn comes_to(alloc: Global, check: &Check) -> Result<bool, Fail> {
+    let mut alone = Alone::new(alloc, check.first, check.step)?;
+    alone.comes_to(alloc, check)
 }
 
 #[test]
-fn passes_by_a_lock_at_the_end_of_its_life(rt: HostRuntime) -> Result<(), Fail> {
-    assert!(rt; is_free(rt.alloc(), lock(LockKind::Exclusive, TWO)?, 180_999, 1)?);
+fn a_check_comes_to_what_stands_there(rt: HostRuntime) -> Result<(), Fail> {
+    for check in &CHECKS {
+        assert!(rt; comes_to(rt.alloc(), check)?, "{}", check.what);
+    }
     Ok(())
 }
 
-#[test]
-fn overwrites_its_own_leftover(rt: HostRuntime) -> Result<(), Fail> {
-    assert!(rt; is_free(rt.alloc(), lock(LockKind::Sync, ONE)?, 1500, 0)?);
-    Ok(())
-}
+const CHECK: &str = "check mem: 11111111111111111111111111111111";
 
-fn stops_at_the_third_call(alloc: Global) -> Result<bool, AllocError> {
-    let mut target = MemTarget::new(alloc, 0, 1);
-    target.fail(3, true)?;
-    check(alloc, &mut target, &TARGET_FAULT, FAILED_CHECK, 1)
-}
+impl Alone {
+    fn check(&mut self, alloc: Global) -> Result<(), AllocError> {
+        let mut input = source_of(alloc, b"")?;
+        self.client.read(alloc, &mut self.target, CHECK, &mut input)
+    }
 
-#[test]
-fn calls_nothing_more_after_a_failed_call(rt: HostRuntime) -> Result<(), Fail> {
-    assert!(rt; stops_at_the_third_call(rt.alloc())?);
-    Ok(())
-}
+    /// Whether its lease was lost as a listing of 180,000 shows it.
+    fn has_lost(&self) -> bool {
+        let seen = Seen {
+            own: Some(120_000),
+            now: 180_000,
+            old_end: None,
+        };
+        self.client.status == Status::LeaseLost(seen)
+    }
 
-/// Whether these words mean nothing, and nothing is called.
-fn means_nothing(alloc: Global, list: &[&str]) -> Result<bool, AllocError> {
-    let ran = run_once(alloc, list, &mut MemTarget::new(alloc, 0, 1))?;
-    Ok(ran.status.exit() == 2 && ran.trail.is_empty())
-}
-
-#[test]
-fn refuses_words_that_mean_nothing(rt: HostRuntime) -> Result<(), Fail> {
-    assert!(rt; means_nothing(rt.alloc(), &[])?);
-    assert!(rt; means_nothing(rt.alloc(), &["check", "mem:"])?);
-    Ok(())
-}
-
-/// Whether the lease is lost as a listing of 180,000 shows it, and its lock is deleted.
-fn has_lost(ran: &Ran) -> bool {
-    let seen = Seen {
-        own: Some(120_000),
-        now: 180_000,
-        old_end: None,
-    };
-    let deleted = "delete locks/1_3_11111111111111111111111111111111.json: done at 240000\nended\n";
-    ran.status == Status::LeaseLost(seen)
-        && ran.err.written.as_slice() == b"lease lost\n".as_slice()
-        && ran.trail.as_str().ends_with(deleted)
+    /// Whether a check, of which the first write to standard output fails, tells so, and leaves no lock.
+    fn is_unheard(&mut self, alloc: Global) -> Result<bool, AllocError> {
+        self.client.out.fail(1)?;
+        self.check(alloc)?;
+        Ok(
+            self.client.status == Status::SinkFault
+                && self.has_told(b"output fault\n")
+                && self.target.tree().files.is_empty(),
+        )
+    }
 }
 
 fn loses_its_lease(alloc: Global) -> Result<bool, AllocError> {
-    let ran = run_once(alloc, &CHECK, &mut MemTarget::new(alloc, 0, 60_000))?;
-    Ok(has_lost(&ran))
-}
-
-fn keeps_its_lease(alloc: Global) -> Result<bool, AllocError> {
-    let ran = run_once(alloc, &CHECK, &mut MemTarget::new(alloc, 0, 59_999))?;
-    Ok(ran.is(&FREE))
+    let mut alone = Alone::new(alloc, 0, 60_000)?;
+    alone.check(alloc)?;
+    Ok(alone.has_lost())
 }
 
 #[test]
-fn loses_a_lease_that_is_shown_too_late(rt: HostRuntime) -> Result<(), Fail> {
+fn a_lost_lease_tells_what_was_seen(rt: HostRuntime) -> Result<(), Fail> {
     assert!(rt; loses_its_lease(rt.alloc())?);
-    assert!(rt; keeps_its_lease(rt.alloc())?);
     Ok(())
 }
 
-/// An output whose first write fails.
-fn failing_sink(alloc: Global) -> Result<MemSink, AllocError> {
-    let mut out = MemSink::new(alloc);
-    out.fail(1)?;
-    Ok(out)
-}
-
 fn tells_its_output_failed(alloc: Global) -> Result<bool, AllocError> {
-    let out = failing_sink(alloc)?;
-    let mut target = MemTarget::new(alloc, 0, 1);
-    let mut input = MemSource::new(alloc, Bytes::new(alloc));
-    let told = run_over(alloc, &CHECK, &mut target, &mut input, out)?.is(&OUTPUT_FAULT);
-    Ok(told && target.tree().files.is_empty())
+    let mut alone = Alone::new(alloc, 0, 1)?;
+    alone.is_unheard(alloc)
 }
 
 #[test]
-fn tells_a_failed_write_after_the_release(rt: HostRuntime) -> Result<(), Fail> {
+fn a_failed_write_is_told_after_the_release(rt: HostRuntime) -> Result<(), Fail> {
     assert!(rt; tells_its_output_failed(rt.alloc())?);
     Ok(())
 }

@@ -20,12 +20,11 @@ fn lock_name(kind: LockKind, digits: &[u8; 32]) -> Result<LockName, Fail> {
     })
 }
 
-/// A target on which another's sync lock was put at 5000, and whose next moment is this one.
-fn behind_a_sync_lock(alloc: Global, next: u64) -> Result<MemTarget, Fail> {
-    let mut target = MemTarget::new(alloc, next, 1);
+/// Puts another's sync lock of 5000 on a target.
+fn place_a_sync_lock(alloc: Global, target: &mut MemTarget) -> Result<(), Fail> {
     let path = Path::Lock(lock_name(LockKind::Sync, TWO)?);
     target.place(path, Bytes::new(alloc), 5000)?;
-    Ok(target)
+    Ok(())
 }
 
 /// Goes for an exclusive lock in a session of its own.
@@ -59,6 +58,12 @@ fn takes_an_exclusive_lock(rt: HostRuntime) -> Result<(), Fail> {
     Ok(())
 }
 
+/// What a client is answered that goes for an upgrade behind another's sync lock.
+fn answer_behind(alloc: Global, target: &mut MemTarget) -> Result<Result<Lease, LeaseErr>, Fail> {
+    place_a_sync_lock(alloc, target)?;
+    go_for_an_upgrade(alloc, target)
+}
+
 /// Whether the sync lock is in the way of a client whose first call has this moment, and its second
 /// one that.
 fn is_in_the_way(alloc: Global, first: u64, now: u64) -> Result<bool, Fail> {
@@ -66,13 +71,13 @@ fn is_in_the_way(alloc: Global, first: u64, now: u64) -> Result<bool, Fail> {
         name: lock_name(LockKind::Sync, TWO)?,
         stamp: 5000,
     };
-    let mut target = behind_a_sync_lock(alloc, first)?;
-    Ok(go_for_an_upgrade(alloc, &mut target)? == Err(LeaseErr::Busy { lock, now }))
+    let mut target = MemTarget::new(alloc, first, 1);
+    Ok(answer_behind(alloc, &mut target)? == Err(LeaseErr::Busy { lock, now }))
 }
 
 fn is_free(alloc: Global, first: u64) -> Result<bool, Fail> {
-    let mut target = behind_a_sync_lock(alloc, first)?;
-    Ok(go_for_an_upgrade(alloc, &mut target)?.is_ok())
+    let mut target = MemTarget::new(alloc, first, 1);
+    Ok(answer_behind(alloc, &mut target)?.is_ok())
 }
 
 #[test]

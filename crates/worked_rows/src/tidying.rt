@@ -1,6 +1,6 @@
-use crate::ran::{Due, run_once, run_over};
-use jop_base::{Bytes, MemSink, MemSource, Path};
-use jop_target::MemTarget;
+use crate::alone::Alone;
+use crate::client::source_of;
+use jop_base::{Bytes, MemSource, Path};
 use std::alloc::{AllocError, Global};
 use std::test::Fail;
 
@@ -9,36 +9,6 @@ const NOTE: &str =
 
 const NOTE_WITH_A_BAD_LINE: &[u8] =
     b"T\n\nid: aaaaaaaaaaaaaaaaaaaaaaaaaaaaaaaa\nlatitude: 0.00000000\nx_new: a:b\nbad line\ntype_: 1";
-
-const INPUT_FAULT: Due = Due {
-    exit: 11,
-    out: "",
-    err: "input fault\n",
-};
-
-const OUTPUT_FAULT: Due = Due {
-    exit: 12,
-    out: "",
-    err: "output fault\n",
-};
-
-const TOO_LARGE: Due = Due {
-    exit: 18,
-    out: "",
-    err: "too large 16777217\n",
-};
-
-const USAGE: Due = Due {
-    exit: 0,
-    out: "usage: jop [--profile PATH] COMMAND\n",
-    err: "",
-};
-
-fn source_of(alloc: Global, bytes: &[u8]) -> Result<MemSource, AllocError> {
-    let mut input = Bytes::new(alloc);
-    input.append(bytes)?;
-    Ok(MemSource::new(alloc, input))
-}
 
 /// A note with a body of a million bytes, which takes several reads.
 fn long_note(alloc: Global) -> Result<MemSource, AllocError> {
@@ -49,18 +19,31 @@ fn long_note(alloc: Global) -> Result<MemSource, AllocError> {
     Ok(MemSource::new(alloc, text))
 }
 
-/// Whether tidying this input, over an empty target, comes to that.
-fn tidies(alloc: Global, input: &mut MemSource, due: &Due) -> Result<bool, AllocError> {
-    let mut target = MemTarget::new(alloc, 0, 1);
-    let ran = run_over(alloc, &["tidy"], &mut target, input, MemSink::new(alloc))?;
-    Ok(ran.is(due))
+impl Alone {
+    /// The exit status of tidying an input.
+    fn tidy(&mut self, alloc: Global, input: &mut MemSource) -> Result<u8, AllocError> {
+        self.client.read(alloc, &mut self.target, "tidy", input)?;
+        Ok(self.client.status.exit())
+    }
 }
 
-/// The same of a text, of which nothing is left.
-fn tidies_text(alloc: Global, text: &[u8], due: &Due) -> Result<bool, AllocError> {
-    let mut input = source_of(alloc, text)?;
-    let told = tidies(alloc, &mut input, due)?;
-    Ok(told && input.left.as_slice().is_empty())
+/// Whether tidying this input prints that.
+fn prints(alloc: Global, input: &mut MemSource, text: &[u8]) -> Result<bool, AllocError> {
+    let mut alone = Alone::new(alloc, 0, 1)?;
+    Ok(alone.tidy(alloc, input)? == 0 && alone.has_printed(text))
+}
+
+/// Whether tidying this input ends with this exit status, and tells that.
+fn tells(alloc: Global, input: &mut MemSource, exit: u8, text: &[u8]) -> Result<bool, AllocError> {
+    let mut alone = Alone::new(alloc, 0, 1)?;
+    Ok(alone.tidy(alloc, input)? == exit && alone.has_told(text))
+}
+
+/// Whether tidying this text prints that, and leaves nothing of the input.
+fn prints_all(alloc: Global, text: &str, out: &str) -> Result<bool, AllocError> {
+    let mut input = source_of(alloc, text.as_bytes())?;
+    let printed = prints(alloc, &mut input, out.as_bytes())?;
+    Ok(printed && input.left.as_slice().is_empty())
 }
 
 const CANONICAL: [(&str, &str); 3] = [
@@ -72,41 +55,31 @@ const CANONICAL: [(&str, &str); 3] = [
 #[test]
 fn prints_the_canonical_text_and_nothing_more(rt: HostRuntime) -> Result<(), Fail> {
     for (text, out) in CANONICAL {
-        let due = Due {
-            exit: 0,
-            out,
-            err: "",
-        };
-        assert!(rt; tidies_text(rt.alloc(), text.as_bytes(), &due)?);
+        assert!(rt; prints_all(rt.alloc(), text, out)?);
     }
     Ok(())
 }
 
-const FIRST_FAULTS: [(&[u8], &str); 4] = [
-    (NOTE_WITH_A_BAD_LINE, "bad item line 6 no colon\n"),
-    (b"type_: 1\n", "bad item line 0 no type\n"),
-    (b"type_: 1000\nid:", "bad item line 1 type value\n"),
-    (b"\xff", "bad item line 0 not text\n"),
+const FIRST_FAULTS: [(&[u8], &[u8]); 4] = [
+    (NOTE_WITH_A_BAD_LINE, b"bad item line 6 no colon\n"),
+    (b"type_: 1\n", b"bad item line 0 no type\n"),
+    (b"type_: 1000\nid:", b"bad item line 1 type value\n"),
+    (b"\xff", b"bad item line 0 not text\n"),
 ];
+
+/// Whether this is told of a text, of which nothing is left.
+fn tells_of(alloc: Global, text: &[u8], fault: &[u8]) -> Result<bool, AllocError> {
+    let mut input = source_of(alloc, text)?;
+    let told = tells(alloc, &mut input, 21, fault)?;
+    Ok(told && input.left.as_slice().is_empty())
+}
 
 #[test]
 fn names_the_first_fault_of_a_text(rt: HostRuntime) -> Result<(), Fail> {
-    for (text, err) in FIRST_FAULTS {
-        let due = Due {
-            exit: 21,
-            out: "",
-            err,
-        };
-        assert!(rt; tidies_text(rt.alloc(), text, &due)?);
+    for (text, fault) in FIRST_FAULTS {
+        assert!(rt; tells_of(rt.alloc(), text, fault)?);
     }
     Ok(())
-}
-
-/// Whether this input ends well and comes out as this text.
-fn prints(alloc: Global, input: &mut MemSource, text: &[u8]) -> Result<bool, AllocError> {
-    let mut target = MemTarget::new(alloc, 0, 1);
-    let ran = run_over(alloc, &["tidy"], &mut target, input, MemSink::new(alloc))?;
-    Ok(ran.status.exit() == 0 && ran.out.written.as_slice() == text)
 }
 
 fn prints_a_long_note(alloc: Global) -> Result<bool, AllocError> {
@@ -124,7 +97,7 @@ fn reads_a_long_note_to_its_end(rt: HostRuntime) -> Result<(), Fail> {
 fn tells_a_failed_read(alloc: Global, nth: u64) -> Result<bool, AllocError> {
     let mut input = long_note(alloc)?;
     input.fail(nth)?;
-    tidies(alloc, &mut input, &INPUT_FAULT)
+    tells(alloc, &mut input, 11, b"input fault\n")
 }
 
 #[test]
@@ -139,7 +112,7 @@ fn prints_nothing_where_a_read_fails(rt: HostRuntime) -> Result<(), Fail> {
 fn stops_past_the_limit(alloc: Global) -> Result<bool, AllocError> {
     let long = Bytes::from_vec(vec![in alloc; b'x'; 16_777_219]?);
     let mut input = MemSource::new(alloc, long);
-    let told = tidies(alloc, &mut input, &TOO_LARGE)?;
+    let told = tells(alloc, &mut input, 18, b"too large 16777217\n")?;
     Ok(told && input.left.as_slice().len() == 2)
 }
 
@@ -149,12 +122,18 @@ fn refuses_an_input_past_its_limit(rt: HostRuntime) -> Result<(), Fail> {
     Ok(())
 }
 
+impl Alone {
+    /// Whether tidying a note tells that the first write to standard output failed.
+    fn tells_a_failed_write(&mut self, alloc: Global) -> Result<bool, AllocError> {
+        let mut input = source_of(alloc, NOTE.as_bytes())?;
+        self.client.out.fail(1)?;
+        Ok(self.tidy(alloc, &mut input)? == 12 && self.has_told(b"output fault\n"))
+    }
+}
+
 fn tells_its_output_failed(alloc: Global) -> Result<bool, AllocError> {
-    let mut input = source_of(alloc, NOTE.as_bytes())?;
-    let mut out = MemSink::new(alloc);
-    out.fail(1)?;
-    let mut target = MemTarget::new(alloc, 0, 1);
-    Ok(run_over(alloc, &["tidy"], &mut target, &mut input, out)?.is(&OUTPUT_FAULT))
+    let mut alone = Alone::new(alloc, 0, 1)?;
+    alone.tells_a_failed_write(alloc)
 }
 
 #[test]
@@ -163,62 +142,50 @@ fn tells_a_sink_that_takes_no_tidy_text(rt: HostRuntime) -> Result<(), Fail> {
     Ok(())
 }
 
-/// The exit status of these words, over an empty input.
-fn exit_of(alloc: Global, list: &[&str]) -> Result<u8, AllocError> {
-    let ran = run_once(alloc, list, &mut MemTarget::new(alloc, 0, 1))?;
-    Ok(ran.status.exit())
+/// A line a command: its words, its input, its exit status, and what it writes, in which `~` stands for
+/// a line feed. None calls its target.
+const UNCALLED: &str = "\
+help||0|usage: jop [--profile PATH] COMMAND~
+help|type_: 1|0|usage: jop [--profile PATH] COMMAND~
+tidy|type_: 1|0|type_: 1
+||2|usage: jop [--profile PATH] COMMAND~
+check mem:||2|usage: jop [--profile PATH] COMMAND~
+--help||2|usage: jop [--profile PATH] COMMAND~
+help tidy||2|usage: jop [--profile PATH] COMMAND~
+tidy tidy||2|usage: jop [--profile PATH] COMMAND~
+";
+
+impl Alone {
+    /// The target has one file, and no folder.
+    fn place_a_file(&mut self, alloc: Global) -> Result<(), AllocError> {
+        self.target.place(Path::Info, Bytes::new(alloc), 7)
+    }
+
+    /// Whether the target is so, and the last command called nothing.
+    fn is_uncalled(&self) -> bool {
+        let tree = self.target.tree();
+        tree.files.len() == 1 && tree.folders.is_empty() && self.client.diary.events().is_empty()
+    }
+
+    /// The first of the lines that comes out otherwise, or calls the target, counted from 0.
+    fn first_surprise(&mut self, alloc: Global) -> Result<Option<usize>, AllocError> {
+        self.place_a_file(alloc)?;
+        for (number, line) in UNCALLED.lines().enumerate() {
+            if !self.comes_out(alloc, line)? || !self.is_uncalled() {
+                return Ok(Some(number));
+            }
+        }
+        Ok(None)
+    }
 }
 
-fn prints_its_usage(alloc: Global) -> Result<bool, AllocError> {
-    Ok(run_once(alloc, &["help"], &mut MemTarget::new(alloc, 0, 1))?.is(&USAGE))
-}
-
-#[test]
-fn prints_how_it_is_called(rt: HostRuntime) -> Result<(), Fail> {
-    assert!(rt; prints_its_usage(rt.alloc())?);
-    Ok(())
-}
-
-#[test]
-fn takes_no_word_more_and_no_option(rt: HostRuntime) -> Result<(), Fail> {
-    assert_eq!(rt; exit_of(rt.alloc(), &["--help"])?, 2);
-    assert_eq!(rt; exit_of(rt.alloc(), &["help", "tidy"])?, 2);
-    assert_eq!(rt; exit_of(rt.alloc(), &["tidy", "tidy"])?, 2);
-    Ok(())
-}
-
-/// A target of one file.
-fn target_of_one(alloc: Global) -> Result<MemTarget, AllocError> {
-    let mut target = MemTarget::new(alloc, 0, 1);
-    target.place(Path::Info, Bytes::new(alloc), 7)?;
-    Ok(target)
-}
-
-/// Whether these words end well over a note, without a call.
-fn ends_without_a_call(
-    alloc: Global,
-    list: &[&str],
-    target: &mut MemTarget,
-) -> Result<bool, AllocError> {
-    let mut input = source_of(alloc, NOTE.as_bytes())?;
-    let ran = run_over(alloc, list, target, &mut input, MemSink::new(alloc))?;
-    Ok(ran.status.exit() == 0 && ran.trail.is_empty())
-}
-
-/// Whether these words end well over a note, without a call, and leave a target of one file as it
-/// was.
-fn leaves_the_target(alloc: Global, list: &[&str]) -> Result<bool, AllocError> {
-    let mut target = target_of_one(alloc)?;
-    let ends = ends_without_a_call(alloc, list, &mut target)?;
-    let kept = target.tree().files.len() == 1 && target.tree().folders.is_empty();
-    Ok(ends && kept)
+fn first_surprise(alloc: Global) -> Result<Option<usize>, AllocError> {
+    let mut alone = Alone::new(alloc, 0, 1)?;
+    alone.first_surprise(alloc)
 }
 
 #[test]
-fn calls_a_target_for_a_check_alone(rt: HostRuntime) -> Result<(), Fail> {
-    let check = ["check", "mem:", "11111111111111111111111111111111"];
-    assert!(rt; leaves_the_target(rt.alloc(), &["help"])?);
-    assert!(rt; leaves_the_target(rt.alloc(), &["tidy"])?);
-    assert!(rt; !leaves_the_target(rt.alloc(), &check)?);
+fn calls_a_target_for_no_other_words(rt: HostRuntime) -> Result<(), Fail> {
+    assert_eq!(rt; first_surprise(rt.alloc())?, None);
     Ok(())
 }

@@ -1,0 +1,43 @@
+//! Worked cases of what sessions do, over targets and keepers in memory: [`upload::upload_all`],
+//! [`download::apply_page`] and [`upload::delete_all`], and [`sync_run::upgrade_on`], alone, broken off at
+//! each call, and beside what other clients do.
+#![tactic(auto)]
+
+#[cfg(test)]
+mod broken;
+#[cfg(test)]
+mod deletions;
+#[cfg(test)]
+mod emptied;
+#[cfg(test)]
+mod folders;
+#[cfg(test)]
+mod moments;
+#[cfg(test)]
+mod overfull;
+#[cfg(test)]
+mod pages;
+#[cfg(test)]
+mod resources;
+#[cfg(test)]
+mod texts;
+#[cfg(test)]
+mod turns;
+#[cfg(test)]
+mod upgrade_answers;
+#[cfg(test)]
+mod upgraded;
+#[cfg(test)]
+mod upgrades_beside;
+#[cfg(test)]
+mod upgrades_redone;
+#[cfg(test)]
+mod uploads_beside;
+#[cfg(test)]
+mod uploads_broken;
+#[cfg(test)]
+mod uploads_of_bytes;
+#[cfg(test)]
+mod uploads_of_folders;
+#[cfg(test)]
+mod uploads_of_rows;
