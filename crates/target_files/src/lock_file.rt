@@ -2,7 +2,7 @@ ghost use Rattle.std.specs.Prelude.{◌≤◌, IfOk};
 ghost use Rattle.jop_base.specs.declared.time.TheConstants.{MAX_TIME};
 
 use crate::moment::stamp_of;
-use crate::named::{Named, TRIES, is_still, open_named};
+use crate::named::{Named, TRIES, is_unchanged, open_named};
 use crate::trouble::{Trouble, created};
 use std::fs;
 use std::fs::{File, Metadata, OpenFile, OpenOptions};
@@ -45,33 +45,40 @@ fn open_in_place<R: Files>(rt: &R, name: &str) -> Result<InPlace<R::File>, Troub
 fn open_or_make<R: Files>(rt: &R, name: &str) -> Result<Option<InPlace<R::File>>, Trouble> {
     let mut how = OpenOptions::new();
     how.write(true);
-    let (file, is_new) = match open_named(rt, &how, name)? {
-        Named::Nothing => (created(File::create_new(rt, name))?, true),
-        Named::NoFile => return Err(Trouble::Fault),
-        Named::File(file, metadata) => (alone(rt, name, file, &metadata)?, false),
-    };
-    match file {
-        Some(file) => Ok(Some(InPlace { file, is_new })),
+    match open_named(rt, &how, name)? {
+        Named::Nothing => make(rt, name),
+        Named::NoFile => Err(Trouble::Fault),
+        Named::File(_, metadata) if metadata.nlink() > 1 => Err(Trouble::Fault),
+        Named::File(file, metadata) => make_or_take(rt, name, file, &metadata),
+    }
+}
+
+/// Makes the file, which never is what a link of that name leads to. None where something bears the name.
+fn make<R: Files>(rt: &R, name: &str) -> Result<Option<InPlace<R::File>>, Trouble> {
+    match created(File::create_new(rt, name))? {
+        Some(file) => Ok(Some(InPlace { file, is_new: true })),
         None => Ok(None),
     }
 }
 
-/// A file that bears this name and no other. It looks a second time, since the name may have been another file's, which
-/// a link led to when it was opened. None where the name is no longer its.
-fn alone<R: Files>(
+/// Makes the file, or takes the one that was opened if the name is still its and nothing of it was changed meanwhile.
+/// That one may be another's, which a link led to, or which had a second name that is being taken away: the system
+/// counts that no more and finds it still, but makes no file in the folder before it is gone. None where the name is
+/// another's.
+fn make_or_take<R: Files>(
     rt: &R,
     name: &str,
     file: R::File,
-    metadata: &Metadata,
-) -> Result<Option<R::File>, Trouble> {
-    if metadata.nlink() > 1 {
-        return Err(Trouble::Fault);
+    opened: &Metadata,
+) -> Result<Option<InPlace<R::File>>, Trouble> {
+    let made = make(rt, name)?;
+    if made.is_none() && is_unchanged(rt, name, opened)? {
+        return Ok(Some(InPlace {
+            file,
+            is_new: false,
+        }));
     }
-    if is_still(rt, name, metadata)? {
-        Ok(Some(file))
-    } else {
-        Ok(None)
-    }
+    Ok(made)
 }
 
 /// Gives a file this content, flushes it, and answers when it was written.

@@ -60,12 +60,21 @@ fn is_same(seen: &Metadata, opened: &Metadata) -> bool {
     seen.dev() == opened.dev() && seen.ino() == opened.ino() && seen.nlink() == opened.nlink()
 }
 
-/// Whether the name is still borne by the file that was opened.
-pub(crate) fn is_still<R: Files>(rt: &R, name: &str, opened: &Metadata) -> Result<bool, Trouble> {
+/// Whether the name is still borne by the file that was opened, and neither its bytes nor its names were changed since.
+pub(crate) fn is_unchanged<R: Files>(
+    rt: &R,
+    name: &str,
+    opened: &Metadata,
+) -> Result<bool, Trouble> {
     match found(fs::symlink_metadata(rt, name))? {
-        Some(seen) => Ok(is_same(&seen, opened)),
+        Some(seen) => Ok(is_same(&seen, opened) && changed_at(&seen) == changed_at(opened)),
         None => Ok(false),
     }
+}
+
+/// When a file's bytes, rights or names were last changed, in seconds since 1970, and nanoseconds.
+fn changed_at(metadata: &Metadata) -> (i64, i64) {
+    (metadata.ctime(), metadata.ctime_nsec())
 }
 
 /// Whether a file bears the name, and no link to one.
