@@ -1,4 +1,4 @@
-use crate::texts::{A, B, OLD_A, OLD_B};
+use crate::texts::{A, B, OLD_A, OLD_B, R, RESOURCE};
 use jop_base::Bytes;
 use jop_target::MemTarget;
 use std::alloc::Global;
@@ -6,10 +6,6 @@ use std::test::Fail;
 use worked_client::{
     BrokenOff, Client, OWN, Part, Place, Standing, Step, Text, place_bytes, target_of,
 };
-
-const R: &str = "dddddddddddddddddddddddddddddddd";
-
-const RESOURCE: &str = "R\n\nid: dddddddddddddddddddddddddddddddd\ntype_: 4";
 
 /// A note and a resource were removed, and another note wasn't.
 const STEPS: [Step; 5] = [

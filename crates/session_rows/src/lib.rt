@@ -4,21 +4,21 @@
 #![tactic(auto)]
 
 #[cfg(test)]
-mod broken;
-#[cfg(test)]
 mod deletions;
 #[cfg(test)]
-mod emptied;
+mod downloads_broken;
 #[cfg(test)]
-mod folders;
+mod downloads_of_bytes;
 #[cfg(test)]
-mod moments;
+mod downloads_of_folders;
+#[cfg(test)]
+mod downloads_of_moments;
+#[cfg(test)]
+mod downloads_of_nothing;
+#[cfg(test)]
+mod downloads_of_rows;
 #[cfg(test)]
 mod overfull;
-#[cfg(test)]
-mod pages;
-#[cfg(test)]
-mod resources;
 #[cfg(test)]
 mod texts;
 #[cfg(test)]

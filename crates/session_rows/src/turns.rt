@@ -1,10 +1,8 @@
-use crate::texts::{A, MY_A, OLD_A, THEIR_A};
+use crate::texts::{A, MY_A, OLD_A, OTHER, THEIR_A};
 use jop_target::MemTarget;
 use std::alloc::Global;
 use std::test::Fail;
 use worked_client::{BrokenOff, Client, OWN, Part, Place, Standing, Step, counts, target_of};
-
-const OTHER: &str = "22222222222222222222222222222222";
 
 const MINE: Standing = Standing {
     rows: &[(A, MY_A, false)],

@@ -2,6 +2,7 @@ ghost use Rattle.std.specs.Prelude.{◌≡◌, true, IfOk};
 ghost use Rattle.std.specs.List.{list_all};
 ghost use Rattle.scripted_target.specs.Script.{is_plain, is_scriptable};
 
+use crate::texts::{A, F, FOLDER, RENAMED};
 use jop_base::{Bytes, Path};
 use jop_target::Call;
 use scripted_target::ScriptedTarget;
@@ -10,10 +11,6 @@ use std::test::Fail;
 use worked_client::{
     BrokenOff, Client, OWN, Part, Standing, Step, Text, counts, holds, id_of, target_of,
 };
-
-const A: &str = "aaaaaaaaaaaaaaaaaaaaaaaaaaaaaaaa";
-
-const F: &str = "ffffffffffffffffffffffffffffffff";
 
 const OLD: &str = concat!(
     "A\n\nold\n\nid: aaaaaaaaaaaaaaaaaaaaaaaaaaaaaaaa\n",
@@ -29,10 +26,6 @@ const THEIRS: &str = concat!(
     "A\n\ntheirs\n\nid: aaaaaaaaaaaaaaaaaaaaaaaaaaaaaaaa\n",
     "parent_id: ffffffffffffffffffffffffffffffff\ntype_: 1"
 );
-
-const FOLDER: &str = "F\n\nid: ffffffffffffffffffffffffffffffff\ntype_: 2";
-
-const RENAMED: &str = "G\n\nid: ffffffffffffffffffffffffffffffff\ntype_: 2";
 
 /// A note was edited, and its folder renamed.
 const STEPS: [Step; 4] = [

@@ -1,26 +1,7 @@
+use crate::texts::{A, B, C, MY_A, MY_B, MY_C, OLD_A, OLD_B, OLD_C, THEIR_B};
 use std::alloc::Global;
 use std::test::Fail;
 use worked_client::{BrokenOff, Part, Place, Standing, Step, Text};
-
-const A: &str = "aaaaaaaaaaaaaaaaaaaaaaaaaaaaaaaa";
-
-const B: &str = "bbbbbbbbbbbbbbbbbbbbbbbbbbbbbbbb";
-
-const C: &str = "cccccccccccccccccccccccccccccccc";
-
-const OLD_A: &str = "A\n\nold\n\nid: aaaaaaaaaaaaaaaaaaaaaaaaaaaaaaaa\ntype_: 1";
-
-const MY_A: &str = "A\n\nmine\n\nid: aaaaaaaaaaaaaaaaaaaaaaaaaaaaaaaa\ntype_: 1";
-
-const OLD_B: &str = "B\n\nold\n\nid: bbbbbbbbbbbbbbbbbbbbbbbbbbbbbbbb\ntype_: 1";
-
-const MY_B: &str = "B\n\nmine\n\nid: bbbbbbbbbbbbbbbbbbbbbbbbbbbbbbbb\ntype_: 1";
-
-const THEIR_B: &str = "B\n\ntheirs\n\nid: bbbbbbbbbbbbbbbbbbbbbbbbbbbbbbbb\ntype_: 1";
-
-const OLD_C: &str = "C\n\nold\n\nid: cccccccccccccccccccccccccccccccc\ntype_: 1";
-
-const MY_C: &str = "C\n\nmine\n\nid: cccccccccccccccccccccccccccccccc\ntype_: 1";
 
 /// Three notes are edited.
 const STEPS: [Step; 6] = [

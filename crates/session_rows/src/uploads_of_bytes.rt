@@ -1,10 +1,7 @@
+use crate::texts::{R, RESOURCE};
 use std::alloc::Global;
 use std::test::Fail;
 use worked_client::{BrokenOff, Part, Place, Step, holds, size_of};
-
-const R: &str = "cccccccccccccccccccccccccccccccc";
-
-const RESOURCE: &str = "R\n\nid: cccccccccccccccccccccccccccccccc\ntype_: 4";
 
 /// A client that has a new resource with five bytes, and an empty target.
 fn make_place(alloc: Global) -> Result<Place, BrokenOff> {

@@ -1,24 +1,6 @@
+use crate::texts::{A, ALIKE_A, MY_A, OLD_A, SEALED_A, THEIR_A};
 use std::test::Fail;
 use worked_client::{Case, Part, Standing, Step, first_other};
-
-const A: &str = "aaaaaaaaaaaaaaaaaaaaaaaaaaaaaaaa";
-
-const OLD: &str = "T\n\nold\n\nid: aaaaaaaaaaaaaaaaaaaaaaaaaaaaaaaa\nupdated_time: 1\ntype_: 1";
-
-const MINE: &str = "T\n\nmine\n\nid: aaaaaaaaaaaaaaaaaaaaaaaaaaaaaaaa\nupdated_time: 2\ntype_: 1";
-
-const THEIRS: &str =
-    "T\n\ntheirs\n\nid: aaaaaaaaaaaaaaaaaaaaaaaaaaaaaaaa\nupdated_time: 3\ntype_: 1";
-
-/// My text, at another time.
-const ALIKE: &str = "T\n\nmine\n\nid: aaaaaaaaaaaaaaaaaaaaaaaaaaaaaaaa\nupdated_time: 4\ntype_: 1";
-
-const SEALED: &str = concat!(
-    "id: aaaaaaaaaaaaaaaaaaaaaaaaaaaaaaaa\n",
-    "encryption_cipher_text: JED01\n",
-    "encryption_applied: 1\n",
-    "type_: 1"
-);
 
 const OLD_TAG: &str = "old\n\nid: aaaaaaaaaaaaaaaaaaaaaaaaaaaaaaaa\ntype_: 5";
 
@@ -28,33 +10,33 @@ const THEIR_TAG: &str = "theirs\n\nid: aaaaaaaaaaaaaaaaaaaaaaaaaaaaaaaa\ntype_: 
 
 /// The row is mine, and waits no more.
 const PUT: Standing = Standing {
-    rows: &[(A, MINE, false)],
+    rows: &[(A, MY_A, false)],
     copies: &[],
 };
 
 const UNCHANGED_FILES: [Case; 3] = [
     Case {
         name: "a new note",
-        steps: &[Step::Save(A, MINE)],
+        steps: &[Step::Save(A, MY_A)],
         files: &[],
         standing: PUT,
-        left: &[(A, MINE)],
+        left: &[(A, MY_A)],
         counts: [1, 0, 0, 0, 0, 0],
     },
     Case {
         name: "an edited note",
-        steps: &[Step::Take(A, OLD), Step::Save(A, MINE)],
-        files: &[(A, OLD)],
+        steps: &[Step::Take(A, OLD_A), Step::Save(A, MY_A)],
+        files: &[(A, OLD_A)],
         standing: PUT,
-        left: &[(A, MINE)],
+        left: &[(A, MY_A)],
         counts: [1, 0, 0, 0, 0, 0],
     },
     Case {
         name: "a new note whose put was never told",
-        steps: &[Step::Save(A, MINE)],
-        files: &[(A, MINE)],
+        steps: &[Step::Save(A, MY_A)],
+        files: &[(A, MY_A)],
         standing: PUT,
-        left: &[(A, MINE)],
+        left: &[(A, MY_A)],
         counts: [0, 0, 0, 0, 0, 0],
     },
 ];
@@ -62,21 +44,21 @@ const UNCHANGED_FILES: [Case; 3] = [
 const LOST_FILES: [Case; 2] = [
     Case {
         name: "an edited note whose file is gone",
-        steps: &[Step::Take(A, OLD), Step::Save(A, MINE)],
+        steps: &[Step::Take(A, OLD_A), Step::Save(A, MY_A)],
         files: &[],
         standing: Standing {
             rows: &[],
-            copies: &[(A, MINE)],
+            copies: &[(A, MY_A)],
         },
         left: &[],
         counts: [0, 0, 0, 0, 1, 0],
     },
     Case {
         name: "a note whose file is no item",
-        steps: &[Step::Save(A, MINE)],
+        steps: &[Step::Save(A, MY_A)],
         files: &[(A, "hello")],
         standing: Standing {
-            rows: &[(A, MINE, true)],
+            rows: &[(A, MY_A, true)],
             copies: &[],
         },
         left: &[(A, "hello")],
@@ -88,35 +70,35 @@ const LOST_FILES: [Case; 2] = [
 const OTHER_FILES: [Case; 4] = [
     Case {
         name: "a note that was edited there too",
-        steps: &[Step::Take(A, OLD), Step::Save(A, MINE)],
-        files: &[(A, THEIRS)],
+        steps: &[Step::Take(A, OLD_A), Step::Save(A, MY_A)],
+        files: &[(A, THEIR_A)],
         standing: Standing {
-            rows: &[(A, THEIRS, false)],
-            copies: &[(A, MINE)],
+            rows: &[(A, THEIR_A, false)],
+            copies: &[(A, MY_A)],
         },
-        left: &[(A, THEIRS)],
+        left: &[(A, THEIR_A)],
         counts: [0, 0, 0, 0, 1, 0],
     },
     Case {
         name: "a note that is sealed there",
-        steps: &[Step::Take(A, OLD), Step::Save(A, MINE)],
-        files: &[(A, SEALED)],
+        steps: &[Step::Take(A, OLD_A), Step::Save(A, MY_A)],
+        files: &[(A, SEALED_A)],
         standing: Standing {
-            rows: &[(A, SEALED, false)],
-            copies: &[(A, MINE)],
+            rows: &[(A, SEALED_A, false)],
+            copies: &[(A, MY_A)],
         },
-        left: &[(A, SEALED)],
+        left: &[(A, SEALED_A)],
         counts: [0, 0, 0, 0, 1, 0],
     },
     Case {
         name: "a note that was edited alike",
-        steps: &[Step::Take(A, OLD), Step::Save(A, MINE)],
-        files: &[(A, ALIKE)],
+        steps: &[Step::Take(A, OLD_A), Step::Save(A, MY_A)],
+        files: &[(A, ALIKE_A)],
         standing: Standing {
-            rows: &[(A, ALIKE, false)],
+            rows: &[(A, ALIKE_A, false)],
             copies: &[],
         },
-        left: &[(A, ALIKE)],
+        left: &[(A, ALIKE_A)],
         counts: [0, 0, 0, 0, 0, 0],
     },
     Case {

@@ -1,15 +1,12 @@
 use crate::alone::Alone;
 use crate::client::source_of;
-use jop_base::{Bytes, Id, LockKind, LockName, Path};
+use crate::locks::{ONE, TWO, lock_name};
+use jop_base::{Bytes, LockKind, Path};
 use jop_cli::Status;
 use jop_target::Event;
 use lease::Seen;
 use std::alloc::{AllocError, Global};
 use std::test::Fail;
-
-const ONE: &str = "11111111111111111111111111111111";
-
-const TWO: &str = "22222222222222222222222222222222";
 
 /// A lock of 1000, of this kind and client.
 type Standing = (LockKind, &'static str);
@@ -162,11 +159,7 @@ ended
 /// The file of a lock.
 fn path_of(lock: Standing) -> Result<Path, Fail> {
     let (kind, client) = lock;
-    Ok(Path::Lock(LockName {
-        kind,
-        client_type: 3,
-        client: Id::read(client.as_bytes()).ok_or("an id")?,
-    }))
+    Ok(Path::Lock(lock_name(kind, client)?))
 }
 
 /// The events of a trail, one a line.

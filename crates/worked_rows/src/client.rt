@@ -30,8 +30,8 @@ impl<K: Keeper> Drop for Client<K> {
     }
 }
 
-/// The bytes from this one to 255.
-pub(crate) fn bytes_from(alloc: Global, first: u8) -> Result<MemEntropy, AllocError> {
+/// A random source of the bytes from this one to 255.
+pub(crate) fn entropy_from(alloc: Global, first: u8) -> Result<MemEntropy, AllocError> {
     let mut bytes = Bytes::new(alloc);
     for byte in first..=255 {
         bytes.push(byte)?;
@@ -39,9 +39,9 @@ pub(crate) fn bytes_from(alloc: Global, first: u8) -> Result<MemEntropy, AllocEr
     Ok(MemEntropy::new(alloc, bytes))
 }
 
-/// The bytes 0 to 255, so that the first id is 000102030405060708090a0b0c0d0e0f.
-pub(crate) fn random_bytes(alloc: Global) -> Result<MemEntropy, AllocError> {
-    bytes_from(alloc, 0)
+/// A random source of the bytes 0 to 255, so that the first id is 000102030405060708090a0b0c0d0e0f.
+pub(crate) fn new_entropy(alloc: Global) -> Result<MemEntropy, AllocError> {
+    entropy_from(alloc, 0)
 }
 
 /// Words that are given as one line, with a space between each two.
@@ -64,7 +64,7 @@ pub(crate) fn source_of(alloc: Global, input: &[u8]) -> Result<MemSource, AllocE
 
 /// A client that keeps its tables in memory.
 pub(crate) fn client_at(alloc: Global, now: u64) -> Result<Client<MemKeeper>, AllocError> {
-    let entropy = random_bytes(alloc)?;
+    let entropy = new_entropy(alloc)?;
     Ok(Client::new(alloc, MemKeeper::new(alloc), now, entropy))
 }
 

@@ -1,4 +1,4 @@
-use crate::client::{Client, client_at, random_bytes};
+use crate::client::{Client, client_at, new_entropy};
 use crate::due::{has_come_out, read_due};
 use local_store::Keeper;
 use record_keeper::{MemRecords, RecordKeeper};
@@ -51,7 +51,7 @@ fn day_in_memory(alloc: Global) -> Result<Outcome, AllocError> {
 }
 
 fn day_over_records(alloc: Global) -> Result<Outcome, AllocError> {
-    let entropy = random_bytes(alloc)?;
+    let entropy = new_entropy(alloc)?;
     let keeper = RecordKeeper::over(MemRecords::new(alloc));
     let mut client = Client::new(alloc, keeper, 5, entropy);
     let surprise = first_surprise(alloc, &mut client)?;

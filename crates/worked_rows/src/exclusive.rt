@@ -1,24 +1,9 @@
-use jop_base::{Bytes, Id, LockKind, LockName, Path};
+use crate::locks::{ONE, TWO, id, lock_name};
+use jop_base::{Bytes, LockKind, Path};
 use jop_target::{Diary, MemTarget, TargetLine};
 use lease::{Lease, LeaseErr, Lock, acquire};
 use std::alloc::Global;
 use std::test::Fail;
-
-const ONE: &[u8; 32] = b"11111111111111111111111111111111";
-
-const TWO: &[u8; 32] = b"22222222222222222222222222222222";
-
-fn id(digits: &[u8; 32]) -> Result<Id, Fail> {
-    Ok(Id::read(digits).ok_or("an id")?)
-}
-
-fn lock_name(kind: LockKind, digits: &[u8; 32]) -> Result<LockName, Fail> {
-    Ok(LockName {
-        kind,
-        client_type: 3,
-        client: id(digits)?,
-    })
-}
 
 /// Puts another's sync lock of 5000 on a target.
 fn place_a_sync_lock(alloc: Global, target: &mut MemTarget) -> Result<(), Fail> {

@@ -1,4 +1,4 @@
-use crate::client::{Client, client_at, random_bytes};
+use crate::client::{Client, client_at, new_entropy};
 use jop_base::Bytes;
 use local_store::Keeper;
 use record_keeper::{MemRecords, RecordKeeper};
@@ -14,7 +14,7 @@ fn failing_records(alloc: Global) -> Result<MemRecords, AllocError> {
 
 /// A client over records whose first call fails.
 fn failing_client(alloc: Global) -> Result<Client<RecordKeeper<MemRecords>>, AllocError> {
-    let entropy = random_bytes(alloc)?;
+    let entropy = new_entropy(alloc)?;
     let records = failing_records(alloc)?;
     Ok(Client::new(alloc, RecordKeeper::over(records), 5, entropy))
 }

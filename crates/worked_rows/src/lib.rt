@@ -23,6 +23,8 @@ mod file_day;
 mod first;
 mod histories;
 #[cfg(test)]
+mod locks;
+#[cfg(test)]
 mod place;
 #[cfg(test)]
 mod tidying;

@@ -1,4 +1,4 @@
-use crate::client::{bytes_from, source_of};
+use crate::client::{entropy_from, source_of};
 use crate::due::{Due, cut, read_due};
 use jop_base::{MemClock, MemEntropy, MemSink, MemSource, Seq, Text};
 use jop_cli::Words;
@@ -126,7 +126,7 @@ impl Place {
 /// An input of these bytes, a clock, and random bytes from this one on.
 fn around(alloc: Global, input: &str, first: u8) -> Result<Around, AllocError> {
     let input = source_of(alloc, input.as_bytes())?;
-    let entropy = bytes_from(alloc, first)?;
+    let entropy = entropy_from(alloc, first)?;
     Ok(Outside {
         input,
         out: MemSink::new(alloc),

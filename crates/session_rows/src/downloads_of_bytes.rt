@@ -1,14 +1,9 @@
 use crate::overfull::Overfull;
+use crate::texts::{OTHER, R, RESOURCE};
 use jop_target::{MemTarget, Target};
 use std::alloc::Global;
 use std::test::Fail;
 use worked_client::{BrokenOff, Client, OWN, Part, Standing, Step, counts, target_of};
-
-const R: &str = "dddddddddddddddddddddddddddddddd";
-
-const RESOURCE: &str = "R\n\nid: dddddddddddddddddddddddddddddddd\ntype_: 4";
-
-const OTHER: &str = "22222222222222222222222222222222";
 
 const SAVED: Standing = Standing {
     rows: &[(R, RESOURCE, false)],

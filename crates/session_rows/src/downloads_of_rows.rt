@@ -1,18 +1,8 @@
-use crate::texts::{A, B, MY_A, OLD_A, OLD_B, THEIR_A};
+use crate::texts::{A, ALIKE_A, B, MY_A, OLD_A, OLD_B, SEALED_A, THEIR_A};
 use std::test::Fail;
 use worked_client::{Case, Part, Standing, Step, first_other};
 
-const SEALED: &str = concat!(
-    "id: aaaaaaaaaaaaaaaaaaaaaaaaaaaaaaaa\n",
-    "encryption_cipher_text: JED01\n",
-    "encryption_applied: 1\n",
-    "type_: 1"
-);
-
 const KEY: &str = "id: aaaaaaaaaaaaaaaaaaaaaaaaaaaaaaaa\ncontent: x\ntype_: 9";
-
-/// Another text whose title and body are those of mine.
-const ALIKE: &str = "A\n\nmine\n\nid: aaaaaaaaaaaaaaaaaaaaaaaaaaaaaaaa\nupdated_time: 4\ntype_: 1";
 
 const NEW_FILES: [Case; 4] = [
     Case {
@@ -29,12 +19,12 @@ const NEW_FILES: [Case; 4] = [
     Case {
         name: "a note that is sealed",
         steps: &[],
-        files: &[(A, SEALED)],
+        files: &[(A, SEALED_A)],
         standing: Standing {
-            rows: &[(A, SEALED, false)],
+            rows: &[(A, SEALED_A, false)],
             copies: &[],
         },
-        left: &[(A, SEALED)],
+        left: &[(A, SEALED_A)],
         counts: [0, 0, 1, 0, 0, 0],
     },
     Case {
@@ -134,12 +124,12 @@ const WAITING: [Case; 6] = [
     Case {
         name: "an edited note that was edited alike",
         steps: &[Step::Take(A, OLD_A), Step::Save(A, MY_A)],
-        files: &[(A, ALIKE)],
+        files: &[(A, ALIKE_A)],
         standing: Standing {
-            rows: &[(A, ALIKE, false)],
+            rows: &[(A, ALIKE_A, false)],
             copies: &[],
         },
-        left: &[(A, ALIKE)],
+        left: &[(A, ALIKE_A)],
         counts: [0, 0, 0, 0, 0, 0],
     },
     Case {

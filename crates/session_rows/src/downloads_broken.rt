@@ -1,4 +1,4 @@
-use crate::texts::{A, B, C, MY_A, OLD_A, OLD_B, OLD_C, THEIR_A};
+use crate::texts::{A, B, C, F, FOLDER, MY_A, OLD_A, OLD_B, OLD_C, R, RESOURCE, THEIR_A};
 use jop_base::Bytes;
 use jop_target::MemTarget;
 use std::alloc::Global;
@@ -7,20 +7,12 @@ use worked_client::{
     BrokenOff, Client, OWN, Part, Place, Standing, Step, Text, holds, place_bytes, target_of,
 };
 
-const F: &str = "ffffffffffffffffffffffffffffffff";
-
 const N: &str = "eeeeeeeeeeeeeeeeeeeeeeeeeeeeeeee";
-
-const R: &str = "dddddddddddddddddddddddddddddddd";
-
-const FOLDER: &str = "F\n\nid: ffffffffffffffffffffffffffffffff\ntype_: 2";
 
 const NOTE: &str = concat!(
     "N\n\nid: eeeeeeeeeeeeeeeeeeeeeeeeeeeeeeee\n",
     "parent_id: ffffffffffffffffffffffffffffffff\ntype_: 1"
 );
-
-const RESOURCE: &str = "R\n\nid: dddddddddddddddddddddddddddddddd\ntype_: 4";
 
 /// The first note is edited, and was edited there too; the second note and the resource are new
 /// there; the third note and the folder of the last note are gone there.

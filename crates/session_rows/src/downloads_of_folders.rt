@@ -1,27 +1,6 @@
-use crate::texts::{A, B, C, OLD_A, OLD_C};
+use crate::texts::{A, B, C, EDITED_A, F, FOLDER, NOTE_A, NOTE_B, OLD_A, OLD_C, RENAMED};
 use std::test::Fail;
 use worked_client::{Case, Part, Standing, Step, first_other};
-
-const F: &str = "ffffffffffffffffffffffffffffffff";
-
-const FOLDER: &str = "F\n\nid: ffffffffffffffffffffffffffffffff\ntype_: 2";
-
-const RENAMED: &str = "G\n\nid: ffffffffffffffffffffffffffffffff\ntype_: 2";
-
-const NOTE_A: &str = concat!(
-    "A\n\nid: aaaaaaaaaaaaaaaaaaaaaaaaaaaaaaaa\n",
-    "parent_id: ffffffffffffffffffffffffffffffff\ntype_: 1"
-);
-
-const EDITED_A: &str = concat!(
-    "A\n\nmore\n\nid: aaaaaaaaaaaaaaaaaaaaaaaaaaaaaaaa\n",
-    "parent_id: ffffffffffffffffffffffffffffffff\ntype_: 1"
-);
-
-const NOTE_B: &str = concat!(
-    "B\n\nid: bbbbbbbbbbbbbbbbbbbbbbbbbbbbbbbb\n",
-    "parent_id: ffffffffffffffffffffffffffffffff\ntype_: 1"
-);
 
 const CASES: [Case; 5] = [
     Case {
