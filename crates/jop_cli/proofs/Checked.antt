@@ -27,9 +27,9 @@ use Rattle.jop_cli.specs.Commands.Check.{free_line}
 use Rattle.jop_cli.specs.Commands.Sessions.{IsChange, outcome_by, session_status}
 use Rattle.jop_cli.specs.Outside.{Outside, did}
 use Rattle.jop_cli.specs.Run.{Acts, Emits, UsesTarget}
-use Rattle.jop_cli.specs.declared.command.Verb.TheVariants.{Check}
+use Rattle.command_line.specs.declared.verb.Verb.TheVariants.{Check}
 use Rattle.jop_cli.specs.declared.status.Status.{Status}
-use Rattle.jop_cli.specs.declared.target_name.TargetName.{TargetName}
+use Rattle.command_line.specs.declared.target_name.TargetName.{TargetName}
 
 -- what is printed of a check
 abbrev pub free : Unit {0} → List ℕ

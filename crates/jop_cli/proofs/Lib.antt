@@ -1,7 +1,5 @@
 mod Checked
-mod Fit
 mod Heard
-mod Ids
 mod Licensed
 mod Local
 mod LocalLicences

@@ -36,8 +36,8 @@ use Rattle.jop_cli.specs.Commands.Sessions.{IsChange, IsUncalled, Outcome}
 use Rattle.jop_cli.specs.Outside.{Outside, Ran, did}
 use Rattle.jop_cli.specs.Run.{Acts, Answers, Emits, IsUnsaved, KeepsChanges, UsesTarget, may_be_late, with_changes}
 use Rattle.jop_cli.specs.Statuses.{is_early}
-use Rattle.jop_cli.specs.declared.command.Verb.{Verb}
-use Rattle.jop_cli.specs.declared.command.Verb.TheVariants.{Local}
+use Rattle.command_line.specs.declared.verb.Verb.{Verb}
+use Rattle.command_line.specs.declared.verb.Verb.TheVariants.{Local}
 use Rattle.jop_cli.specs.declared.status.Status.{Status}
 
 -- ---- why the command ends so

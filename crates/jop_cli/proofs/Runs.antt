@@ -32,8 +32,8 @@ use Rattle.jop_cli.specs.Commands.Sessions.{IsChange, IsUncalled, Outcome, Sessi
 use Rattle.jop_cli.specs.Outside.{Outside, Ran, did}
 use Rattle.jop_cli.specs.Run.{Acts, Answers, Does, Emits, HasLicences, IsIdle, IsUnsaved, KeepsChanges, LeavesAlone, LeavesTables, LeavesTarget, Obeys, Prints, Sessions, TidiesTold, UsesTarget, may_be_late, with_changes}
 use Rattle.jop_cli.specs.Statuses.{is_early, is_refusal}
-use Rattle.jop_cli.specs.declared.command.Verb.{Verb}
-use Rattle.jop_cli.specs.declared.command.Verb.TheVariants.{Help, Local, Tidy}
+use Rattle.command_line.specs.declared.verb.Verb.{Verb}
+use Rattle.command_line.specs.declared.verb.Verb.TheVariants.{Help, Local, Tidy}
 use Rattle.jop_cli.specs.declared.status.Status.{Status}
 use Rattle.jop_cli.specs.declared.status.Status.TheVariants as statuses
 

@@ -37,12 +37,12 @@ use Rattle.jop_cli.specs.Commands.Sync.{HasSynced, SyncsBy, outcome_of, report_t
 use Rattle.jop_cli.specs.Outside.{Outside, did}
 use Rattle.jop_cli.specs.Run.{Acts, Emits, UsesTarget}
 use Rattle.jop_cli.specs.Statuses.{is_early}
-use Rattle.jop_cli.specs.declared.command.Verb.TheVariants.{Sync}
+use Rattle.command_line.specs.declared.verb.Verb.TheVariants.{Sync}
 use Rattle.jop_cli.specs.declared.command.sync.SyncRefusal.{SyncRefusal}
 use Rattle.jop_cli.specs.declared.command.sync.SyncRefusal.TheVariants.{Own, Session}
 use Rattle.jop_cli.specs.declared.status.Status.{Status}
 use Rattle.jop_cli.specs.declared.status.Status.TheVariants as statuses
-use Rattle.jop_cli.specs.declared.target_name.TargetName.{TargetName}
+use Rattle.command_line.specs.declared.target_name.TargetName.{TargetName}
 
 -- ---- statuses
 

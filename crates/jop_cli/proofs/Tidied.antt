@@ -19,8 +19,8 @@ use Rattle.jop_cli.specs.Outside.{Outside, Ran, did}
 use Rattle.jop_cli.specs.Causes.{IsExplained}
 use Rattle.jop_cli.specs.Run.{Acts, Answers, Emits, Obeys, TidiesTold}
 use Rattle.jop_cli.specs.Statuses.{is_early}
-use Rattle.jop_cli.specs.declared.command.Verb.{Verb}
-use Rattle.jop_cli.specs.declared.command.Verb.TheVariants.{Tidy}
+use Rattle.command_line.specs.declared.verb.Verb.{Verb}
+use Rattle.command_line.specs.declared.verb.Verb.TheVariants.{Tidy}
 use Rattle.jop_cli.specs.declared.command.tidy.TidyErr.{TidyErr}
 use Rattle.jop_cli.specs.declared.command.tidy.TidyErr.TheVariants.{Fault, TooLarge, Bad, NoMemory}
 use Rattle.jop_cli.specs.declared.status.Status.{Status}

@@ -28,12 +28,12 @@ use Rattle.jop_cli.specs.Commands.Upgrade.{HasRun, UpgradesBy, outcome_of, statu
 use Rattle.jop_cli.specs.Outside.{Outside, did}
 use Rattle.jop_cli.specs.Run.{Acts, Emits, KeepsChanges, UsesTarget}
 use Rattle.jop_cli.specs.Statuses.{is_early}
-use Rattle.jop_cli.specs.declared.command.Verb.TheVariants.{Upgrade}
+use Rattle.command_line.specs.declared.verb.Verb.TheVariants.{Upgrade}
 use Rattle.jop_cli.specs.declared.command.upgrade.UpgradeErr.{UpgradeErr}
 use Rattle.jop_cli.specs.declared.command.upgrade.UpgradeErr.TheVariants.{Own, Session}
 use Rattle.jop_cli.specs.declared.status.Status.{Status}
 use Rattle.jop_cli.specs.declared.status.Status.TheVariants as statuses
-use Rattle.jop_cli.specs.declared.target_name.TargetName.{TargetName}
+use Rattle.command_line.specs.declared.target_name.TargetName.{TargetName}
 
 pub early_upgrade : (error : UpgradeErr) → is_early (status_of error) ≡ true
 early_upgrade (Own error) = early_own error

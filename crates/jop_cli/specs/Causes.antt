@@ -39,8 +39,8 @@ use Rattle.jop_cli.specs.Commands.Sessions.{IsClientOf, IsUncalled, Session}
 use Rattle.jop_cli.specs.Commands.Tidy.{IsFaulty}
 use Rattle.jop_cli.specs.Outside.{Outside, Ran}
 use Rattle.jop_cli.specs.Statuses.{is_refusal}
-use Rattle.jop_cli.specs.declared.command.Verb.{Verb}
-use Rattle.jop_cli.specs.declared.command.Verb.TheVariants as verbs
+use Rattle.command_line.specs.declared.verb.Verb.{Verb}
+use Rattle.command_line.specs.declared.verb.Verb.TheVariants as verbs
 use Rattle.jop_cli.specs.declared.status.Status.{Status}
 use Rattle.jop_cli.specs.declared.status.Status.TheVariants as statuses
 

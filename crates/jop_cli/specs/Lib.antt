@@ -1,6 +1,5 @@
 pub mod Outside
 pub mod Pieces
-pub mod Words
 pub mod Statuses
 pub mod Commands
 pub mod Causes

@@ -1,16 +1,17 @@
 ghost use Rattle.std.specs.Prelude.{◌≡◌, [], Some};
-ghost use Rattle.jop_cli.specs.Commands.{IsFit, meant};
+ghost use Rattle.command_line.specs.Commands.{meant};
+ghost use Rattle.command_line.specs.Verbs.{IsFit};
 ghost use Rattle.jop_cli.specs.Outside.{did, seen};
 ghost use Rattle.jop_cli.specs.Run.{Acts, Does, Reports};
 
 use crate::command::help::USAGE_LINE;
 use crate::command::tidy::tidy;
-use crate::command::{Verb, WordsErr, check, local, read_words, sync, upgrade};
+use crate::command::{check, local, sync, upgrade};
 use crate::emit::emit;
 use crate::piece::Piece;
 use crate::report::report;
 use crate::status::Status;
-use crate::words::Words;
+use command_line::{Verb, Words, WordsErr, read_words};
 use jop_base::{Clock, Entropy, Sink, Source};
 use jop_target::{Diary, Target};
 use kept_tables::notes_are_kept_by_tables;

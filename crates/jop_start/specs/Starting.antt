@@ -5,15 +5,15 @@ use Rattle.jop_base.specs.Outside.{SinkNow, SourceNow}
 use Rattle.jop_base.specs.Random.{EntropyNow}
 use Rattle.jop_target.specs.Replies.{TargetNow}
 use Rattle.local_store.specs.Keepers.{KeeperNow}
-use Rattle.jop_cli.specs.Commands.{target_words}
+use Rattle.command_line.specs.Commands.{target_words}
 use Rattle.jop_cli.specs.Outside.{Ran, seen}
 use Rattle.jop_cli.specs.Run.{Does, Reports}
 use Rattle.jop_cli.specs.Statuses.{row_of}
-use Rattle.jop_cli.specs.declared.command.Verb.{Verb}
+use Rattle.command_line.specs.declared.verb.Verb.{Verb}
 use Rattle.jop_cli.specs.declared.status.Status.{Status}
-use Rattle.jop_cli.specs.declared.target_name.TargetKind.{TargetKind}
-use Rattle.jop_cli.specs.declared.target_name.TargetKind.TheVariants.{Mem, Dir}
-use Rattle.jop_cli.specs.declared.target_name.TargetName.{TargetName}
+use Rattle.command_line.specs.declared.target_name.TargetKind.{TargetKind}
+use Rattle.command_line.specs.declared.target_name.TargetKind.TheVariants.{Mem, Dir}
+use Rattle.command_line.specs.declared.target_name.TargetName.{TargetName}
 use Rattle.jop_start.specs.declared.start_err.StartErr.{StartErr}
 use Rattle.jop_start.specs.declared.start_err.StartErr.TheVariants.{EntropyFault, NoMemory}
 

@@ -1,12 +1,13 @@
 ghost use Rattle.std.specs.Prelude.{◌≡◌, Err, IfOk, OnErr, true};
-ghost use Rattle.jop_cli.specs.Commands.{meant};
+ghost use Rattle.command_line.specs.Commands.{meant};
 ghost use Rattle.jop_start.specs.Starting.{IsRun, around, is_folder, kind_named};
 
 use crate::outside::Outside;
 use crate::server::server_target;
 use crate::start_err::StartErr;
+use command_line::{Profile, TargetKind, TargetName, Words, profile_words, target_words};
 use jop_base::{Clock, Entropy, Sink, Source};
-use jop_cli::{Profile, TargetKind, TargetName, Words, profile_words, run, target_words};
+use jop_cli::run;
 use jop_host::SystemEntropy;
 use jop_target::{Diary, MemTarget, Target};
 use keeper_sqlite::keeper_at;

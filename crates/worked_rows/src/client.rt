@@ -1,5 +1,6 @@
+use command_line::Words;
 use jop_base::{Bytes, MemClock, MemEntropy, MemSink, MemSource, Seq, Text};
-use jop_cli::{Status, Words, run};
+use jop_cli::{Status, run};
 use jop_target::{Diary, MemTarget};
 use local_store::{Changes, Keeper, MemKeeper};
 use std::alloc::{AllocError, Global};

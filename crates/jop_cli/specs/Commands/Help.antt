@@ -1,13 +1,6 @@
 -- `help`: how the program is called.
-use Rattle.std.specs.Prelude.{ℕ, ◌≡◌, List, [], ◌∷◌, ◌++◌, codes, Option, Some, None, Ok}
-use Rattle.jop_cli.specs.declared.command.Verb.{Verb}
-use Rattle.jop_cli.specs.declared.command.Verb.TheVariants.{Help}
+use Rattle.std.specs.Prelude.{ℕ, ◌≡◌, List, [], ◌∷◌, ◌++◌, codes, Ok}
 use Rattle.jop_cli.specs.Commands.Sessions.{Outcome}
-
--- nothing behind the word
-abbrev pub help_words : List (List ℕ) → Option Verb
-help_words [] = Some Help
-help_words words = None
 
 -- how the program is called
 abbrev pub usage_line : List ℕ

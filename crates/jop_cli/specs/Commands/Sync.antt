@@ -1,6 +1,6 @@
 -- `sync`: a session, of the client that the tables name, that brings its tables and a target
 -- together.
-use Rattle.std.specs.Prelude.{ℕ, ◌≤◌, ◌≡◌, List, [], ◌∷◌, ◌++◌, length, codes, Option, Some, None, Result, Ok, Err}
+use Rattle.std.specs.Prelude.{ℕ, ◌≤◌, ◌≡◌, List, [], ◌∷◌, ◌++◌, length, codes, Result, Ok, Err}
 use Rattle.std.specs.Fmt.{decimal}
 use Rattle.std.specs.List.{flat_map}
 use Rattle.conflicts.specs.declared.report.SyncReport.{SyncReport}
@@ -26,28 +26,13 @@ use Rattle.sync_session.specs.Working.{is_sync}
 use Rattle.sync_session.specs.declared.sync_err.SyncErr.{SyncErr}
 use Rattle.sync_session.specs.declared.sync_err.SyncErr.TheVariants as sync_errors
 use Rattle.target_upgrade.specs.Course.{ObeysLease}
-use Rattle.jop_cli.specs.declared.command.Verb.{Verb}
-use Rattle.jop_cli.specs.declared.command.Verb.TheVariants.{Sync}
 use Rattle.jop_cli.specs.declared.command.sync.Known.{Known}
 use Rattle.jop_cli.specs.declared.command.sync.SyncRefusal.{SyncRefusal}
 use Rattle.jop_cli.specs.declared.command.sync.SyncRefusal.TheVariants as refusals
 use Rattle.jop_cli.specs.declared.status.Status.{Status}
 use Rattle.jop_cli.specs.declared.status.Status.TheVariants as statuses
-use Rattle.jop_cli.specs.declared.target_name.TargetName.{TargetName}
 use Rattle.jop_cli.specs.Commands.Sessions.{ClientNow, Outcome, line_at, own_status, side}
 use Rattle.jop_cli.specs.Outside.{Outside, Ran, did}
-use Rattle.jop_cli.specs.Words.{target_of}
-
--- ---- words
-
-abbrev pub sync_of : Option TargetName → Option Verb
-sync_of None = None
-sync_of (Some target) = Some (Sync target)
-
--- a target
-abbrev pub sync_words : List (List ℕ) → Option Verb
-sync_words (target ∷ []) = sync_of (target_of target)
-sync_words words = None
 
 -- ---- the room
 

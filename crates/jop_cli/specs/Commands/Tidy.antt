@@ -1,6 +1,6 @@
 -- `tidy`: the canonical text of the item that the input reads to.
-use Rattle.std.specs.Prelude.{ℕ, ◌+◌, ◌<◌, ◌≤◌, ◌≡◌, ◌⊎◌, List, [], length}
-use Rattle.std.specs.Prelude.{Option, Some, None, Result, Ok, Err}
+use Rattle.std.specs.Prelude.{ℕ, ◌+◌, ◌<◌, ◌≤◌, ◌≡◌, ◌⊎◌, List, length}
+use Rattle.std.specs.Prelude.{Some, Result, Ok, Err}
 use Rattle.item_text.specs.Canonical.{IsCanonical}
 use Rattle.item_text.specs.Grammar.{first_fault}
 use Rattle.item_text.specs.declared.bad_item.BadItem.{BadItem}
@@ -10,8 +10,6 @@ use Rattle.jop_base.specs.Outside.{HasRisen, SourceNow}
 use Rattle.jop_base.specs.Reading.{WasRead, WasTooLarge}
 use Rattle.jop_base.specs.declared.reading.ReadErr.{ReadErr}
 use Rattle.jop_base.specs.declared.reading.ReadErr.TheVariants as read_errors
-use Rattle.jop_cli.specs.declared.command.Verb.{Verb}
-use Rattle.jop_cli.specs.declared.command.Verb.TheVariants.{Tidy}
 use Rattle.jop_cli.specs.declared.command.tidy.TidyErr.{TidyErr}
 use Rattle.jop_cli.specs.declared.command.tidy.TidyErr.TheVariants as tidy_errors
 use Rattle.jop_cli.specs.Commands.Sessions.{Outcome}
@@ -21,13 +19,6 @@ use Rattle.jop_cli.specs.declared.status.Status.TheVariants as statuses
 -- the most bytes of an input that is tidied: 16 MiB
 abbrev pub TIDY_LIMIT : ℕ
 TIDY_LIMIT = 16777216
-
--- nothing behind the word
-abbrev pub tidy_words : List (List ℕ) → Option Verb
-tidy_words [] = Some Tidy
-tidy_words words = None
-
--- ---- what it comes to
 
 abbrev pub read_err : ReadErr → TidyErr
 read_err read_errors.Fault = tidy_errors.Fault

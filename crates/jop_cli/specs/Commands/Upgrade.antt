@@ -1,6 +1,6 @@
 -- `upgrade`: a session, of the client that the tables name, that brings a target to the supported
 -- version.
-use Rattle.std.specs.Prelude.{ℕ, ◌≡◌, List, [], ◌∷◌, ◌++◌, codes, Option, Some, None, Result, Ok, Err}
+use Rattle.std.specs.Prelude.{ℕ, ◌≡◌, List, [], ◌∷◌, ◌++◌, codes, Result, Ok, Err}
 use Rattle.std.specs.Fmt.{decimal}
 use Rattle.exclusion.specs.Exclusive.{KeepsExclusive}
 use Rattle.jop_target.specs.Runs.{Continues}
@@ -16,26 +16,11 @@ use Rattle.sync_run.specs.declared.session_err.SessionErr.TheVariants.{Busy}
 use Rattle.target_upgrade.specs.Answers.{IsCall}
 use Rattle.target_upgrade.specs.Course.{ObeysLease}
 use Rattle.target_upgrade.specs.Runs.{LeavesUpgraded}
-use Rattle.jop_cli.specs.declared.command.Verb.{Verb}
-use Rattle.jop_cli.specs.declared.command.Verb.TheVariants.{Upgrade}
 use Rattle.jop_cli.specs.declared.command.upgrade.UpgradeErr.{UpgradeErr}
 use Rattle.jop_cli.specs.declared.command.upgrade.UpgradeErr.TheVariants as upgrade_errors
 use Rattle.jop_cli.specs.declared.status.Status.{Status}
-use Rattle.jop_cli.specs.declared.target_name.TargetName.{TargetName}
 use Rattle.jop_cli.specs.Commands.Sessions.{ClientNow, Outcome, line_at, own_status, session_status, side}
 use Rattle.jop_cli.specs.Outside.{Outside, Ran, did}
-use Rattle.jop_cli.specs.Words.{target_of}
-
--- ---- words
-
-abbrev pub upgrade_of : Option TargetName → Option Verb
-upgrade_of None = None
-upgrade_of (Some target) = Some (Upgrade target)
-
--- a target
-abbrev pub upgrade_words : List (List ℕ) → Option Verb
-upgrade_words (target ∷ []) = upgrade_of (target_of target)
-upgrade_words words = None
 
 -- ---- the room
 

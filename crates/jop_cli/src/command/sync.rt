@@ -4,23 +4,20 @@ ghost use Rattle.jop_base.specs.Outside.{SourceNow};
 ghost use Rattle.local_store.specs.Keepers.{IsOfKept};
 ghost use Rattle.local_store.specs.Sound.{IsSound};
 ghost use Rattle.site.specs.Owning.{NamesClient, Owns, own};
-ghost use Rattle.jop_cli.specs.Commands.Sync.{SyncsBy, client_of, sync_of, sync_words};
+ghost use Rattle.jop_cli.specs.Commands.Sync.{SyncsBy, client_of};
 ghost use Rattle.jop_cli.specs.Outside.{did, seen};
 ghost use Rattle.jop_cli.specs.Run.{Acts};
-ghost use Rattle.jop_cli.specs.Words.{target_of};
-ghost use Rattle.jop_cli.specs.declared.command.Verb.TheVariants as verbs;
-ghost use Rattle.jop_cli.specs.declared.target_name.TargetName.{TargetName};
+ghost use Rattle.command_line.specs.declared.verb.Verb.TheVariants as verbs;
+ghost use Rattle.command_line.specs.declared.target_name.TargetName.{TargetName};
 
-use crate::command::Verb;
 use crate::emit::emit_report;
 use crate::status::Status;
-use crate::words::read_target;
 use conflicts::SyncReport;
-use jop_base::{ClientId, Entropy, Sink, Text};
+use jop_base::{ClientId, Entropy, Sink};
 use jop_target::{Diary, Target};
 use local_store::{Change, Changes, Keeper, Tables, let_go};
 use site::{OwnErr, commit, draw_id};
-use std::alloc::{AllocError, Global};
+use std::alloc::Global;
 use sync_session::{SyncErr, sync_on};
 
 /// Why a sync didn't go well.
@@ -50,25 +47,6 @@ impl From<SyncErr> for SyncRefusal {
 
     fn from(error: SyncErr) -> SyncRefusal {
         SyncRefusal::Session(error)
-    }
-}
-
-/// A target.
-pub(crate) fn read(alloc: Global, words: &[Text]) -> Result<Option<Verb>, AllocError>
-    ensures { IfOk result (λ verb. verb ≡ sync_words words.now) }
-{
-    match words {
-        [target] => read_one(alloc, target),
-        _ => Ok(None),
-    }
-}
-
-fn read_one(alloc: Global, target: &Text) -> Result<Option<Verb>, AllocError>
-    ensures { IfOk result (λ verb. verb ≡ sync_of (target_of target.now)) }
-{
-    match read_target(alloc, target)? {
-        Some(target) => Ok(Some(Verb::Sync { target })),
-        None => Ok(None),
     }
 }
 

@@ -1,15 +1,14 @@
 ghost use Rattle.std.specs.Prelude.{◌≡◌, ℕ, List, Result};
 ghost use Rattle.item_text.specs.declared.bad_item.ItemErr.{ItemErr};
 ghost use Rattle.jop_cli.specs.Commands.Sessions.{Outcome};
-ghost use Rattle.jop_cli.specs.Commands.Tidy.{TIDY_LIMIT, Tidies, TidiesBytes, bytes_outcome, tidy_words};
+ghost use Rattle.jop_cli.specs.Commands.Tidy.{TIDY_LIMIT, Tidies, TidiesBytes, bytes_outcome};
 ghost use Rattle.jop_cli.specs.Run.{Emits};
 ghost use Rattle.local_commands.specs.Sparing.{IsReadOf};
 
-use crate::command::Verb;
 use crate::emit::emit_three;
 use crate::status::Status;
 use item_text::{BadItem, ItemErr, canonical_parts};
-use jop_base::{ReadErr, Sink, Source, Text, read_to_end};
+use jop_base::{ReadErr, Sink, Source, read_to_end};
 use std::alloc::Global;
 
 /// The most bytes of an input that is tidied: 16 MiB.
@@ -53,17 +52,6 @@ impl From<ItemErr> for TidyErr {
             ItemErr::Bad(bad) => TidyErr::Bad(bad),
             ItemErr::NoMemory => TidyErr::NoMemory,
         }
-    }
-}
-
-/// `tidy` has no words behind it.
-pub(crate) fn read(words: &[Text]) -> Option<Verb>
-    ensures { result ≡ tidy_words words.now }
-{
-    if words.is_empty() {
-        Some(Verb::Tidy)
-    } else {
-        None
     }
 }
 

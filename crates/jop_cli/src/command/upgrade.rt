@@ -1,23 +1,20 @@
-ghost use Rattle.std.specs.Prelude.{◌≡◌, [], IfOk, Some};
+ghost use Rattle.std.specs.Prelude.{◌≡◌, [], Some};
 ghost use Rattle.jop_base.specs.Clocks.{ClockNow};
 ghost use Rattle.jop_base.specs.Outside.{SourceNow};
 ghost use Rattle.site.specs.Owning.{own};
-ghost use Rattle.jop_cli.specs.Commands.Upgrade.{UpgradesBy, upgrade_of, upgrade_words};
+ghost use Rattle.jop_cli.specs.Commands.Upgrade.{UpgradesBy};
 ghost use Rattle.jop_cli.specs.Outside.{did, seen};
 ghost use Rattle.jop_cli.specs.Run.{Acts};
-ghost use Rattle.jop_cli.specs.Words.{target_of};
-ghost use Rattle.jop_cli.specs.declared.command.Verb.TheVariants as verbs;
-ghost use Rattle.jop_cli.specs.declared.target_name.TargetName.{TargetName};
+ghost use Rattle.command_line.specs.declared.verb.Verb.TheVariants as verbs;
+ghost use Rattle.command_line.specs.declared.target_name.TargetName.{TargetName};
 
-use crate::command::Verb;
 use crate::emit::emit_version;
 use crate::status::Status;
-use crate::words::read_target;
-use jop_base::{Entropy, Sink, Text};
+use jop_base::{Entropy, Sink};
 use jop_target::{Diary, Target};
 use local_store::{Changes, Keeper};
 use site::{OwnErr, own_client};
-use std::alloc::{AllocError, Global};
+use std::alloc::Global;
 use sync_run::{SessionErr, upgrade_on};
 
 /// Why a target wasn't upgraded.
@@ -47,25 +44,6 @@ impl From<SessionErr> for UpgradeErr {
 
     fn from(error: SessionErr) -> UpgradeErr {
         UpgradeErr::Session(error)
-    }
-}
-
-/// A target.
-pub(crate) fn read(alloc: Global, words: &[Text]) -> Result<Option<Verb>, AllocError>
-    ensures { IfOk result (λ verb. verb ≡ upgrade_words words.now) }
-{
-    match words {
-        [target] => read_one(alloc, target),
-        _ => Ok(None),
-    }
-}
-
-fn read_one(alloc: Global, target: &Text) -> Result<Option<Verb>, AllocError>
-    ensures { IfOk result (λ verb. verb ≡ upgrade_of (target_of target.now)) }
-{
-    match read_target(alloc, target)? {
-        Some(target) => Ok(Some(Verb::Upgrade { target })),
-        None => Ok(None),
     }
 }
 

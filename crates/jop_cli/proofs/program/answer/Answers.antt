@@ -1,11 +1,7 @@
 use Rattle.std.proofs.Common.{ap}
-use Rattle.jop_cli.proofs.Fit.{command_fit}
 use Rattle.jop_cli.proofs.Runs.{misused, starved}
-use Rattle.jop_cli.specs.Commands.{verb_in}
+use Rattle.command_line.specs.Commands.{verb_in}
 use Rattle.jop_cli.proofs.program.answer.Goals as goal
-
-pub obey-requires-clause-fit : goal.obey-requires-clause-fit
-obey-requires-clause-fit g c = command_fit c.args.words.now.list c.in-Ok.command c.in-Ok.ensures.ok
 
 pub returns-in-Err-Usage : goal.returns-in-Err-Usage
 returns-in-Err-Usage g c =

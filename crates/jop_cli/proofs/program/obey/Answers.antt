@@ -1,7 +1,7 @@
 use Rattle.std.proofs.Common.{refl}
 use Rattle.jop_cli.proofs.Runs.{acts_as, acts_help, as_unchanged}
 use Rattle.jop_cli.proofs.Tidied.{acts_tidied}
-use Rattle.jop_cli.specs.declared.command.Verb.TheVariants.{Check, Help, Local, Sync, Tidy, Upgrade}
+use Rattle.command_line.specs.declared.verb.Verb.TheVariants.{Check, Help, Local, Sync, Tidy, Upgrade}
 use Rattle.jop_cli.proofs.program.obey.Goals as goal
 
 pub returns-in-Check : goal.returns-in-Check

@@ -9,18 +9,14 @@ use Rattle.item_text.specs.Lines.{has, trimmed}
 use Rattle.local_commands.specs.Plans.{IsWellFormed}
 use Rattle.local_commands.specs.declared.local_command.LocalCommand.{LocalCommand}
 use Rattle.local_commands.specs.declared.local_command.LocalCommand.TheVariants.{Add, Attach, Cat, Clear, Conflicts, Ls, Rm, Tag}
-use Rattle.jop_cli.specs.Commands.{IsFit, command_of, verb_of, with_profile}
-use Rattle.jop_cli.specs.Commands.Check.{check_for, check_words}
-use Rattle.jop_cli.specs.Commands.Help.{help_words}
-use Rattle.jop_cli.specs.Commands.Local.{add_words, attach_words, at_top, both, cat_words, conflicts_words, count_in, edit_to, edit_words, in_parent, is_line, keeps_title, line_in, local_words, ls_in, ls_words, mime_in, mkbook_words, rm_words, tag_words}
-use Rattle.jop_cli.specs.Commands.Sync.{sync_of, sync_words}
-use Rattle.jop_cli.specs.Commands.Tidy.{tidy_words}
-use Rattle.jop_cli.specs.Commands.Upgrade.{upgrade_of, upgrade_words}
-use Rattle.jop_cli.specs.Words.{id_of, target_of}
-use Rattle.jop_cli.specs.declared.command.Command.{Command}
-use Rattle.jop_cli.specs.declared.command.Verb.{Verb}
-use Rattle.jop_cli.specs.declared.command.Verb.TheVariants as verbs
-use Rattle.jop_cli.specs.declared.target_name.TargetName.{TargetName}
+use Rattle.command_line.specs.Commands.{command_of, with_profile}
+use Rattle.command_line.specs.Local.{add_words, attach_words, at_top, both, cat_words, conflicts_words, count_in, edit_to, edit_words, in_parent, is_line, keeps_title, line_in, local_words, ls_in, ls_words, mime_in, mkbook_words, rm_words, tag_words}
+use Rattle.command_line.specs.Verbs.{IsFit, check_for, check_words, help_words, sync_of, sync_words, tidy_words, upgrade_of, upgrade_words, verb_of}
+use Rattle.command_line.specs.Words.{id_of, target_of}
+use Rattle.command_line.specs.declared.command.Command.{Command}
+use Rattle.command_line.specs.declared.verb.Verb.{Verb}
+use Rattle.command_line.specs.declared.verb.Verb.TheVariants as verbs
+use Rattle.command_line.specs.declared.target_name.TargetName.{TargetName}
 
 -- ---- single words
 

@@ -3,7 +3,7 @@ use Rattle.std.proofs.Common.{◌≡◌, refl, ℕ, List, length, Bool, true, fa
 use Rattle.std.proofs.lemmas.Bool.{and_parts, eq-eqb, eqb-true}
 use Rattle.std.proofs.lemmas.List.Sums.{AllPass-from_list_all, list_all-from_AllPass}
 use Rattle.jop_base.specs.Id.{IsIdText, is_digit}
-use Rattle.jop_cli.specs.Words.{id_of, is_id}
+use Rattle.command_line.specs.Words.{id_of, is_id}
 
 is_id-true : (word : List ℕ) → IsIdText word → is_id word ≡ true
 is_id-true word h = rw (eq-eqb (length word) 32 h.long) (list_all-from_AllPass is_digit word h.digits)

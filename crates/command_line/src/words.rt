@@ -1,5 +1,5 @@
 ghost use Rattle.std.specs.Prelude.{◌≡◌, IfOk};
-ghost use Rattle.jop_cli.specs.Words.{folder_of, id_of, kind_of, server_of, target_of};
+ghost use Rattle.command_line.specs.Words.{folder_of, id_of, kind_of, server_of, target_of};
 
 use crate::target_name::{TargetKind, TargetName};
 use dav_address::read_address;

@@ -4,9 +4,9 @@ use Rattle.std.specs.Prelude.{Option, Some, None, nat_eq, bytes_eq, option_map}
 use Rattle.std.specs.List.{list_all, starts_with}
 use Rattle.dav_address.specs.Addresses.{address_of}
 use Rattle.jop_base.specs.Id.{is_digit}
-use Rattle.jop_cli.specs.declared.target_name.TargetKind.{TargetKind}
-use Rattle.jop_cli.specs.declared.target_name.TargetKind.TheVariants.{Mem, Dir, Dav}
-use Rattle.jop_cli.specs.declared.target_name.TargetName.{TargetName}
+use Rattle.command_line.specs.declared.target_name.TargetKind.{TargetKind}
+use Rattle.command_line.specs.declared.target_name.TargetKind.TheVariants.{Mem, Dir, Dav}
+use Rattle.command_line.specs.declared.target_name.TargetName.{TargetName}
 
 -- whether a word is an id
 abbrev pub is_id : List ℕ → Bool

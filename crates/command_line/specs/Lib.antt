@@ -1,0 +1,4 @@
+pub mod Words
+pub mod Local
+pub mod Verbs
+pub mod Commands
