@@ -5,6 +5,7 @@ pub mod KeptLemmas
 pub mod KeyLemmas
 pub mod MemberLemmas
 pub mod MergeLemmas
+pub mod RecordLemmas
 pub mod Sound
 pub mod Compact
 pub mod Valid

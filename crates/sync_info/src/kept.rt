@@ -1,6 +1,6 @@
-ghost use Rattle.std.specs.Prelude.{◌≡◌, false, IfOk};
+ghost use Rattle.std.specs.Prelude.{◌≡◌, [], ◌∷◌, ◌++◌, false, IfOk};
 ghost use Rattle.serde_json.specs.View.{view, members_view};
-ghost use Rattle.serde_json.specs.Written.{has_float, members_have_float};
+ghost use Rattle.serde_json.specs.Written.{has_float, members_have_float, compact_text};
 ghost use Rattle.sync_info.specs.Read.{kept_of, kept_in};
 
 use crate::holder::Holder;
@@ -8,6 +8,17 @@ use crate::member::Member;
 use jop_base::Seq;
 use serde_json::{Map, Value};
 use std::alloc::{AllocError, Global};
+
+/// Keeps one member more.
+fn keep(alloc: Global, kept: &mut Seq<Member>, name: &str, value: &Value) -> Result<(), AllocError>
+    requires { has_float (view value.now) ≡ false }
+    ensures { IfOk result (λ _. kept.new
+        ≡ kept.old ++ record { name = name.now; json = compact_text (view value.now) } ∷ []) }
+{
+    let member = Member::new(alloc, name, value)?;
+    kept.push(member)?;
+    Ok(())
+}
 
 /// The members that are not the holder's own.
 fn kept_of(
@@ -21,7 +32,7 @@ fn kept_of(
     let mut kept = Seq::new(alloc);
     for (name, value) in members.iter() {
         if !of.is_own(name.as_str()) {
-            kept.push(Member::new(alloc, name.as_str(), value)?)?;
+            keep(alloc, &mut kept, name.as_str(), value)?;
         }
     }
     Ok(kept)

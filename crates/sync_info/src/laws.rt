@@ -1,5 +1,5 @@
 //! Laws of the merge and of the text, each the clause of a function that does nothing. A caller calls it for its fact.
-ghost use Rattle.std.specs.Prelude.{◌≡◌, ℕ, List, Some, codes};
+ghost use Rattle.std.specs.Prelude.{◌≡◌, ◌++◌, ℕ, List, Some, codes};
 ghost use Rattle.std.specs.Str.{IsUtf8};
 ghost use Rattle.sync_info.specs.Info.{IsInfo, new_info};
 ghost use Rattle.sync_info.specs.Json.{info_text};
@@ -35,5 +35,7 @@ pub fn reads_what_is_written()
 /// The text of a target's info at version 3 that holds nothing yet.
 pub fn new_text()
     ensures { info_text (new_info 3)
-        ≡ codes "{\"activeMasterKeyId\":{\"updatedTime\":0,\"value\":\"\"},\"e2ee\":{\"updatedTime\":0,\"value\":false},\"masterKeys\":[],\"version\":3}" }
+        ≡ codes "{\"activeMasterKeyId\":{\"updatedTime\":0,\"value\":\"\"},"
+        ++ codes "\"e2ee\":{\"updatedTime\":0,\"value\":false},"
+        ++ codes "\"masterKeys\":[],\"version\":3}" }
 {}

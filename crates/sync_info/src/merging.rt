@@ -1,7 +1,7 @@
-ghost use Rattle.std.specs.Prelude.{◌≡◌, IfOk};
+ghost use Rattle.std.specs.Prelude.{◌≡◌, [], ◌∷◌, ◌++◌, IfOk};
 ghost use Rattle.std.specs.Option.{option_copied};
 ghost use Rattle.sync_info.specs.Info.{IsInfo};
-ghost use Rattle.sync_info.specs.Merge.{later, later_record, renewed, joined, merged};
+ghost use Rattle.sync_info.specs.Merge.{later, later_record, renewed, missing, joined, merged};
 
 use crate::index::{has_record, index_of, record_of};
 use crate::info::Info;
@@ -31,6 +31,15 @@ fn later_record<'a>(local: Option<&'a KeyRecord>, remote: &'a KeyRecord) -> &'a 
     }
 }
 
+/// A copy of the record behind the others.
+fn push_copy(alloc: Global, keys: &mut Seq<KeyRecord>, key: &KeyRecord) -> Result<(), AllocError>
+    ensures { IfOk result (λ _. keys.new ≡ keys.old ++ key.now ∷ []) }
+{
+    let copy = key.copy(alloc)?;
+    keys.push(copy)?;
+    Ok(())
+}
+
 fn renewed(
     alloc: Global,
     local: &[KeyRecord],
@@ -42,9 +51,27 @@ fn renewed(
     let mut keys = Seq::new(alloc);
     for key in remote {
         let same = record_of(local, &index, &key.id);
-        keys.push(later_record(same, key).copy(alloc)?)?;
+        push_copy(alloc, &mut keys, later_record(same, key))?;
     }
     Ok(keys)
+}
+
+/// Adds the local records that the remote ones lack.
+fn add_missing(
+    alloc: Global,
+    keys: &mut Seq<KeyRecord>,
+    local: &[KeyRecord],
+    remote: &[KeyRecord],
+) -> Result<(), AllocError>
+    ensures { IfOk result (λ _. keys.new ≡ keys.old ++ missing local.now remote.now) }
+{
+    let index = index_of(alloc, remote)?;
+    for key in local {
+        if !has_record(remote, &index, &key.id) {
+            push_copy(alloc, keys, key)?;
+        }
+    }
+    Ok(())
 }
 
 fn joined(
@@ -54,13 +81,8 @@ fn joined(
 ) -> Result<Seq<KeyRecord>, AllocError>
     ensures { IfOk result (λ keys. keys ≡ joined local.now remote.now) }
 {
-    let index = index_of(alloc, remote)?;
     let mut keys = renewed(alloc, local, remote)?;
-    for key in local {
-        if !has_record(remote, &index, &key.id) {
-            keys.push(key.copy(alloc)?)?;
-        }
-    }
+    add_missing(alloc, &mut keys, local, remote)?;
     Ok(keys)
 }
 

@@ -51,8 +51,8 @@ fn e2ee_of(value: &Value) -> Option<Timed<bool>>
     ensures { result ≡ e2ee_of (view value.now) }
 {
     Some(Timed {
-        value: value.get("value")?.as_bool()?,
-        updated: time_of(value.get("updatedTime")?)?,
+        value: value.get("value").and_then(Value::as_bool)?,
+        updated: value.get("updatedTime").and_then(time_of)?,
     })
 }
 

@@ -7,7 +7,7 @@ ghost use Rattle.serde_json.specs.Data.{array, boolean, string};
 ghost use Rattle.serde_json.specs.Read.{read};
 ghost use Rattle.serde_json.specs.View.{view, items_view, members_view};
 ghost use Rattle.sync_info.specs.Info.{IsInfo, IsKeyRecord};
-ghost use Rattle.sync_info.specs.Json.{value_in, members_of, setting_json, record_json, records_json, info_json, info_text};
+ghost use Rattle.sync_info.specs.Json.{value_in, members_of, put_all, setting_json, record_members, record_json, records_json, info_members, info_json, info_text};
 ghost use Rattle.sync_info.specs.Read.{info_in};
 ghost use Rattle.sync_info.specs.Version.{version_of};
 
@@ -49,7 +49,11 @@ fn e2ee_value(alloc: Global, e2ee: &Timed<bool>) -> Result<Value, AllocError>
     ensures { IfOk result
         (λ value. view value ≡ setting_json (boolean e2ee.now.value) e2ee.now.updated) }
 {
-    json!(in alloc; {"value": e2ee.value, "updatedTime": e2ee.updated})
+    let mut members = Map::new(alloc);
+    put(&mut members, alloc, "value", Value::from(e2ee.value))?;
+    let time = Value::from(e2ee.updated);
+    put(&mut members, alloc, "updatedTime", time)?;
+    Ok(Value::from(members))
 }
 
 fn active_value(alloc: Global, active: &Timed<Text>) -> Result<Value, AllocError>
@@ -59,21 +63,29 @@ fn active_value(alloc: Global, active: &Timed<Text>) -> Result<Value, AllocError
     json!(in alloc; {"value": active.value.as_str(), "updatedTime": active.updated})
 }
 
+/// Puts a record's own members among others.
+fn put_record(
+    alloc: Global,
+    members: &mut Map<String, Value>,
+    key: &KeyRecord,
+) -> Result<(), AllocError>
+    ensures { IfOk result (λ _. members_view members.new.entries
+        ≡ put_all (record_members key.now) (members_view members.old.entries)) }
+{
+    put(members, alloc, "updated_time", Value::from(key.updated))?;
+    let id = Value::try_from_str(alloc, key.id.as_str())?;
+    put(members, alloc, "id", id)?;
+    let content = Value::try_from_str(alloc, key.content.as_str())?;
+    put(members, alloc, "content", content)?;
+    Ok(())
+}
+
 fn record_value(alloc: Global, key: &KeyRecord) -> Result<Value, AllocError>
     requires { IsKeyRecord key.now }
     ensures { IfOk result (λ value. view value ≡ record_json key.now) }
 {
-    let id = Value::try_from_str(alloc, key.id.as_str())?;
-    let content = Value::try_from_str(alloc, key.content.as_str())?;
     let mut members = members_of(alloc, key.others.as_slice())?;
-    put(
-        &mut members,
-        alloc,
-        "updated_time",
-        Value::from(key.updated),
-    )?;
-    put(&mut members, alloc, "id", id)?;
-    put(&mut members, alloc, "content", content)?;
+    put_record(alloc, &mut members, key)?;
     Ok(Value::from(members))
 }
 
@@ -88,18 +100,28 @@ fn records_value(alloc: Global, keys: &[KeyRecord]) -> Result<Value, AllocError>
     Ok(Value::from(items))
 }
 
+/// Puts an info's own members among others.
+fn put_info(alloc: Global, members: &mut Map<String, Value>, info: &Info) -> Result<(), AllocError>
+    requires { AllByRecursion IsKeyRecord info.now.keys }
+    ensures { IfOk result (λ _. members_view members.new.entries
+        ≡ put_all (info_members info.now) (members_view members.old.entries)) }
+{
+    put(members, alloc, "version", Value::from(info.version))?;
+    let keys = records_value(alloc, info.keys.as_slice())?;
+    put(members, alloc, "masterKeys", keys)?;
+    let e2ee = e2ee_value(alloc, &info.e2ee)?;
+    put(members, alloc, "e2ee", e2ee)?;
+    let active = active_value(alloc, &info.active)?;
+    put(members, alloc, "activeMasterKeyId", active)?;
+    Ok(())
+}
+
 fn info_value(alloc: Global, info: &Info) -> Result<Value, AllocError>
     requires { IsInfo info.now }
     ensures { IfOk result (λ value. view value ≡ info_json info.now) }
 {
-    let keys = records_value(alloc, info.keys.as_slice())?;
-    let e2ee = e2ee_value(alloc, &info.e2ee)?;
-    let active = active_value(alloc, &info.active)?;
     let mut members = members_of(alloc, info.others.as_slice())?;
-    put(&mut members, alloc, "version", Value::from(info.version))?;
-    put(&mut members, alloc, "masterKeys", keys)?;
-    put(&mut members, alloc, "e2ee", e2ee)?;
-    put(&mut members, alloc, "activeMasterKeyId", active)?;
+    put_info(alloc, &mut members, info)?;
     Ok(Value::from(members))
 }
 

@@ -9,8 +9,8 @@ use Rattle.sync_info.specs.declared.member.Member.{Member}
 use Rattle.sync_info.proofs.KeptLemmas.{kept_more}
 use Rattle.sync_info.proofs.kept.kept_of.Goals as goal
 
-pub loop-name-preserved-in_ok-push : goal.loop-name-preserved-in_ok-push
-loop-name-preserved-in_ok-push c =
+pub loop-name-preserved-in-Continue-1 : goal.loop-name-preserved-in-Continue-1
+loop-name-preserved-in-Continue-1 c =
     let l = c.loop-name in
     let of = c.args.of in
     let name = string_bytes c.in-Some.name.now in
@@ -20,7 +20,7 @@ loop-name-preserved-in_ok-push c =
     ap members_view c.in-Some.ensures.steps in
     let foreign : is_own of name ≡ false = search rules in
     let m : Member = record { name = name; json = compact_text value } in
-    let pushed : c.push.new.self ≡ l.kept ++ m ∷ [] = search rules in
+    let pushed : c.keep.new.kept ≡ l.kept ++ m ∷ [] = search rules in
     let whole = sym (ap members_have_float step) ∙ l.invariant.whole in
     let kept = l.invariant.kept ∙ ap (λ ms. l.kept ++ kept_of of ms) step in
     record {
