@@ -1,5 +1,6 @@
 pub mod CountUp
 pub mod KeyedLaws
+pub mod PlaceLaws
 pub mod ReadingLaws
 pub mod TextOrder
 pub mod WritingLaws

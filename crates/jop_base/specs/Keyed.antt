@@ -1,5 +1,6 @@
 -- Lists in which each item has a key, a text: files by their paths, rows and blobs by their ids.
-use Rattle.std.specs.Prelude.{ℕ, ◌≡◌, List, [], ◌∷◌, Bool, true, if◌then◌else◌, bytes_eq, Option, Some, None}
+use Rattle.std.specs.Prelude.{ℕ, ◌≡◌, ◌<◌, ◌≤◌, length, slice_get, slice_set, List, [], ◌∷◌, Bool, true, if◌then◌else◌, bytes_eq, Option, Some, None}
+use Rattle.std.specs.List.{insert, remove}
 use Rattle.std.specs.Ordering.{is_lt, nat_cmp}
 use Rattle.std.specs.Cmp.Lexicographic.{slice_cmp}
 
@@ -25,6 +26,27 @@ put key (y ∷ ys) x =
 unfoldable pub cut : {T : Type 0} → (T → List ℕ) → List T → List ℕ → List T
 cut key [] k = []
 cut key (x ∷ xs) k = if bytes_eq (key x) k then xs else x ∷ cut key xs k
+
+-- the first item of a key stands at this place
+pub record IsPlaceOf {T : Type 0} (key : T → List ℕ) (xs : List T) (k : List ℕ) (place : ℕ) : Type 0 where
+  pub within : place < length xs
+  pub item : at key xs k ≡ slice_get xs place
+  pub rest : cut key xs k ≡ remove xs place
+
+-- no item has a key
+pub record IsLacking {T : Type 0} (key : T → List ℕ) (xs : List T) (k : List ℕ) : Type 0 where
+  pub item : at key xs k ≡ None
+  pub rest : cut key xs k ≡ xs
+
+-- an item of a key is put in place of the one that stands there
+pub record Replaces {T : Type 0} (key : T → List ℕ) (xs : List T) (k : List ℕ) (place : ℕ) : Type 0 where
+  pub within : place < length xs
+  pub put : (x : T) → key x ≡ k → put key xs x ≡ slice_set xs place x
+
+-- an item of a key is put before the one that stands there, or at the end
+pub record GoesBefore {T : Type 0} (key : T → List ℕ) (xs : List T) (k : List ℕ) (place : ℕ) : Type 0 where
+  pub within : place ≤ length xs
+  pub put : (x : T) → key x ≡ k → put key xs x ≡ insert xs place x
 
 -- the first item, if there is one, comes after a key
 abbrev pub IsAfter : {T : Type 0} → (T → List ℕ) → List ℕ → List T → Type 0

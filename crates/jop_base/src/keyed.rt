@@ -1,8 +1,8 @@
-ghost use Rattle.std.specs.Prelude.{◌≡◌, ◌<◌, ℕ, List, vec_len, vec_capacity, bytes_eq};
+ghost use Rattle.std.specs.Prelude.{◌≡◌, ◌<◌, ℕ, List, IfSome, IfNone, IfOk, IfErr, vec_len, vec_capacity, bytes_eq};
 ghost use Rattle.std.specs.Option.{option_copied};
 ghost use Rattle.std.specs.Ordering.{nat_cmp};
 ghost use Rattle.std.specs.Cmp.Lexicographic.{slice_cmp};
-ghost use Rattle.jop_base.specs.Keyed.{at, put, cut, text_lt};
+ghost use Rattle.jop_base.specs.Keyed.{at, put, cut, IsPlaceOf, IsLacking, Replaces, GoesBefore};
 ghost use Rattle.jop_base.specs.Paths.{path_text, dir_text};
 
 use crate::dir::Dir;
@@ -65,62 +65,71 @@ impl Keyed for Dir {
     }
 }
 
-fn is_same<K: Key>(one: &K, other: &K) -> bool
-    ensures { result ≡ bytes_eq (K.text one.now) (K.text other.now) }
+/// How a key stands to that of an item.
+fn compare<T: Keyed>(key: &T::Key, item: &T) -> Ordering
+    ensures { result ≡ slice_cmp nat_cmp (T.Key.text key.now) (T.key item.now) }
 {
-    one.compare(other).is_eq()
+    key.compare(&item.key())
 }
 
-fn is_before<K: Key>(first: &K, second: &K) -> bool
-    ensures { result ≡ text_lt (K.text first.now) (K.text second.now) }
+/// Where the first item of a key stands.
+fn place_of<T: Keyed>(items: &[T], key: &T::Key) -> Option<usize>
+    ensures some { IfSome result (IsPlaceOf T.key items.now (T.Key.text key.now)) }
+    ensures none { IfNone result (IsLacking T.key items.now (T.Key.text key.now)) }
 {
-    first.compare(second).is_lt()
-}
-
-/// The first item of a key.
-#[tactic(auto, unfolding(crate::specs::Keyed::at))]
-pub(crate) fn find<'a, T: Keyed>(items: &'a [T], key: &T::Key) -> Option<&'a T>
-    ensures { option_copied result ≡ at T.key items.now (T.Key.text key.now) }
-{
-    for item in items {
-        if is_same(&item.key(), key) {
-            return Some(item);
+    for place in 0..items.len() {
+        if compare(key, &items[place]).is_eq() {
+            return Some(place);
         }
     }
     None
 }
 
+/// Where an item of a key is put: `Ok` in place of the one that stands there, `Err` before that one.
+fn place_for<T: Keyed>(items: &[T], key: &T::Key) -> Result<usize, usize>
+    ensures ok { IfOk result (Replaces T.key items.now (T.Key.text key.now)) }
+    ensures err { IfErr result (GoesBefore T.key items.now (T.Key.text key.now)) }
+{
+    for place in 0..items.len() {
+        match compare(key, &items[place]) {
+            Ordering::Less => return Err(place),
+            Ordering::Equal => return Ok(place),
+            Ordering::Greater => {}
+        }
+    }
+    Err(items.len())
+}
+
+/// The first item of a key.
+pub(crate) fn find<'a, T: Keyed>(items: &'a [T], key: &T::Key) -> Option<&'a T>
+    ensures { option_copied result ≡ at T.key items.now (T.Key.text key.now) }
+{
+    match place_of(items, key) {
+        Some(place) => items.get(place),
+        None => None,
+    }
+}
+
 /// Puts an item among others when there is room for one more.
-#[tactic(auto, using(std::proofs::lemmas::List::set_split), unfolding(crate::specs::Keyed::put))]
 pub(crate) fn put<T: Keyed>(items: &mut Vec<T>, item: T)
     requires { vec_len items.old < vec_capacity items.old }
     ensures { items.new.items ≡ put T.key items.old.items item }
 {
-    let key = item.key();
-    for index in 0..items.len() {
-        let other = items[index].key();
-        if is_same(&other, &key) {
-            items[index] = item;
-            return;
-        }
-        if is_before(&key, &other) {
-            let _ = items.insert(index, item);
-            return;
+    match place_for(items, &item.key()) {
+        Ok(place) => items[place] = item,
+        Err(place) => {
+            let _ = items.insert(place, item);
         }
     }
-    let _ = items.push(item);
 }
 
 /// Takes the first item of a key out.
-#[tactic(auto, unfolding(crate::specs::Keyed::cut, crate::specs::Keyed::at))]
 pub(crate) fn cut<T: Keyed>(items: &mut Vec<T>, key: &T::Key) -> Option<T>
     ensures item { result ≡ at T.key items.old.items (T.Key.text key.now) }
     ensures rest { items.new.items ≡ cut T.key items.old.items (T.Key.text key.now) }
 {
-    for index in 0..items.len() {
-        if is_same(&items[index].key(), key) {
-            return Some(items.remove(index));
-        }
+    match place_of(items, key) {
+        Some(place) => Some(items.remove(place)),
+        None => None,
     }
-    None
 }
