@@ -2,19 +2,8 @@
 use Rattle.std.proofs.Common.{◌≡◌, ◌≤◌, ◌<◌, ◌+◌, ◌∙◌, refl, ap, arith, ℕ, List, [], ◌++◌, length, take, drop, append_assoc, append-nil, take-append-drop, length-append, Option, Some, None, Ok, Err}
 use Rattle.std.proofs.Math.Seq.{drop-append_seam}
 use Rattle.jop_base.specs.Outside.{SourceNow, Reads}
-use Rattle.jop_base.specs.Reading.{IsAllOf, IsPastLimit, IsRestOf}
+use Rattle.jop_base.specs.Reading.{IsAllOf, IsPastLimit, IsRestOf, SoFar, IsAt, WasRead, WasTooLarge}
 use Rattle.jop_base.specs.declared.failed.Failed.{Failed}
-
--- these bytes were read, and the rest is left
-abbrev pub SoFar : Option (List ℕ) → List ℕ → Option (List ℕ) → Type 0
-SoFar None bytes after = after ≡ None
-SoFar (Some before) bytes after = (rest : List ℕ) × (before ≡ bytes ++ rest) × (after ≡ Some rest)
-
--- these bytes were read without a fault, and no more than tell whether the source is past its limit
-pub record IsAt (limit : ℕ) (old : SourceNow) (bytes : List ℕ) (new : SourceNow) : Type 0 where
-  pub so_far : SoFar old.left bytes new.left
-  pub within : length bytes ≤ limit + 1
-  pub stays : new.faults ≡ old.faults
 
 SoFar-nil : (a : Option (List ℕ)) → SoFar a [] a
 SoFar-nil None = refl

@@ -1,5 +1,5 @@
 -- A source that is read to its end, up to a limit.
-use Rattle.std.specs.Prelude.{ℕ, ◌+◌, ◌≤◌, ◌<◌, ◌≡◌, List, [], length, drop, Option, Some, None, Result, Ok, Err}
+use Rattle.std.specs.Prelude.{ℕ, ◌+◌, ◌≤◌, ◌<◌, ◌≡◌, List, [], ◌++◌, length, drop, Bool, true, false, Option, Some, None, Result, Ok, Err}
 use Rattle.jop_base.specs.Outside.{SourceNow, HasRisen}
 use Rattle.jop_base.specs.declared.reading.ReadErr.{ReadErr}
 use Rattle.jop_base.specs.declared.reading.ReadErr.TheVariants.{Fault, TooLarge, NoMemory}
@@ -38,3 +38,20 @@ ReadsAll limit old (Ok bytes) new = WasRead limit old bytes new
 ReadsAll limit old (Err TooLarge) new = WasTooLarge limit old new
 ReadsAll limit old (Err Fault) new = HasRisen old.faults new.faults
 ReadsAll limit old (Err NoMemory) new = new.faults ≡ old.faults
+
+-- these bytes were read, and the rest is left
+abbrev pub SoFar : Option (List ℕ) → List ℕ → Option (List ℕ) → Type 0
+SoFar None bytes after = after ≡ None
+SoFar (Some before) bytes after = (rest : List ℕ) × (before ≡ bytes ++ rest) × (after ≡ Some rest)
+
+-- these bytes were read without a fault, and no more than tell whether the source is past its limit
+pub record IsAt (limit : ℕ) (old : SourceNow) (bytes : List ℕ) (new : SourceNow) : Type 0 where
+  pub so_far : SoFar old.left bytes new.left
+  pub within : length bytes ≤ limit + 1
+  pub stays : new.faults ≡ old.faults
+
+-- what reading a piece more comes to: there was one, or the source had ended, or a refusal
+abbrev pub ReadsOn : ℕ → SourceNow → Result Bool ReadErr → List ℕ → SourceNow → Type 0
+ReadsOn limit old (Ok true) bytes new = IsAt limit old bytes new
+ReadsOn limit old (Ok false) bytes new = WasRead limit old bytes new
+ReadsOn limit old (Err error) bytes new = ReadsAll limit old (Err error) new

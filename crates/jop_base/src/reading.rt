@@ -1,5 +1,6 @@
-ghost use Rattle.std.specs.Prelude.{◌≤◌};
-ghost use Rattle.jop_base.specs.Reading.{IsRestOf, ReadsAll};
+ghost use Rattle.std.specs.Prelude.{◌≡◌, ◌<◌, ◌≤◌, IfOk, length, true};
+ghost use Rattle.jop_base.specs.Outside.{SourceNow};
+ghost use Rattle.jop_base.specs.Reading.{IsAt, IsRestOf, ReadsAll, ReadsOn};
 
 use crate::bytes::Bytes;
 use crate::failed::Failed;
@@ -51,12 +52,32 @@ pub fn read_to_end<S: Source>(alloc: Global, source: &mut S, limit: usize) -> Re
     let mut bytes = Bytes::new(alloc);
     let mut piece = [0; PIECE];
     while bytes.len() <= limit {
-        let room = (limit - bytes.len()).min(PIECE - 1) + 1;
-        let count = source.read(&mut piece[..room])?;
-        if count == 0 {
+        if !read_more(source, limit, &mut piece, &mut bytes)? {
             return Ok(bytes);
         }
-        bytes.append(&piece[..count])?;
     }
     Err(ReadErr::TooLarge)
+}
+
+/// Reads a piece more, and answers whether there was one. With it the bytes are at most one more than the limit.
+fn read_more<S: Source>(
+    source: &mut S,
+    limit: usize,
+    piece: &mut [u8; PIECE],
+    bytes: &mut Bytes,
+) -> Result<bool, ReadErr>
+    requires { length bytes.old ≤ limit }
+
+    // Wherever the reading began.
+    ensures read { (start : SourceNow) → IsAt limit start bytes.old (S.state source.old)
+        → ReadsOn limit start result bytes.new (S.state source.new) }
+    ensures rest { (start : SourceNow) → IsAt limit start bytes.old (S.state source.old)
+        → IsRestOf limit start.left (S.state source.new).left }
+    ensures later { (S.state source.old).faults ≤ (S.state source.new).faults }
+    ensures more { IfOk result (λ more. more ≡ true → length bytes.old < length bytes.new) }
+{
+    let room = (limit - bytes.len()).min(PIECE - 1) + 1;
+    let count = source.read(&mut piece[..room])?;
+    bytes.append(&piece[..count])?;
+    Ok(count != 0)
 }

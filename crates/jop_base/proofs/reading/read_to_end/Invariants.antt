@@ -1,5 +1,5 @@
 use Rattle.std.proofs.Common.{◌+◌, ◌-◌, length}
-use Rattle.jop_base.proofs.ReadingLaws.{IsAt}
+use Rattle.jop_base.specs.Reading.{IsAt}
 use Rattle.jop_base.proofs.reading.read_to_end.Given as goal
 
 abbrev pub invariant-loop-piece : goal.invariant-loop-piece
