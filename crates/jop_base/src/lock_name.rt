@@ -66,14 +66,7 @@ impl LockName {
     pub fn file_name(&self, alloc: Global) -> Result<Text, AllocError>
         ensures { IfOk result (λ text. text ≡ file_name self.now) }
     {
-        let mut text = Text::new(alloc);
-        text.push(char::from(self.kind.digit()))?;
-        text.push('_')?;
-        text.push(char::from(b'0' + self.client_type))?;
-        text.push('_')?;
-        text.append(self.client.as_str())?;
-        text.append(".json")?;
-        Ok(text)
+        Ok(Text::from_string(format!(in alloc; "{self}")?))
     }
 
     /// The lock whose file has this name. None exactly if no lock's has.
@@ -121,11 +114,8 @@ impl fmt::Display for LockName {
     ghost output = { λ name. Some (file_name name) };
 
     fn fmt<W: fmt::Write>(&self, f: &mut fmt::Formatter<W>) -> fmt::Result {
-        f.write_char(char::from(self.kind.digit()))?;
-        f.write_char('_')?;
-        f.write_char(char::from(b'0' + self.client_type))?;
-        f.write_char('_')?;
-        f.write_str(self.client.as_str())?;
-        f.write_str(".json")
+        let kind = char::from(self.kind.digit());
+        let client_type = char::from(b'0' + self.client_type);
+        write!(f, "{kind}_{client_type}_{}.json", self.client)
     }
 }

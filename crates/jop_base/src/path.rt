@@ -91,12 +91,7 @@ impl Path {
     pub fn text(&self, alloc: Global) -> Result<Text, AllocError>
         ensures { IfOk result (λ text. text ≡ path_text self.now) }
     {
-        let mut text = self.dir().text(alloc)?;
-        if !text.is_empty() {
-            text.push('/')?;
-        }
-        text.append(self.file_name(alloc)?.as_str())?;
-        Ok(text)
+        Ok(Text::from_string(format!(in alloc; "{self}")?))
     }
 }
 

@@ -1,4 +1,4 @@
-ghost use Rattle.std.specs.Prelude.{◌≡◌, ◌++◌, [], ◌∷◌, ◌↔◌, IfOk, OnOk, OnErr, IfErr, IsTrue, MatchOption, IfSome, OnSome, length};
+ghost use Rattle.std.specs.Prelude.{◌≡◌, ◌++◌, [], ◌∷◌, ◌↔◌, IfOk, OnOk, OnErr, IfErr, IsTrue, MatchOption, IfSome, OnSome, length, string_bytes};
 ghost use Rattle.std.specs.Char.{encode_utf8};
 ghost use Rattle.std.specs.Str.{IsUtf8};
 
@@ -47,6 +47,13 @@ impl Text {
         Ok(Text {
             letters: letters.to_string(alloc)?,
         })
+    }
+
+    /// The same letters, without taking memory.
+    pub(crate) fn from_string(letters: String) -> Text
+        ensures { result ≡ string_bytes letters }
+    {
+        Text { letters }
     }
 
     /// The text of these bytes. None exactly if they aren't UTF-8.
