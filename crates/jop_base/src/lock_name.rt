@@ -2,8 +2,8 @@ ghost use Rattle.std.specs.Prelude.{◌≡◌, ◌≤◌, ◌+◌, ℕ, MatchOpt
 ghost use Rattle.jop_base.specs.declared.lock_name.LockKind.{LockKind};
 ghost use Rattle.jop_base.specs.LockNames.{Name, IsName, kind_digit, file_name};
 
-use crate::id::{ClientId, Id};
-use crate::path_name::before;
+use crate::id::ClientId;
+use crate::path_name::id_before;
 use crate::text::Text;
 use std::alloc::{AllocError, Global};
 use std::fmt;
@@ -79,7 +79,7 @@ impl LockName {
         };
         let kind = LockKind::read(*kind)?;
         let client_type = digit_value(*client_type)?;
-        let client = Id::read(before(rest, b".json")?)?;
+        let client = id_before(rest, b".json")?;
         Some(LockName {
             kind,
             client_type,

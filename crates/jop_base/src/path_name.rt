@@ -1,4 +1,5 @@
 ghost use Rattle.std.specs.Prelude.{◌≡◌, ◌++◌, ℕ, List, IfSome, IfNone};
+ghost use Rattle.jop_base.specs.Id.{IsIdText};
 ghost use Rattle.jop_base.specs.declared.path.Path.{Path};
 ghost use Rattle.jop_base.specs.Paths.{IsPath, IsNamed};
 
@@ -18,7 +19,7 @@ impl Path {
             Dir::Resources => Some(Path::Blob(Id::read(name)?)),
             Dir::OldSync => read_old(name),
             Dir::Locks => Some(Path::Lock(LockName::read(name)?)),
-            Dir::Temp => Some(Path::Temp(Id::read(before(name, b".tmp")?)?)),
+            Dir::Temp => Some(Path::Temp(id_before(name, b".tmp")?)),
         }
     }
 }
@@ -30,7 +31,7 @@ fn read_root(name: &[u8]) -> Option<Path>
     if name == b"info.json".as_slice() {
         return Some(Path::Info);
     }
-    Some(Path::Item(Id::read(before(name, b".md")?)?))
+    Some(Path::Item(id_before(name, b".md")?))
 }
 
 fn read_old(name: &[u8]) -> Option<Path>
@@ -44,8 +45,17 @@ fn read_old(name: &[u8]) -> Option<Path>
     }
 }
 
+/// The id that stands before the ending of a name. None exactly if no id does.
+pub(crate) fn id_before(name: &[u8], ending: &[u8]) -> Option<Id>
+    ensures some { IfSome result (λ id. (id ++ ending.now ≡ name.now) × IsIdText id) }
+    ensures none { IfNone result
+        ((id : List ℕ) → IsIdText id → ¬ (id ++ ending.now ≡ name.now)) }
+{
+    Some(Id::read(before(name, ending)?)?)
+}
+
 /// What stands before the ending of a name, if it has that ending.
-pub(crate) fn before<'a>(name: &'a [u8], ending: &[u8]) -> Option<&'a [u8]>
+fn before<'a>(name: &'a [u8], ending: &[u8]) -> Option<&'a [u8]>
     ensures some { IfSome result (λ start. start.now ++ ending.now ≡ name.now) }
     ensures none { IfNone result ((start : List ℕ) → ¬ (start ++ ending.now ≡ name.now)) }
 {

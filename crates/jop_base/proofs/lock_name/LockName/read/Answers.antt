@@ -15,5 +15,4 @@ returns-in_err-client-clause-none c = rw c.from_residual-in_err-client.ensures (
     let rest : name.client ++ codes ".json" ≡ drop 4 text = ap (λ (t : List ℕ). drop 4 t) is in
     let whole : take (length text - 4) (drop 4 text) ≡ drop 4 text =
     take_all _ _ (omega (arith, length-drop 4 text)) in
-    let client = append_cancel_right _ _ _ (rest ∙ (sym whole ∙ sym c.in_ok-before.ensures.some)) in
-    c.in_err-client.ensures.none (subst (λ (t : List ℕ). IsIdText t) client ok.client))
+    c.in_err-client.ensures.none name.client ok.client (rest ∙ sym whole))
