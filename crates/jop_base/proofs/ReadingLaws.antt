@@ -2,7 +2,7 @@
 use Rattle.std.proofs.Common.{◌≡◌, ◌≤◌, ◌<◌, ◌+◌, ◌∙◌, refl, ap, arith, ℕ, List, [], ◌++◌, length, take, drop, append_assoc, append-nil, take-append-drop, length-append, Option, Some, None, Ok, Err}
 use Rattle.std.proofs.Math.Seq.{drop-append_seam}
 use Rattle.jop_base.specs.Outside.{SourceNow, Reads}
-use Rattle.jop_base.specs.Reading.{IsAllOf, IsPastLimit, IsRestOf, SoFar, IsAt, WasRead, WasTooLarge}
+use Rattle.jop_base.specs.Reading.{IsAllOf, IsPastLimit, IsRestOf, SoFar, IsAt}
 use Rattle.jop_base.specs.declared.failed.Failed.{Failed}
 
 SoFar-nil : (a : Option (List ℕ)) → SoFar a [] a

@@ -1,7 +1,6 @@
-use Rattle.std.proofs.Common.{◌≡◌, ◌∙◌, ap, sym, subst, All, true, false}
+use Rattle.std.proofs.Common.{◌≡◌, ◌∙◌, ap, sym, subst, All}
 use Rattle.std.proofs.lemmas.List.{take_all}
-use Rattle.std.specs.declared.cmp.Ordering.TheVariants.{Less, Equal, Greater}
-use Rattle.std.proofs.lemmas.List.Elements.{All-more}
+use Rattle.std.specs.declared.cmp.Ordering.TheVariants.{Less, Equal}
 use Rattle.jop_base.proofs.PlaceLaws.{Precedes, order, Replaces-here, GoesBefore-here, GoesBefore-all}
 use Rattle.jop_base.proofs.keyed.place_for.Goals as goal
 

@@ -1,6 +1,5 @@
-use Rattle.std.proofs.Common.{◌≡◌, ◌++◌, ◌-◌, ◌∙◌, sym, ap, subst, arith, List, ℕ, get_or, take, drop, length, length-drop, codes}
-use Rattle.std.proofs.lemmas.List.{append_cancel_right, take_all}
-use Rattle.jop_base.specs.Id.{IsIdText}
+use Rattle.std.proofs.Common.{◌≡◌, ◌++◌, ◌-◌, ◌∙◌, sym, ap, arith, List, ℕ, get_or, take, drop, length, length-drop, codes}
+use Rattle.std.proofs.lemmas.List.{take_all}
 use Rattle.jop_base.proofs.lock_name.LockName.read.Goals as goal
 
 pub returns-in_err-client_type-clause-none : goal.returns-in_err-client_type-clause-none
