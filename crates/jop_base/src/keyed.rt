@@ -85,7 +85,7 @@ fn place_of<T: Keyed>(items: &[T], key: &T::Key) -> Option<usize>
     None
 }
 
-/// Where an item of a key is put: `Ok` in place of the one that stands there, `Err` before that one.
+/// Where an item of a key is put: `Ok` in place of the one there, `Err` before that one or at the end.
 fn place_for<T: Keyed>(items: &[T], key: &T::Key) -> Result<usize, usize>
     ensures ok { IfOk result (Replaces T.key items.now (T.Key.text key.now)) }
     ensures err { IfErr result (GoesBefore T.key items.now (T.Key.text key.now)) }
