@@ -1,6 +1,7 @@
 use crate::names::{ONES, id};
 use crate::texts::bytes_of;
-use jop_base::{Clock, Context, Copied, Draw, Entropy, Failed, MAX_TIME, MemClock, MemEntropy};
+use jop_base::{Context, Copied, MAX_TIME};
+use jop_outside::{Clock, Draw, Entropy, Failed, MemClock, MemEntropy};
 use std::alloc::{AllocError, Global};
 use std::test::Fail;
 

@@ -1,5 +1,7 @@
 use crate::texts::bytes_of;
-use jop_base::{Failed, MemSink, MemSource, Plan, ReadErr, Sink, Source, read_to_end, write_parts};
+use jop_outside::{
+    Failed, MemSink, MemSource, Plan, ReadErr, Sink, Source, read_to_end, write_parts,
+};
 use std::alloc::{AllocError, Global};
 use std::test::Fail;
 

@@ -1,4 +1,5 @@
-use jop_base::{Bytes, Copied, Faults, Text, is_time};
+use jop_base::{Bytes, Copied, Text, is_time};
+use jop_outside::Faults;
 use std::alloc::{AllocError, Global};
 use std::test::Fail;
 

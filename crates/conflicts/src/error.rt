@@ -1,6 +1,6 @@
 use lease::Seen;
-use local_store::KeeperErr;
 use std::alloc::AllocError;
+use table_keeper::KeeperErr;
 
 /// Why a session can't go on.
 #[derive(Clone, Copy, Debug, PartialEq, Eq)]

@@ -1,7 +1,7 @@
 -- A link that is read piece by piece.
 use Rattle.std.proofs.Common.{◌≡◌, ◌≤◌, ◌<◌, ◌-◌, ◌∙◌, refl, sym, ap, arith, ℕ, List, [], ◌++◌, length, take, drop, append_assoc, append-nil, take-append-drop, length-append, length-take, Option, Some, None, Ok, Err, subst}
-use Rattle.jop_base.specs.Outside.{Reads, HasRisen}
-use Rattle.jop_base.specs.declared.failed.Failed.{Failed}
+use Rattle.jop_outside.specs.Outside.{Reads, HasRisen}
+use Rattle.jop_outside.specs.declared.failed.Failed.{Failed}
 use Rattle.dav_link.specs.Links.{LinkNow, ReadsAlone, Takes, IsAtEnd}
 use Rattle.dav_link.specs.Receiving.{HasRead, HasKept, HasEnough, HasEnded, FailsReading}
 use Rattle.dav_link.specs.declared.error.LinkErr.{LinkErr}

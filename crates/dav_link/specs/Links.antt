@@ -1,6 +1,6 @@
 -- What is asked of every link.
 use Rattle.std.specs.Prelude.{ℕ, ◌≡◌, List, [], ◌++◌, Option, Some, None}
-use Rattle.jop_base.specs.Outside.{SinkNow}
+use Rattle.jop_outside.specs.Outside.{SinkNow}
 
 -- a link at a moment: what is left to read of it and what was written to it, if it tells, how often
 -- it was opened, and how often it has failed; at the end of 64 bits both counts stay

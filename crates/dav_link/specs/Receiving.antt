@@ -1,6 +1,6 @@
 -- What is read of a link and kept.
 use Rattle.std.specs.Prelude.{ℕ, ◌≡◌, ◌≤◌, ◌<◌, List, ◌++◌, length, Bool, true, false, Result, Ok, Err}
-use Rattle.jop_base.specs.Outside.{HasRisen}
+use Rattle.jop_outside.specs.Outside.{HasRisen}
 use Rattle.dav_link.specs.Links.{LinkNow, ReadsAlone, Takes, IsAtEnd}
 use Rattle.dav_link.specs.declared.error.LinkErr.{LinkErr}
 use Rattle.dav_link.specs.declared.error.LinkErr.TheVariants.{Fault, NoMemory}

@@ -1,4 +1,4 @@
-use jop_base::Failed;
+use jop_outside::Failed;
 use std::alloc::AllocError;
 
 /// Why nothing came over a link.

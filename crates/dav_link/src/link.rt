@@ -1,8 +1,8 @@
 ghost use Rattle.std.specs.Prelude.{◌≡◌, ◌<◌, ◌≤◌, IfOk, length};
-ghost use Rattle.jop_base.specs.Outside.{HasCause, Reads, Writes, risen};
+ghost use Rattle.jop_outside.specs.Outside.{HasCause, Reads, Writes, risen};
 ghost use Rattle.dav_link.specs.Links.{LinkNow, ReadsAlone, WritesAlone, OpensAlone};
 
-use jop_base::Failed;
+use jop_outside::Failed;
 
 /// A connection to another program, which is opened, and then read and written.
 pub trait Link: Drop {

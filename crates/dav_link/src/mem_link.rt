@@ -1,12 +1,13 @@
 ghost use Rattle.std.specs.Prelude.{◌≡◌, ◌++◌, [], ◌<◌, ◌≤◌, ◌⊎◌, OnOk, OnErr, IfOk, IsSome, None, Some, false, length, min};
 ghost use Rattle.std.specs.Bool.{OnTrue, OnFalse};
-ghost use Rattle.jop_base.specs.Outside.{HasCause, Reads, Writes, risen};
-ghost use Rattle.jop_base.specs.Plan.{after_call, next_fate, with_failing};
+ghost use Rattle.jop_outside.specs.Outside.{HasCause, Reads, Writes, risen};
+ghost use Rattle.jop_outside.specs.Plan.{after_call, next_fate, with_failing};
 ghost use Rattle.dav_link.specs.Links.{OpensAlone, ReadsAlone, WritesAlone};
 ghost use Rattle.dav_link.specs.Memory.{link_of};
 
 use crate::link::Link;
-use jop_base::{Bytes, Failed, Faults, Plan, Unread};
+use jop_base::Bytes;
+use jop_outside::{Failed, Faults, Plan, Unread};
 use std::alloc::{AllocError, Global};
 
 /// A link in memory, which gives bytes that were set before and keeps what is written. It keeps the allocator that it

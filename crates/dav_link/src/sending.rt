@@ -1,8 +1,8 @@
-ghost use Rattle.jop_base.specs.Writing.{WritesAll};
+ghost use Rattle.jop_outside.specs.Writing.{WritesAll};
 ghost use Rattle.dav_link.specs.Links.{WritesAlone, sink_of};
 
 use crate::link::Link;
-use jop_base::Failed;
+use jop_outside::Failed;
 
 /// Writes all of these bytes. After `Failed` a prefix of them was written.
 pub fn write_message<L: Link>(link: &mut L, bytes: &[u8]) -> Result<(), Failed>

@@ -1,7 +1,7 @@
 -- One request after another.
 use Rattle.std.proofs.Common.{◌≡◌, ◌≤◌, ◌-◌, ◌+◌, ◌^◌, ◌⊎◌, ◌∙◌, refl, sym, ap, subst, inl, inr, arith, ℕ, List, [], ◌∷◌, ◌++◌, length, length-append, append-nil, append_assoc, true, false, Option, Some, None, Result, Err}
 use Rattle.std.proofs.lemmas.List.{drop-append-le}
-use Rattle.jop_base.specs.Writing.{Appends}
+use Rattle.jop_outside.specs.Writing.{Appends}
 use Rattle.jop_target.specs.Trail.{LineNow}
 use Rattle.dav_link.specs.Links.{LinkNow, Takes}
 use Rattle.dav_link.specs.Receiving.{HasBroken}

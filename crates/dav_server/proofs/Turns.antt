@@ -1,6 +1,6 @@
 -- What a turn comes to.
 use Rattle.std.proofs.Common.{◌≡◌, ◌⊎◌, ◌∙◌, refl, sym, subst, inl, inr, arith, ℕ, List, [], ◌++◌, Bool, true, false, Option, Some, None}
-use Rattle.jop_base.specs.Writing.{Appends, WasWritten, WasCut}
+use Rattle.jop_outside.specs.Writing.{Appends, WasWritten, WasCut}
 use Rattle.jop_target.specs.Trail.{LineNow}
 use Rattle.jop_target.specs.declared.call.Call.{Call}
 use Rattle.dav_link.specs.Links.{LinkNow, WritesAlone, Takes, sink_of}

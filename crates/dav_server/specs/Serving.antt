@@ -1,8 +1,8 @@
 -- What a server does over one connection.
 use Rattle.std.specs.Prelude.{ℕ, ◌-◌, ◌^◌, ◌≡◌, ◌⊎◌, max, List, [], ◌∷◌, ◌++◌, length, drop, Bool, true, false, Option, Some, None, Result, Ok, Err}
 use Rattle.std.specs.declared.alloc.AllocError.{AllocError}
-use Rattle.jop_base.specs.Outside.{HasRisen}
-use Rattle.jop_base.specs.Writing.{Appends}
+use Rattle.jop_outside.specs.Outside.{HasRisen}
+use Rattle.jop_outside.specs.Writing.{Appends}
 use Rattle.jop_target.specs.Trail.{LineNow, IsAnswered, IsSent, moment_of}
 use Rattle.jop_target.specs.declared.call.Call.{Call}
 use Rattle.jop_target.specs.declared.reply.Reply.{Reply}

@@ -1,5 +1,5 @@
 use dav_link::LinkErr;
-use jop_base::Failed;
+use jop_outside::Failed;
 use std::alloc::AllocError;
 
 /// Why a connection wasn't served to its end.

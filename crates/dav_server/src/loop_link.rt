@@ -1,10 +1,11 @@
 ghost use Rattle.std.specs.Prelude.{◌≡◌, ◌≤◌, [], OnOk, OnErr, None, false};
-ghost use Rattle.jop_base.specs.Outside.{HasRisen};
-ghost use Rattle.jop_base.specs.Plan.{with_failing};
+ghost use Rattle.jop_outside.specs.Outside.{HasRisen};
+ghost use Rattle.jop_outside.specs.Plan.{with_failing};
 
 use crate::connection::serve_connection;
 use dav_link::{Link, MemLink};
-use jop_base::{Bytes, Failed, Faults, Plan, Unread};
+use jop_base::Bytes;
+use jop_outside::{Failed, Faults, Plan, Unread};
 use jop_target::{Diary, MemTarget, TargetLine};
 use std::alloc::{AllocError, Global};
 use std::mem;

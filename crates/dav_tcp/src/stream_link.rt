@@ -1,9 +1,9 @@
 ghost use Rattle.std.specs.Prelude.{◌≡◌, ◌≤◌, None, IfSome};
-ghost use Rattle.jop_base.specs.Outside.{HasRisen};
+ghost use Rattle.jop_outside.specs.Outside.{HasRisen};
 
 use crate::stream::{prepare, read_on, write_on};
 use dav_link::Link;
-use jop_base::{Failed, Faults};
+use jop_outside::{Failed, Faults};
 use std::io::{Read, Write};
 use std::net::OpenStream;
 

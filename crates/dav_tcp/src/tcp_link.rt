@@ -1,10 +1,11 @@
 ghost use Rattle.std.specs.Prelude.{◌≡◌, ◌≤◌, None, IfOk, false, is_some, length};
-ghost use Rattle.jop_base.specs.Outside.{HasRisen};
+ghost use Rattle.jop_outside.specs.Outside.{HasRisen};
 
 use crate::pace::Pace;
 use crate::stream::{prepare, read_on, write_on};
 use dav_link::Link;
-use jop_base::{Failed, Faults, Text};
+use jop_base::Text;
+use jop_outside::{Failed, Faults};
 use std::io;
 use std::io::ErrorKind;
 use std::net::{Net, OpenStream, SocketAddr, TcpStream, ToSocketAddrs};

@@ -1,7 +1,7 @@
 ghost use Rattle.std.specs.Prelude.{None};
 
 use dav_link::{Link, MemLink};
-use jop_base::Failed;
+use jop_outside::Failed;
 
 /// A link that gives one byte a read, and takes one a write.
 #[derive(Drop)]

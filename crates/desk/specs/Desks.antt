@@ -1,14 +1,14 @@
 -- A client at work: its target and what it did, its tables, its keeper, and the changes that it has made.
 use Rattle.std.specs.Prelude.{◌≡◌, ◌⊎◌, List, [], ◌∷◌, ◌++◌, length, option_map, Result, Ok, Err}
-use Rattle.jop_base.specs.Outside.{HasRisen}
+use Rattle.jop_outside.specs.Outside.{HasRisen}
 use Rattle.jop_target.specs.Trail.{LineNow}
 use Rattle.jop_target.specs.declared.event.Event.TheVariants.{Made}
 use Rattle.local_store.specs.Changing.{after}
-use Rattle.local_store.specs.Keepers.{KeeperNow, IsOfKept, changed}
+use Rattle.table_keeper.specs.Keepers.{KeeperNow, IsOfKept, changed}
 use Rattle.local_store.specs.Sound.{IsSound}
 use Rattle.local_store.specs.declared.change.Change.{Change}
-use Rattle.local_store.specs.declared.keeper_err.KeeperErr.{KeeperErr}
-use Rattle.local_store.specs.declared.keeper_err.KeeperErr.TheVariants.{Fault, NoMemory}
+use Rattle.table_keeper.specs.declared.keeper_err.KeeperErr.{KeeperErr}
+use Rattle.table_keeper.specs.declared.keeper_err.KeeperErr.TheVariants.{Fault, NoMemory}
 use Rattle.local_store.specs.declared.tables.Tables.{Tables}
 
 pub record DeskNow : Type 0 where

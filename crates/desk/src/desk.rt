@@ -1,12 +1,13 @@
 ghost use Rattle.std.specs.Prelude.{◌≡◌, IfOk, OnOk, OnErr, option_map};
 ghost use Rattle.desk.specs.Desks.{Commits, DeskNow, IsSameDesk, IsTidy, IsUnmade};
-ghost use Rattle.local_store.specs.Keepers.{HasCause, IsBlobOfKept, with_blob};
+ghost use Rattle.table_keeper.specs.Keepers.{HasCause, IsBlobOfKept, with_blob};
 ghost use Rattle.local_store.specs.Sound.{IsAllowed};
 
 use jop_base::{Bytes, Id};
 use jop_target::Line;
-use local_store::{Change, KeeperErr, Tables};
+use local_store::{Change, Tables};
 use std::alloc::Global;
+use table_keeper::KeeperErr;
 
 /// A client at work: a line to a target, and tables with their keeper.
 pub trait Desk: Line {

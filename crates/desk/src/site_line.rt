@@ -5,9 +5,10 @@ use crate::applying::apply_last;
 use crate::desk::Desk;
 use jop_base::{Bytes, Id};
 use jop_target::{Call, Diary, Event, Line, Reply, Target, TargetLine};
-use local_store::{Change, Changes, Keeper, KeeperErr, Tables};
+use local_store::{Change, Changes, Tables};
 use site::commit;
 use std::alloc::{AllocError, Global};
+use table_keeper::{Keeper, KeeperErr};
 
 /// A client at work on a target and a keeper. Its tables are the keeper's, read once.
 #[derive(Drop)]

@@ -7,7 +7,7 @@ use Rattle.std.specs.declared.cmp.Ordering.TheVariants.{Less, Equal, Greater}
 use Rattle.std.specs.Cmp.Lexicographic.{slice_cmp}
 use Rattle.std.specs.Ordering.{is_lt, is_eq, nat_cmp}
 use Rattle.std.proofs.lemmas.List.Elements.{All-head, All-tail}
-use Rattle.jop_base.specs.Keyed.{text_lt, at, put, cut, IsPlaceOf, IsLacking, Replaces, GoesBefore}
+use Rattle.jop_base.specs.Keyed.{text_lt, at, put, cut, IsFirstPlaceOf, IsLacking, Replaces, GoesBefore}
 use Rattle.std.proofs.lemmas.Slice.Eq.{bytes_eq-Decides}
 use Rattle.jop_base.proofs.KeyedLaws.{same_text, bytes_eq-sym, bytes_eq-by_cmp}
 
@@ -33,17 +33,17 @@ differs key k x is = bytes_eq-sym k (key x) (bytes_eq-by_cmp k (key x) ∙ is)
 
 -- ---- the first item of a key
 
-pub IsPlaceOf-here : {T : Type 0} (key : T → List ℕ) (xs : List T) (k : List ℕ) (i : ℕ) (d : T)
+pub IsFirstPlaceOf-here : {T : Type 0} (key : T → List ℕ) (xs : List T) (k : List ℕ) (i : ℕ) (d : T)
     → i < length xs → All (Differs key k) (take i xs) → key (get_or xs i d) ≡ k
-    → IsPlaceOf key xs k i
+    → IsFirstPlaceOf key xs k i
 unfolding at cut
-IsPlaceOf-here key [] k i d within before is = absurd (omega arith)
-IsPlaceOf-here key (y ∷ ys) k zero d within before is =
+IsFirstPlaceOf-here key [] k i d within before is = absurd (omega arith)
+IsFirstPlaceOf-here key (y ∷ ys) k zero d within before is =
     let same : bytes_eq (key y) k ≡ true = (bytes_eq-Decides (key y) k).1 is in
     record { within = within; item = rw same refl; rest = rw same refl }
-IsPlaceOf-here key (y ∷ ys) k (suc i) d within before is =
+IsFirstPlaceOf-here key (y ∷ ys) k (suc i) d within before is =
     let other : bytes_eq (key y) k ≡ false = All-head (Differs key k) y (take i ys) before in
-    let later = IsPlaceOf-here key ys k i d (omega arith)
+    let later = IsFirstPlaceOf-here key ys k i d (omega arith)
     (All-tail (Differs key k) y (take i ys) before) is in
     record {
       within = within;

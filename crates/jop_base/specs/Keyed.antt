@@ -28,7 +28,8 @@ cut key [] k = []
 cut key (x ∷ xs) k = if bytes_eq (key x) k then xs else x ∷ cut key xs k
 
 -- the first item of a key stands at this place
-pub record IsPlaceOf {T : Type 0} (key : T → List ℕ) (xs : List T) (k : List ℕ) (place : ℕ) : Type 0 where
+pub record IsFirstPlaceOf {T : Type 0} (key : T → List ℕ) (xs : List T) (k : List ℕ) (place : ℕ)
+    : Type 0 where
   pub within : place < length xs
   pub item : at key xs k ≡ slice_get xs place
   pub rest : cut key xs k ≡ remove xs place
@@ -39,12 +40,14 @@ pub record IsLacking {T : Type 0} (key : T → List ℕ) (xs : List T) (k : List
   pub rest : cut key xs k ≡ xs
 
 -- an item of a key is put in place of the one that stands there
-pub record Replaces {T : Type 0} (key : T → List ℕ) (xs : List T) (k : List ℕ) (place : ℕ) : Type 0 where
+pub record Replaces {T : Type 0} (key : T → List ℕ) (xs : List T) (k : List ℕ) (place : ℕ)
+    : Type 0 where
   pub within : place < length xs
   pub put : (x : T) → key x ≡ k → put key xs x ≡ slice_set xs place x
 
 -- an item of a key is put before the one that stands there, or at the end
-pub record GoesBefore {T : Type 0} (key : T → List ℕ) (xs : List T) (k : List ℕ) (place : ℕ) : Type 0 where
+pub record GoesBefore {T : Type 0} (key : T → List ℕ) (xs : List T) (k : List ℕ) (place : ℕ)
+    : Type 0 where
   pub within : place ≤ length xs
   pub put : (x : T) → key x ≡ k → put key xs x ≡ insert xs place x
 

@@ -1,12 +1,6 @@
-pub mod Clocks
 pub mod Id
 pub mod Keyed
 pub mod LockNames
 pub mod Order
-pub mod Outside
 pub mod Paths
-pub mod Plan
-pub mod Random
-pub mod Reading
 pub mod Times
-pub mod Writing

@@ -2,7 +2,7 @@ ghost use Rattle.std.specs.Prelude.{◌≡◌, ◌<◌, ℕ, List, IfSome, IfNon
 ghost use Rattle.std.specs.Option.{option_copied};
 ghost use Rattle.std.specs.Ordering.{nat_cmp};
 ghost use Rattle.std.specs.Cmp.Lexicographic.{slice_cmp};
-ghost use Rattle.jop_base.specs.Keyed.{at, put, cut, IsPlaceOf, IsLacking, Replaces, GoesBefore};
+ghost use Rattle.jop_base.specs.Keyed.{at, put, cut, IsFirstPlaceOf, IsLacking, Replaces, GoesBefore};
 ghost use Rattle.jop_base.specs.Paths.{path_text, dir_text};
 
 use crate::dir::Dir;
@@ -74,7 +74,7 @@ fn compare<T: Keyed>(key: &T::Key, item: &T) -> Ordering
 
 /// Where the first item of a key stands.
 fn place_of<T: Keyed>(items: &[T], key: &T::Key) -> Option<usize>
-    ensures some { IfSome result (IsPlaceOf T.key items.now (T.Key.text key.now)) }
+    ensures some { IfSome result (IsFirstPlaceOf T.key items.now (T.Key.text key.now)) }
     ensures none { IfNone result (IsLacking T.key items.now (T.Key.text key.now)) }
 {
     for place in 0..items.len() {

@@ -2,7 +2,7 @@
 use Rattle.std.proofs.Common.{◌≡◌, refl, sym, subst, inr, ℕ, List, [], ◌++◌, Some, Result, Ok, Err}
 use Rattle.std.proofs.lemmas.List.Elements.{All-nil}
 use Rattle.exclusion.specs.Exclusive.{KeepsExclusive}
-use Rattle.jop_base.specs.Outside.{SinkNow}
+use Rattle.jop_outside.specs.Outside.{SinkNow}
 use Rattle.jop_base.specs.declared.lock_name.LockKind.TheVariants.{Sync}
 use Rattle.jop_target.specs.Replies.{TargetNow}
 use Rattle.jop_target.specs.Runs.{Continues}

@@ -3,8 +3,8 @@ use Rattle.std.proofs.Common.{◌≡◌, ◌∙◌, refl, sym, ap, subst, inl, i
 use Rattle.std.proofs.Common.{Bool, true, false, Option, Some, None, Result, Ok, Err}
 use Rattle.std.specs.Prelude.{option_map}
 use Rattle.std.proofs.lemmas.List.Elements.{All-nil, All-cons}
-use Rattle.jop_base.specs.Outside.{HasRisen, SourceNow}
-use Rattle.jop_base.specs.Random.{EntropyNow}
+use Rattle.jop_outside.specs.Outside.{HasRisen, SourceNow}
+use Rattle.jop_outside.specs.Random.{EntropyNow}
 use Rattle.jop_target.specs.Replies.{TargetNow}
 use Rattle.jop_target.specs.declared.event.Event.{Event}
 use Rattle.jop_target.specs.declared.event.Event.TheVariants.{Made}
@@ -25,7 +25,7 @@ use Rattle.local_commands.specs.declared.local_command.LocalCommand.{LocalComman
 use Rattle.local_commands.specs.declared.local_err.LocalErr.{LocalErr}
 use Rattle.local_commands.specs.declared.local_err.LocalErr.TheVariants.{KeeperFault, SourceFault, ClockFault, EntropyFault, NotFound, Sealed, TimeEnd, NotEmpty, NoConflict, TooLarge, NotText, NoMemory}
 use Rattle.local_store.specs.Changing.{after_all}
-use Rattle.local_store.specs.Keepers.{KeeperNow, Kept, changed}
+use Rattle.table_keeper.specs.Keepers.{KeeperNow, Kept, changed}
 use Rattle.local_store.specs.declared.change.Change.{Change}
 use Rattle.jop_cli.proofs.Licensed.{AllLocal, local_licensed}
 use Rattle.jop_cli.proofs.LocalLicences.{makes_local}

@@ -1,7 +1,7 @@
 -- Tables, once they name their client.
 use Rattle.std.specs.Prelude.{◌≡◌, List, ℕ, Option, Some, None, option_map}
 use Rattle.std.proofs.Common.{ap, subst, sym}
-use Rattle.local_store.specs.Keepers.{IsOfKept, Kept, changed}
+use Rattle.table_keeper.specs.Keepers.{IsOfKept, Kept, changed}
 use Rattle.local_store.specs.Sound.{IsSound}
 use Rattle.local_store.specs.declared.change.Change.TheVariants.{Named}
 use Rattle.local_store.specs.declared.tables.Tables.{Tables}

@@ -2,13 +2,13 @@
 use Rattle.std.proofs.Common.{◌≡◌, ◌∙◌, sym, ap, subst, inl, inr, ℕ, List, [], ◌∷◌, ◌++◌, append-nil, Some, Ok, Err}
 use Rattle.std.specs.Prelude.{option_map}
 use Rattle.std.proofs.lemmas.List.{append_cancel_left}
-use Rattle.jop_base.specs.Random.{EntropyNow}
+use Rattle.jop_outside.specs.Random.{EntropyNow}
 use Rattle.jop_target.specs.declared.event.Event.{Event}
 use Rattle.jop_target.specs.declared.event.Event.TheVariants.{Made}
 use Rattle.licences.specs.Deeds.{deeds_of}
 use Rattle.licences.specs.Licences.{Each, ObeysData}
 use Rattle.licences.specs.Views.{at_rest}
-use Rattle.local_store.specs.Keepers.{KeeperNow, Kept, changed}
+use Rattle.table_keeper.specs.Keepers.{KeeperNow, Kept, changed}
 use Rattle.local_store.specs.declared.change.Change.{Change}
 use Rattle.local_store.specs.declared.change.Change.TheVariants.{Named}
 use Rattle.site.specs.Owning.{OwnNow, Owns, own}

@@ -2,10 +2,10 @@
 use Rattle.std.proofs.Common.{◌≡◌, ◌∙◌, refl, sym, ap, subst, inl, inr, ℕ, List, [], ◌∷◌, true, false, Option, Some, None, Ok, Err}
 use Rattle.std.specs.Prelude.{option_map}
 use Rattle.std.proofs.lemmas.List.Elements.{All-cons, All-nil}
-use Rattle.jop_base.specs.Random.{EntropyNow}
+use Rattle.jop_outside.specs.Random.{EntropyNow}
 use Rattle.jop_target.specs.declared.event.Event.TheVariants.{Made}
 use Rattle.local_store.specs.Changing.{after_all}
-use Rattle.local_store.specs.Keepers.{KeeperNow, Kept, changed}
+use Rattle.table_keeper.specs.Keepers.{KeeperNow, Kept, changed}
 use Rattle.local_store.specs.declared.change.Change.{Change}
 use Rattle.local_store.specs.declared.change.Change.TheVariants.{Named}
 use Rattle.site.specs.Owning.{NamesClient, OwnNow, Owns, own}

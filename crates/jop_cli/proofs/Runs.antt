@@ -4,10 +4,10 @@ use Rattle.std.proofs.Common.{Bool, true, false, Option, Some, None, Ok, Err}
 use Rattle.std.specs.Prelude.{option_map}
 use Rattle.std.proofs.lemmas.List.{append-nil}
 use Rattle.std.proofs.lemmas.List.Elements.{All-nil}
-use Rattle.jop_base.specs.Clocks.{ClockNow}
-use Rattle.jop_base.specs.Outside.{SourceNow}
-use Rattle.jop_base.specs.Random.{EntropyNow}
-use Rattle.jop_base.specs.Reading.{IsRestOf}
+use Rattle.jop_outside.specs.Clocks.{ClockNow}
+use Rattle.jop_outside.specs.Outside.{SourceNow}
+use Rattle.jop_outside.specs.Random.{EntropyNow}
+use Rattle.jop_outside.specs.Reading.{IsRestOf}
 use Rattle.jop_target.specs.Replies.{TargetNow}
 use Rattle.jop_target.specs.Runs.{Continues, LeadsTo, TellsRun, has_failed}
 use Rattle.jop_target.specs.Store.{Store}
@@ -22,7 +22,7 @@ use Rattle.local_commands.proofs.Acting.{none_kept}
 use Rattle.local_commands.specs.Sparing.{SparesClock, SparesInput, SparesRandom}
 use Rattle.local_commands.specs.declared.local_command.LocalCommand.{LocalCommand}
 use Rattle.local_store.specs.Changing.{after_all}
-use Rattle.local_store.specs.Keepers.{KeeperNow, Kept}
+use Rattle.table_keeper.specs.Keepers.{KeeperNow, Kept}
 use Rattle.local_store.specs.declared.change.Change.{Change}
 use Rattle.local_store.specs.declared.tables.Tables.{Tables}
 use Rattle.jop_cli.specs.Causes.{HasNoCause, IsExplained}

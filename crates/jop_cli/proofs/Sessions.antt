@@ -1,7 +1,7 @@
 -- What follows of how a session ended.
 use Rattle.std.proofs.Common.{◌≡◌, ◌∙◌, refl, sym, ap, inl, inr, ℕ, List, [], ◌∷◌, ◌++◌, append_assoc}
 use Rattle.std.proofs.Common.{Bool, true, false, ◌||◌, Result, Ok, Err}
-use Rattle.jop_base.specs.Outside.{SinkNow}
+use Rattle.jop_outside.specs.Outside.{SinkNow}
 use Rattle.jop_target.proofs.Runs.{has_failed-append}
 use Rattle.jop_target.specs.Runs.{has_failed}
 use Rattle.jop_target.specs.declared.call.Call.{Call}

@@ -16,7 +16,7 @@ use Rattle.lease.specs.declared.lease.Lease.{Lease}
 use Rattle.licences.specs.Deeds.{Deed, Asks}
 use Rattle.licences.specs.Trails.{session_calls}
 use Rattle.licences.specs.Views.{Heard}
-use Rattle.local_store.specs.Keepers.{IsOfKept, KeeperNow}
+use Rattle.table_keeper.specs.Keepers.{IsOfKept, KeeperNow}
 use Rattle.local_store.specs.declared.tables.Tables.{Tables}
 use Rattle.session_steps.specs.Parts.{but_locks}
 use Rattle.session_steps.specs.Work.{IsReady, view_of, work}

@@ -15,10 +15,10 @@ use Rattle.licences.specs.Views.{View, at_rest, changed, heard, seen}
 use Rattle.local_commands.specs.Keeping.{Act, MakeChange, SaveBlob, kept_after_all}
 use Rattle.local_commands.specs.Keeping as keeping
 use Rattle.local_store.specs.Changing.{after, after_all, conflicted, uploaded}
-use Rattle.local_store.specs.Keepers.{IsOfKept, KeeperNow, Kept, with_blob}
-use Rattle.local_store.specs.Keepers as keepers
+use Rattle.table_keeper.specs.Keepers.{IsOfKept, KeeperNow, Kept, with_blob}
+use Rattle.table_keeper.specs.Keepers as keepers
 use Rattle.local_store.specs.Tables.{row_at}
-use Rattle.local_store.specs.declared.blob.Blob.{Blob}
+use Rattle.table_keeper.specs.declared.blob.Blob.{Blob}
 use Rattle.local_store.specs.declared.change.Change.{Change}
 use Rattle.local_store.specs.declared.change.Change.TheVariants.{Conflict, ContextIs, Dropped, Gone, InfoIs, Moved, Taken, Uploaded}
 use Rattle.local_store.specs.declared.content.Content.{Content}

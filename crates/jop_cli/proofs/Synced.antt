@@ -2,7 +2,7 @@
 use Rattle.std.proofs.Common.{◌≡◌, ◌∙◌, ◌≤◌, refl, sym, ap, subst, arith, inl, inr, ℕ, List, [], ◌∷◌, ◌++◌, true, Some, None, Result, Ok, Err}
 use Rattle.std.proofs.lemmas.List.Elements.{All-nil}
 use Rattle.conflicts.specs.declared.report.SyncReport.{SyncReport}
-use Rattle.jop_base.specs.Outside.{HasRisen, SinkNow}
+use Rattle.jop_outside.specs.Outside.{HasRisen, SinkNow}
 use Rattle.jop_base.specs.declared.lock_name.LockKind.{LockKind}
 use Rattle.jop_base.specs.declared.lock_name.LockKind.TheVariants as kinds
 use Rattle.jop_target.specs.Replies.{TargetNow}
@@ -12,7 +12,7 @@ use Rattle.lease.specs.Calls.{EndsFailed}
 use Rattle.lease.specs.Outcomes.{HasMissed, IsBlocked}
 use Rattle.lease.specs.Phase.{Phase}
 use Rattle.lease.specs.declared.lock.Lock.{Lock}
-use Rattle.local_store.specs.Keepers.{KeeperNow}
+use Rattle.table_keeper.specs.Keepers.{KeeperNow}
 use Rattle.local_store.specs.declared.change.Change.{Change}
 use Rattle.local_store.specs.declared.tables.Tables.{Tables}
 use Rattle.session_steps.specs.Steps.{IsStep}

@@ -7,10 +7,10 @@ use Rattle.item_text.specs.Canonical.{IsCanonical, Tidies as ItemTidies}
 use Rattle.item_text.specs.Grammar.{first_fault}
 use Rattle.item_text.specs.declared.bad_item.ItemErr.{ItemErr}
 use Rattle.item_text.specs.declared.bad_item.ItemErr.TheVariants as item_errors
-use Rattle.jop_base.specs.Outside.{SourceNow}
-use Rattle.jop_base.specs.Reading.{IsAllOf, IsPastLimit, ReadsAll, WasRead}
-use Rattle.jop_base.specs.declared.reading.ReadErr.{ReadErr}
-use Rattle.jop_base.specs.declared.reading.ReadErr.TheVariants as read_errors
+use Rattle.jop_outside.specs.Outside.{SourceNow}
+use Rattle.jop_outside.specs.Reading.{IsAllOf, IsPastLimit, ReadsAll, WasRead}
+use Rattle.jop_outside.specs.declared.reading.ReadErr.{ReadErr}
+use Rattle.jop_outside.specs.declared.reading.ReadErr.TheVariants as read_errors
 use Rattle.local_commands.specs.Sparing.{IsReadOf}
 use Rattle.jop_cli.proofs.Runs.{acts_quiet, explained_emit}
 use Rattle.jop_cli.specs.Commands.Tidy.{IsAnswerTo, StandsFor, TIDY_LIMIT, Tidies, TidiesBytes, TidiesInput, bytes_outcome, item_err, outcome_of, read_err, status_of}

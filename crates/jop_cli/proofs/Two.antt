@@ -1,9 +1,9 @@
 -- Two parts that are written in a row.
 use Rattle.std.proofs.Common.{sym, subst, ℕ, List, [], ◌++◌, append-nil, Result, Ok, Err}
-use Rattle.jop_base.specs.Outside.{SinkNow}
-use Rattle.jop_base.specs.Writing.{WasCut, WasWritten, WritesAll}
-use Rattle.jop_base.specs.declared.failed.Failed.{Failed}
-use Rattle.jop_base.proofs.WritingLaws.{IsAt, at_cut, at_end, at_next, at_start}
+use Rattle.jop_outside.specs.Outside.{SinkNow}
+use Rattle.jop_outside.specs.Writing.{WasCut, WasWritten, WritesAll}
+use Rattle.jop_outside.specs.declared.failed.Failed.{Failed}
+use Rattle.jop_outside.proofs.WritingLaws.{IsAt, at_cut, at_end, at_next, at_start}
 
 pub cut_before : (a b : SinkNow) (first second : List ℕ) → WasCut a first b →
     WasCut a (first ++ second) b

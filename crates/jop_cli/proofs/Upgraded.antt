@@ -1,12 +1,12 @@
 -- What an upgrade comes to.
 use Rattle.std.proofs.Common.{◌≡◌, refl, sym, subst, inl, inr, ℕ, List, [], true, Some, None, Result, Ok, Err, false}
 use Rattle.std.proofs.lemmas.List.Elements.{All-nil}
-use Rattle.jop_base.specs.Outside.{SinkNow}
+use Rattle.jop_outside.specs.Outside.{SinkNow}
 use Rattle.jop_base.specs.declared.lock_name.LockKind.TheVariants.{Exclusive}
 use Rattle.jop_target.specs.Replies.{TargetNow}
 use Rattle.jop_target.specs.declared.event.Event.{Event}
 use Rattle.lease.specs.Phase.{Asked, Renewing}
-use Rattle.local_store.specs.Keepers.{KeeperNow}
+use Rattle.table_keeper.specs.Keepers.{KeeperNow}
 use Rattle.local_store.specs.declared.change.Change.{Change}
 use Rattle.site.specs.Owning.{NamesClient, Owns, own}
 use Rattle.site.specs.declared.own_err.OwnErr.{OwnErr}

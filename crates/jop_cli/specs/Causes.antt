@@ -1,8 +1,8 @@
 -- Why a run ends so: the cause of each status.
 use Rattle.std.specs.Prelude.{ℕ, ◌+◌, ◌<◌, ◌≡◌, ◌⊎◌, List, [], ◌∷◌, ◌++◌, true, Option, Some, None, Err}
 use Rattle.delta.specs.Page.{fail_safe}
-use Rattle.jop_base.specs.Outside.{HasRisen, SourceNow}
-use Rattle.jop_base.specs.Reading.{WasTooLarge}
+use Rattle.jop_outside.specs.Outside.{HasRisen, SourceNow}
+use Rattle.jop_outside.specs.Reading.{WasTooLarge}
 use Rattle.jop_base.specs.declared.dir.Dir.TheVariants.{Root}
 use Rattle.jop_base.specs.declared.lock_name.LockKind.{LockKind}
 use Rattle.jop_base.specs.declared.path.Path.TheVariants.{Info as InfoFile, Lock as LockFile, OldVersion}
@@ -26,7 +26,7 @@ use Rattle.licences.specs.Views.{Heard, synced_ids}
 use Rattle.local_commands.specs.declared.local_command.LocalCommand.{LocalCommand}
 use Rattle.local_commands.specs.declared.local_err.LocalErr.{LocalErr}
 use Rattle.local_commands.specs.declared.local_err.LocalErr.TheVariants.{NotFound, Sealed, TimeEnd, TooLarge, NoConflict, NotEmpty, NotText}
-use Rattle.local_store.specs.Keepers.{IsOfKept, KeeperNow}
+use Rattle.table_keeper.specs.Keepers.{IsOfKept, KeeperNow}
 use Rattle.local_store.specs.declared.tables.Tables.{Tables}
 use Rattle.opening.specs.Opening.{IsOldVersion}
 use Rattle.sync_info.specs.declared.info.Info.{Info}

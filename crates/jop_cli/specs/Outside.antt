@@ -1,11 +1,11 @@
 -- What is known of the outside at a moment, and what a run did.
 use Rattle.std.specs.Prelude.{List}
-use Rattle.jop_base.specs.Clocks.{ClockNow}
-use Rattle.jop_base.specs.Outside.{SinkNow, SourceNow}
-use Rattle.jop_base.specs.Random.{EntropyNow}
+use Rattle.jop_outside.specs.Clocks.{ClockNow}
+use Rattle.jop_outside.specs.Outside.{SinkNow, SourceNow}
+use Rattle.jop_outside.specs.Random.{EntropyNow}
 use Rattle.jop_target.specs.Replies.{TargetNow}
 use Rattle.jop_target.specs.declared.event.Event.{Event}
-use Rattle.local_store.specs.Keepers.{KeeperNow}
+use Rattle.table_keeper.specs.Keepers.{KeeperNow}
 use Rattle.local_store.specs.declared.change.Change.{Change}
 
 -- what each object of the outside tells of itself, and how often it has failed

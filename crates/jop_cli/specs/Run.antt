@@ -1,8 +1,8 @@
 -- What a run of the program comes to.
 use Rattle.std.specs.Prelude.{ℕ, ◌≤◌, ◌≡◌, ◌⊎◌, List, [], ◌++◌, Bool, true, false}
 use Rattle.std.specs.Prelude.{Option, Some, None, Ok, Err, option_map}
-use Rattle.jop_base.specs.Outside.{HasRisen, SinkNow}
-use Rattle.jop_base.specs.Writing.{WasCut, WasWritten}
+use Rattle.jop_outside.specs.Outside.{HasRisen, SinkNow}
+use Rattle.jop_outside.specs.Writing.{WasCut, WasWritten}
 use Rattle.jop_target.specs.declared.event.Event.{Event}
 use Rattle.jop_target.specs.Runs.{TellsRun, has_failed}
 use Rattle.jop_target.specs.Replies.{TargetNow}
@@ -15,7 +15,7 @@ use Rattle.local_commands.specs.Keeping.{Act, changes_in, kept_after_all}
 use Rattle.local_commands.specs.Sparing.{SparesClock, SparesInput, SparesRandom}
 use Rattle.local_commands.specs.declared.local_command.LocalCommand.{LocalCommand}
 use Rattle.local_store.specs.Changing.{after_all}
-use Rattle.local_store.specs.Keepers.{KeeperNow, Kept}
+use Rattle.table_keeper.specs.Keepers.{KeeperNow, Kept}
 use Rattle.local_store.specs.declared.change.Change.{Change}
 use Rattle.local_store.specs.declared.tables.Tables.{Tables}
 use Rattle.jop_cli.specs.Causes.{HasNoCause, IsExplained}

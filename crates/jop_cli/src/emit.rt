@@ -1,5 +1,5 @@
 ghost use Rattle.std.specs.Prelude.{◌++◌, Ok};
-ghost use Rattle.jop_base.specs.Writing.{WritesAll};
+ghost use Rattle.jop_outside.specs.Writing.{WritesAll};
 ghost use Rattle.local_commands.specs.Lines.{printed_text};
 ghost use Rattle.jop_cli.specs.Commands.Sync.{bad_text, counts_text, report_text};
 ghost use Rattle.jop_cli.specs.Commands.Upgrade.{version_line};
@@ -9,7 +9,8 @@ ghost use Rattle.jop_cli.specs.Run.{Emits};
 use crate::piece::{Piece, write_pieces};
 use crate::status::Status;
 use conflicts::SyncReport;
-use jop_base::{Failed, Id, Sink, write_whole};
+use jop_base::Id;
+use jop_outside::{Failed, Sink, write_whole};
 use local_commands::Printed;
 
 /// Prints the text that a command came to.

@@ -1,9 +1,10 @@
 ghost use Rattle.jop_base.specs.LockNames.{file_name};
-ghost use Rattle.jop_base.specs.Writing.{WritesAll};
+ghost use Rattle.jop_outside.specs.Writing.{WritesAll};
 ghost use Rattle.jop_cli.specs.Pieces.{piece_text, pieces_text};
 
 use itoa::Buffer;
-use jop_base::{Failed, Id, LockName, Sink, write_parts, write_whole};
+use jop_base::{Id, LockName};
+use jop_outside::{Failed, Sink, write_parts, write_whole};
 
 /// A part of a text. Texts that are written piece by piece take no memory.
 #[derive(Clone, Copy)]

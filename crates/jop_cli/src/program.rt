@@ -12,11 +12,12 @@ use crate::piece::Piece;
 use crate::report::report;
 use crate::status::Status;
 use command_line::{Verb, Words, WordsErr, read_words};
-use jop_base::{Clock, Entropy, Sink, Source};
+use jop_outside::{Clock, Entropy, Sink, Source};
 use jop_target::{Diary, Target};
 use kept_tables::notes_are_kept_by_tables;
-use local_store::{Changes, Keeper};
+use local_store::Changes;
 use std::alloc::Global;
+use table_keeper::Keeper;
 
 /// Does what the words say, with these things of the outside, and writes the status's line on `err`.
 pub fn run<K: Keeper, T: Target, I: Source, O: Sink, E: Sink, C: Clock, N: Entropy>(

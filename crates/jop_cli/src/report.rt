@@ -1,7 +1,7 @@
 ghost use Rattle.std.specs.Prelude.{◌≡◌, ◌++◌, codes};
 ghost use Rattle.std.specs.Fmt.{decimal};
 ghost use Rattle.jop_base.specs.LockNames.{file_name};
-ghost use Rattle.jop_base.specs.Writing.{WritesAll};
+ghost use Rattle.jop_outside.specs.Writing.{WritesAll};
 ghost use Rattle.jop_cli.specs.Run.{Reports};
 ghost use Rattle.jop_cli.specs.Statuses.{line_of, row_of, why_text};
 
@@ -9,7 +9,8 @@ use crate::command::help::USAGE_LINE;
 use crate::piece::{Piece, write_pieces};
 use crate::status::Status;
 use item_text::BadWhy;
-use jop_base::{Failed, Id, LockName, Sink};
+use jop_base::{Id, LockName};
+use jop_outside::{Failed, Sink};
 
 /// Writes the line of the status on standard error, or as much of it as is taken.
 pub(crate) fn report<E: Sink>(err: &mut E, status: &Status)

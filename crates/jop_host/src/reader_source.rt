@@ -1,7 +1,7 @@
 ghost use Rattle.std.specs.Prelude.{◌≡◌, ◌≤◌, None, IfOk, length};
-ghost use Rattle.jop_base.specs.Outside.{HasRisen};
+ghost use Rattle.jop_outside.specs.Outside.{HasRisen};
 
-use jop_base::{Failed, Faults, Source};
+use jop_outside::{Failed, Faults, Source};
 use std::io;
 use std::io::{ErrorKind, Read};
 

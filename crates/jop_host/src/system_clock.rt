@@ -1,7 +1,8 @@
 ghost use Rattle.std.specs.Prelude.{◌≡◌, ◌≤◌, IfSome};
 ghost use Rattle.jop_base.specs.Times.{last_time};
 
-use jop_base::{Clock, Failed, Faults, MAX_TIME};
+use jop_base::MAX_TIME;
+use jop_outside::{Clock, Failed, Faults};
 use std::time::SystemTime;
 
 /// The system's clock. It tells nothing of what it shows next.

@@ -1,6 +1,6 @@
 ghost use Rattle.std.specs.Prelude.{◌≡◌};
 
-use jop_base::{Entropy, Failed, Faults};
+use jop_outside::{Entropy, Failed, Faults};
 use std::random::RandomSource;
 
 /// The system's source of random bytes. It tells nothing of what it gives next.

@@ -1,10 +1,10 @@
 -- What a run on a keeper and a target of its own comes to.
 use Rattle.std.specs.Prelude.{ℕ, ◌≡◌, List, Bool, true, false, Option, Some, None}
-use Rattle.jop_base.specs.Clocks.{ClockNow}
-use Rattle.jop_base.specs.Outside.{SinkNow, SourceNow}
-use Rattle.jop_base.specs.Random.{EntropyNow}
+use Rattle.jop_outside.specs.Clocks.{ClockNow}
+use Rattle.jop_outside.specs.Outside.{SinkNow, SourceNow}
+use Rattle.jop_outside.specs.Random.{EntropyNow}
 use Rattle.jop_target.specs.Replies.{TargetNow}
-use Rattle.local_store.specs.Keepers.{KeeperNow}
+use Rattle.table_keeper.specs.Keepers.{KeeperNow}
 use Rattle.command_line.specs.Commands.{target_words}
 use Rattle.jop_cli.specs.Outside.{Ran, seen}
 use Rattle.jop_cli.specs.Run.{Does, Reports}

@@ -1,7 +1,7 @@
 ghost use Rattle.std.specs.Prelude.{◌≡◌};
 ghost use Rattle.jop_start.specs.Starting.{exit_of};
 
-use jop_base::Failed;
+use jop_outside::Failed;
 use std::alloc::{AllocError, AllocFailed};
 
 /// Why the outside of a run couldn't be made.

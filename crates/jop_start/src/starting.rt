@@ -6,14 +6,15 @@ use crate::outside::Outside;
 use crate::server::server_target;
 use crate::start_err::StartErr;
 use command_line::{Profile, TargetKind, TargetName, Words, profile_words, target_words};
-use jop_base::{Clock, Entropy, Sink, Source};
 use jop_cli::run;
 use jop_host::SystemEntropy;
+use jop_outside::{Clock, Entropy, Sink, Source};
 use jop_target::{Diary, MemTarget, Target};
 use keeper_sqlite::keeper_at;
-use local_store::{Changes, Keeper, MemKeeper};
+use local_store::Changes;
 use site::draw_id;
 use std::alloc::AllocError;
+use table_keeper::{Keeper, MemKeeper};
 use target_files::FolderTarget;
 
 /// Does what the words say, on the file of tables and the target that they name, which are opened for

@@ -2,7 +2,7 @@
 use Rattle.std.proofs.Common.{◌≡◌, ◌≤◌, refl, arith, ℕ, length, Option, Some, None, Bool, Ok}
 use Rattle.std.specs.Prelude.{nat_lt}
 use Rattle.std.proofs.lemmas.Bool.{cond_both}
-use Rattle.jop_base.specs.Plan.{next_fate}
+use Rattle.jop_outside.specs.Plan.{next_fate}
 use Rattle.jop_base.specs.declared.path.Path.TheVariants.{Blob}
 use Rattle.jop_target.specs.declared.call.Call.{Call}
 use Rattle.jop_target.specs.declared.call.Call.TheVariants.{Get, Delete, GetBlob}

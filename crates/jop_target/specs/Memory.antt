@@ -2,8 +2,8 @@
 use Rattle.std.specs.Prelude.{ℕ, ◌+◌, ◌≤◌, ◌≡◌, List, [], length, All, min, Option, Some, None, Bool}
 use Rattle.jop_base.specs.Keyed.{IsSorted, put}
 use Rattle.jop_base.specs.Paths.{IsPath, dir_text}
-use Rattle.jop_base.specs.Outside.{risen}
-use Rattle.jop_base.specs.Plan.{after_call, next_fate, with_failing as with_failing_call}
+use Rattle.jop_outside.specs.Outside.{risen}
+use Rattle.jop_outside.specs.Plan.{after_call, next_fate, with_failing as with_failing_call}
 use Rattle.jop_base.specs.declared.dir.Dir.{Dir}
 use Rattle.jop_base.specs.declared.path.Path.{Path}
 use Rattle.jop_base.specs.declared.path.Path.TheVariants.{Blob}

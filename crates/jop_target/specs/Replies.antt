@@ -2,7 +2,7 @@
 use Rattle.std.specs.Prelude.{ℕ, ◌≤◌, ◌<◌, ◌≡◌, ◌⊎◌, List, length, All, Bool, true, false, Option, Some, None, Result, Ok, Err}
 use Rattle.std.specs.declared.alloc.AllocError.{AllocError}
 use Rattle.jop_base.specs.Keyed.{IsSorted}
-use Rattle.jop_base.specs.Outside.{HasRisen}
+use Rattle.jop_outside.specs.Outside.{HasRisen}
 use Rattle.jop_base.specs.Paths.{IsPath, dir_of}
 use Rattle.jop_base.specs.declared.dir.Dir.{Dir}
 use Rattle.jop_base.specs.declared.path.Path.{Path}

@@ -2,7 +2,7 @@
 use Rattle.std.specs.Prelude.{ℕ, ◌+◌, List, [], ◌∷◌, length, Bool, true, if◌then◌else◌, min, nat_lt, nat_eq, bytes_eq, Option, Some, None}
 use Rattle.jop_base.specs.Keyed.{at, put, cut}
 use Rattle.jop_base.specs.Paths.{dir_of, dir_text, path_text}
-use Rattle.jop_base.specs.Plan.{Calls, after_call, next_fate}
+use Rattle.jop_outside.specs.Plan.{Calls, after_call, next_fate}
 use Rattle.jop_base.specs.declared.dir.Dir.{Dir}
 use Rattle.jop_base.specs.declared.dir.Dir.TheVariants.{Root, Resources, OldSync, Locks, Temp}
 use Rattle.jop_base.specs.declared.path.Path.{Path}

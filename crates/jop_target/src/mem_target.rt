@@ -9,7 +9,8 @@ use crate::mem_store::MemStore;
 use crate::reply::Reply;
 use crate::target::Target;
 use crate::tree::Tree;
-use jop_base::{Bytes, Faults, MAX_TIME, Path, Plan};
+use jop_base::{Bytes, MAX_TIME, Path};
+use jop_outside::{Faults, Plan};
 use std::alloc::{AllocError, Global};
 use std::marker::Model;
 

@@ -1,11 +1,11 @@
 -- What becomes of an answer of the database.
 use Rattle.std.specs.Prelude.{ℕ, ◌≡◌, Result, Ok, Err}
-use Rattle.jop_base.specs.Outside.{risen}
+use Rattle.jop_outside.specs.Outside.{risen}
 use Rattle.sqlite.specs.declared.error.Error.{Error}
 use Rattle.sqlite.specs.declared.error.Error.TheVariants.{SqliteFailure}
 use Rattle.sqlite.specs.declared.error.ErrorCode.TheVariants.{OutOfMemory}
-use Rattle.local_store.specs.declared.keeper_err.KeeperErr.{KeeperErr}
-use Rattle.local_store.specs.declared.keeper_err.KeeperErr.TheVariants.{Fault, NoMemory}
+use Rattle.table_keeper.specs.declared.keeper_err.KeeperErr.{KeeperErr}
+use Rattle.table_keeper.specs.declared.keeper_err.KeeperErr.TheVariants.{Fault, NoMemory}
 use Rattle.stored_records.specs.declared.record_err.RecordErr.{RecordErr}
 use Rattle.stored_records.specs.declared.record_err.RecordErr.TheVariants as record_errors
 use Rattle.keeper_sqlite.specs.declared.trouble.Trouble.{Trouble}

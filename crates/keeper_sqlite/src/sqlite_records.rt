@@ -3,11 +3,13 @@ ghost use Rattle.keeper_sqlite.specs.Faults.{Counts};
 
 use crate::database_file::DatabaseFile;
 use crate::trouble::Trouble;
-use jop_base::{Bytes, Faults, Id, Seq, Text};
-use local_store::{KeeperErr, Row, Tables};
+use jop_base::{Bytes, Id, Seq, Text};
+use jop_outside::Faults;
+use local_store::{Row, Tables};
 use record_keeper::{RecordStore, Write};
 use std::alloc::Global;
 use std::rt::HostRuntime;
+use table_keeper::KeeperErr;
 
 /// A store of records in an SQLite file. It tells nothing, since no clause can say what stands in a file.
 ///

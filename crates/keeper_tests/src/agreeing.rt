@@ -1,9 +1,10 @@
 //! Whether two stores hold the same.
 
 use jop_base::Id;
-use local_store::{Keeper, KeeperErr, Row, Tables};
+use local_store::{Row, Tables};
 use record_keeper::RecordStore;
 use std::alloc::{AllocError, Global};
+use table_keeper::{Keeper, KeeperErr};
 
 fn tables_text(alloc: Global, tables: &Tables) -> Result<String, AllocError> {
     format!(in alloc; "{tables:?}")

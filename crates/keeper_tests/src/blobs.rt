@@ -2,12 +2,13 @@ use crate::agreeing::has_same_blob;
 use crate::file::{opened, remove};
 use crate::trouble::Trouble;
 use crate::work::Work;
-use jop_base::{Bytes, Draw, Id};
+use jop_base::{Bytes, Id};
+use jop_outside::Draw;
 use keeper_sqlite::SqliteRecords;
-use local_store::KeeperErr;
 use record_keeper::RecordStore;
 use std::alloc::{AllocError, Global};
 use std::test::Fail;
+use table_keeper::KeeperErr;
 
 /// The bytes of a blob.
 fn drawn_bytes(alloc: Global, draw: &mut Draw, count: u64) -> Result<Bytes, AllocError> {

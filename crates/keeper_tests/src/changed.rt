@@ -6,11 +6,12 @@ use crate::made::{Parts, add, note, row};
 use crate::trouble::Trouble;
 use jop_base::{Id, Seq, Text};
 use keeper_sqlite::SqliteRecords;
-use local_store::{Deletion, KeeperErr};
+use local_store::Deletion;
 use record_keeper::{RecordStore, Write};
 use sqlite::Connection;
 use std::alloc::Global;
 use std::test::Fail;
+use table_keeper::KeeperErr;
 
 /// What another program does to the file, and whether the row can be read all the same.
 const CHANGES: [(&str, bool); 17] = [

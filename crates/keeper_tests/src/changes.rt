@@ -8,10 +8,11 @@ use crate::thing::Thing;
 use crate::trouble::Trouble;
 use jop_base::{Context, Seq, Text};
 use keeper_sqlite::keeper_at;
-use local_store::{Change, Content, Keeper, KeeperErr, MemKeeper, let_go};
+use local_store::{Change, Content, let_go};
 use record_keeper::{MemRecords, RecordKeeper};
 use std::alloc::{AllocError, Global};
 use std::test::Fail;
+use table_keeper::{Keeper, KeeperErr, MemKeeper};
 
 #[derive(Clone, Copy)]
 enum Kind {

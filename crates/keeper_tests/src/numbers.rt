@@ -6,10 +6,10 @@ use crate::made::{add, note};
 use crate::thing::Thing;
 use crate::trouble::Trouble;
 use jop_base::{Seq, Text};
-use local_store::KeeperErr;
 use record_keeper::{MemRecords, RecordStore, Write};
 use std::alloc::Global;
 use std::test::Fail;
+use table_keeper::KeeperErr;
 
 /// The numbers of two conflict notes, what is answered to their writes, and how many notes there are then.
 #[derive(Clone, Copy)]

@@ -1,8 +1,8 @@
-use local_store::KeeperErr;
 use std::alloc::AllocError;
 use std::io;
 use stored_records::RecordErr;
 use sync_info::InfoErr;
+use table_keeper::KeeperErr;
 
 /// Why a test can't go on.
 #[derive(Clone, Copy, Debug, PartialEq, Eq)]

@@ -1,10 +1,10 @@
 -- What acts do to a keeper.
 use Rattle.std.specs.Prelude.{ℕ, ◌≡◌, [], Option, Some, None, option_map, Ok, Err, refl}
 use Rattle.std.proofs.Common.{◌∙◌, ap}
-use Rattle.local_store.specs.declared.keeper_err.KeeperErr.{KeeperErr}
-use Rattle.local_store.specs.declared.keeper_err.KeeperErr.TheVariants.{Fault, NoMemory}
+use Rattle.table_keeper.specs.declared.keeper_err.KeeperErr.{KeeperErr}
+use Rattle.table_keeper.specs.declared.keeper_err.KeeperErr.TheVariants.{Fault, NoMemory}
 use Rattle.local_store.specs.declared.tables.Tables.{Tables}
-use Rattle.local_store.specs.Keepers.{Kept, KeeperNow, HasCause, IsOfKept}
+use Rattle.table_keeper.specs.Keepers.{Kept, KeeperNow, HasCause, IsOfKept}
 use Rattle.local_store.specs.Sound.{IsSound}
 use Rattle.local_commands.specs.Keeping.{ReadsTables, Act, kept_after, kept_after_all, done_to, Acts}
 

@@ -6,7 +6,7 @@ use Rattle.local_changes.specs.Editing.{edited_note, plain_note}
 use Rattle.local_changes.specs.Makers.{new_book, new_note, removed}
 use Rattle.local_changes.specs.Tagging.{tagged}
 use Rattle.local_changes.specs.declared.store_err.StoreErr.{StoreErr}
-use Rattle.local_store.specs.Keepers.{Kept, KeeperNow}
+use Rattle.table_keeper.specs.Keepers.{Kept, KeeperNow}
 use Rattle.local_store.specs.Tables.{row_at}
 use Rattle.local_store.specs.declared.change.Change.{Change}
 use Rattle.local_store.specs.declared.tables.Tables.{Tables}

@@ -2,11 +2,11 @@
 use Rattle.std.specs.Prelude.{ℕ, ◌+◌, ◌<◌, ◌≤◌, ◌≡◌, List, [], ◌∷◌, length, map, drop, get_or, Option, Some, None, option_map, Result, Ok, Err, refl}
 use Rattle.std.proofs.Common.{sym, ◌∙◌, ap, subst, inr, add-one, drop-cons}
 use Rattle.std.proofs.Math.ListN.{drop_of_length-le}
-use Rattle.jop_base.specs.Outside.{HasRisen}
+use Rattle.jop_outside.specs.Outside.{HasRisen}
 use Rattle.local_store.specs.declared.change.Change.{Change}
-use Rattle.local_store.specs.declared.keeper_err.KeeperErr.{KeeperErr}
-use Rattle.local_store.specs.declared.keeper_err.KeeperErr.TheVariants.{Fault, NoMemory}
-use Rattle.local_store.specs.Keepers.{Kept, KeeperNow}
+use Rattle.table_keeper.specs.declared.keeper_err.KeeperErr.{KeeperErr}
+use Rattle.table_keeper.specs.declared.keeper_err.KeeperErr.TheVariants.{Fault, NoMemory}
+use Rattle.table_keeper.specs.Keepers.{Kept, KeeperNow}
 use Rattle.local_commands.specs.Keeping.{Act, MakeChange, Acts, ActsAll, DoesSome, Notes, done_to, kept_after, kept_after_all, notes_after, notes_after_all, notes_if}
 use Rattle.local_commands.specs.declared.local_err.LocalErr.{LocalErr}
 use Rattle.local_commands.specs.Refusals.{keeper_refusal}

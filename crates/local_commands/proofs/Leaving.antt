@@ -3,7 +3,7 @@ use Rattle.std.specs.Prelude.{ℕ, ◌+◌, ◌≡◌, ◌⊎◌, List, [], ◌�
 use Rattle.std.proofs.Common.{sym, ◌∙◌, ap, inl, inr, append-nil, append_assoc}
 use Rattle.std.proofs.lemmas.List.{length-append}
 use Rattle.local_store.specs.Changing.{after_all}
-use Rattle.local_store.specs.Keepers.{Kept, KeeperNow}
+use Rattle.table_keeper.specs.Keepers.{Kept, KeeperNow}
 use Rattle.local_commands.specs.Following.{Follows, HasNoCause, IsNoted, IsWellOrMemory, MayBeLate, numbered}
 use Rattle.jop_target.specs.declared.event.Event.TheVariants.{Made}
 use Rattle.local_store.specs.declared.change.Change.{Change}

@@ -1,10 +1,10 @@
 -- The answers of a run, each from what came before it.
 use Rattle.std.specs.Prelude.{ℕ, ◌≡◌, List, [], Option, Some, None, Result, Ok, Err, refl}
 use Rattle.std.proofs.Common.{sym, ◌∙◌, ap, subst, inl}
-use Rattle.local_store.specs.declared.keeper_err.KeeperErr.{KeeperErr}
-use Rattle.local_store.specs.declared.keeper_err.KeeperErr.TheVariants as keeper_errors
+use Rattle.table_keeper.specs.declared.keeper_err.KeeperErr.{KeeperErr}
+use Rattle.table_keeper.specs.declared.keeper_err.KeeperErr.TheVariants as keeper_errors
 use Rattle.local_store.specs.declared.tables.Tables.{Tables}
-use Rattle.local_store.specs.Keepers.{KeeperNow}
+use Rattle.table_keeper.specs.Keepers.{KeeperNow}
 use Rattle.local_commands.specs.Keeping.{AreKept, ReadsTables}
 use Rattle.local_commands.specs.declared.local_err.LocalErr.{LocalErr}
 use Rattle.local_commands.specs.declared.local_err.LocalErr.TheVariants.{NoMemory}

@@ -1,10 +1,10 @@
 -- What runs leave alone.
 use Rattle.std.specs.Prelude.{ℕ, ◌+◌, ◌≤◌, ◌≡◌, List, drop, Bool, true, false, Option, Some, None, option_map, refl}
 use Rattle.std.proofs.Common.{sym, subst, arith}
-use Rattle.jop_base.specs.Clocks.{ClockNow}
-use Rattle.jop_base.specs.Outside.{SourceNow}
-use Rattle.jop_base.specs.Random.{EntropyNow}
-use Rattle.jop_base.specs.Reading.{IsRestOf}
+use Rattle.jop_outside.specs.Clocks.{ClockNow}
+use Rattle.jop_outside.specs.Outside.{SourceNow}
+use Rattle.jop_outside.specs.Random.{EntropyNow}
+use Rattle.jop_outside.specs.Reading.{IsRestOf}
 use Rattle.local_commands.specs.Plans.{plan_of}
 use Rattle.local_commands.specs.Running.{Around, Plan}
 use Rattle.local_commands.specs.Sparing.{IsReadOf, Spares, SparesClock, SparesInput, SparesRandom, draws_ids, limit_of}

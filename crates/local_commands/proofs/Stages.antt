@@ -2,12 +2,12 @@
 use Rattle.std.specs.Prelude.{ℕ, ◌+◌, ◌≡◌, List, [], ◌∷◌, Bool, true, false, length, if◌then◌else◌, Option, Some, None, option_map, Result, Ok, Err, refl}
 use Rattle.std.proofs.Common.{sym, ◌∙◌, ap, subst, inl, inr}
 use Rattle.item_text.specs.declared.item.Item.{Item}
-use Rattle.jop_base.specs.Clocks.{ClockNow}
-use Rattle.jop_base.specs.Outside.{HasRisen, SourceNow}
-use Rattle.jop_base.specs.Random.{EntropyNow}
-use Rattle.jop_base.specs.Reading.{ReadsAll, WasRead}
-use Rattle.jop_base.specs.declared.reading.ReadErr.{ReadErr}
-use Rattle.jop_base.specs.declared.reading.ReadErr.TheVariants as read_errors
+use Rattle.jop_outside.specs.Clocks.{ClockNow}
+use Rattle.jop_outside.specs.Outside.{HasRisen, SourceNow}
+use Rattle.jop_outside.specs.Random.{EntropyNow}
+use Rattle.jop_outside.specs.Reading.{ReadsAll, WasRead}
+use Rattle.jop_outside.specs.declared.reading.ReadErr.{ReadErr}
+use Rattle.jop_outside.specs.declared.reading.ReadErr.TheVariants as read_errors
 use Rattle.local_changes.specs.Answers.{IsOrMemory}
 use Rattle.local_changes.specs.Editing.{Edits, plain_note}
 use Rattle.local_changes.specs.Lookup.{is_row_of, note_kind}

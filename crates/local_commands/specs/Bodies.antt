@@ -1,8 +1,8 @@
 -- The body of a note, taken from the input.
 use Rattle.std.specs.Prelude.{ℕ, ◌+◌, List, true, Result, Ok, Err}
 use Rattle.std.specs.Str.{IsUtf8}
-use Rattle.jop_base.specs.Outside.{HasRisen, SourceNow}
-use Rattle.jop_base.specs.Reading.{WasRead, WasTooLarge}
+use Rattle.jop_outside.specs.Outside.{HasRisen, SourceNow}
+use Rattle.jop_outside.specs.Reading.{WasRead, WasTooLarge}
 use Rattle.local_commands.specs.declared.body.BodyErr.{BodyErr}
 use Rattle.local_commands.specs.declared.body.BodyErr.TheVariants as errors
 use Rattle.local_commands.specs.declared.local_err.LocalErr.{LocalErr}

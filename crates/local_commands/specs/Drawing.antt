@@ -1,9 +1,9 @@
 -- The ids that a command draws.
 use Rattle.std.specs.Prelude.{ℕ, ◌+◌, ◌%◌, ◌^◌, ◌≡◌, ◌⊎◌, List, [], ◌∷◌, Result, Ok, Err}
 use Rattle.jop_base.specs.Id.{number_of}
-use Rattle.jop_base.specs.Outside.{HasRisen}
-use Rattle.jop_base.specs.Random.{EntropyNow}
-use Rattle.jop_base.specs.declared.failed.Failed.{Failed}
+use Rattle.jop_outside.specs.Outside.{HasRisen}
+use Rattle.jop_outside.specs.Random.{EntropyNow}
+use Rattle.jop_outside.specs.declared.failed.Failed.{Failed}
 use Rattle.local_changes.specs.Free.{IsFirstFree}
 use Rattle.local_store.specs.declared.tables.Tables.{Tables}
 use Rattle.site.specs.Drawing.{Draws}

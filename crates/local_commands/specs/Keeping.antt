@@ -1,14 +1,14 @@
 -- What is read from a keeper, what is done to it, and what is written down of that.
 use Rattle.std.specs.Prelude.{ℕ, ◌≡◌, List, [], ◌∷◌, ◌++◌, length, Result, Ok, Err, option_map}
-use Rattle.jop_base.specs.Outside.{HasRisen}
+use Rattle.jop_outside.specs.Outside.{HasRisen}
 use Rattle.jop_target.specs.declared.event.Event.{Event}
 use Rattle.jop_target.specs.declared.event.Event.TheVariants.{Made}
-use Rattle.local_store.specs.declared.blob.Blob.{Blob}
+use Rattle.table_keeper.specs.declared.blob.Blob.{Blob}
 use Rattle.local_store.specs.declared.change.Change.{Change}
-use Rattle.local_store.specs.declared.keeper_err.KeeperErr.{KeeperErr}
-use Rattle.local_store.specs.declared.keeper_err.KeeperErr.TheVariants.{Fault, NoMemory}
+use Rattle.table_keeper.specs.declared.keeper_err.KeeperErr.{KeeperErr}
+use Rattle.table_keeper.specs.declared.keeper_err.KeeperErr.TheVariants.{Fault, NoMemory}
 use Rattle.local_store.specs.declared.tables.Tables.{Tables}
-use Rattle.local_store.specs.Keepers.{Kept, KeeperNow, IsOfKept, changed, with_blob}
+use Rattle.table_keeper.specs.Keepers.{Kept, KeeperNow, IsOfKept, changed, with_blob}
 use Rattle.local_store.specs.Sound.{IsSound}
 
 -- these are the tables that are kept, if that is told, and they are sound

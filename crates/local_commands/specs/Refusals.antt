@@ -1,7 +1,7 @@
 -- Why a command ended otherwise than well, by the errors of what it stands on.
 use Rattle.std.specs.Prelude.{ℕ, List, Result, Ok, Err}
-use Rattle.local_store.specs.declared.keeper_err.KeeperErr.{KeeperErr}
-use Rattle.local_store.specs.declared.keeper_err.KeeperErr.TheVariants as keeper_errors
+use Rattle.table_keeper.specs.declared.keeper_err.KeeperErr.{KeeperErr}
+use Rattle.table_keeper.specs.declared.keeper_err.KeeperErr.TheVariants as keeper_errors
 use Rattle.local_changes.specs.declared.store_err.StoreErr.{StoreErr}
 use Rattle.local_changes.specs.declared.store_err.StoreErr.TheVariants as store_errors
 use Rattle.local_commands.specs.declared.local_err.LocalErr.{LocalErr}

@@ -1,10 +1,10 @@
 -- What a run of a local command comes to. One order holds for all of them: the tables are read; they have to allow the
 -- command; the input is taken; the clock shows the time; ids are drawn; the changes are made; the text is printed.
 use Rattle.std.specs.Prelude.{ℕ, ◌≡◌, ◌⊎◌, List, [], ◌∷◌, Bool, true, false, Option, Some, None, Result, Ok, Err}
-use Rattle.jop_base.specs.Clocks.{ClockNow}
-use Rattle.jop_base.specs.Outside.{HasRisen, SourceNow}
-use Rattle.jop_base.specs.Random.{EntropyNow}
-use Rattle.local_store.specs.Keepers.{KeeperNow}
+use Rattle.jop_outside.specs.Clocks.{ClockNow}
+use Rattle.jop_outside.specs.Outside.{HasRisen, SourceNow}
+use Rattle.jop_outside.specs.Random.{EntropyNow}
+use Rattle.table_keeper.specs.Keepers.{KeeperNow}
 use Rattle.local_store.specs.declared.change.Change.{Change}
 use Rattle.local_store.specs.declared.tables.Tables.{Tables}
 use Rattle.local_commands.specs.declared.local_err.LocalErr.{LocalErr}

@@ -1,9 +1,9 @@
 -- What a command leaves alone, whatever it answers.
 use Rattle.std.specs.Prelude.{ℕ, ◌≤◌, ◌≡◌, Bool, true, false, Option, Some, None, option_map}
-use Rattle.jop_base.specs.Clocks.{ClockNow}
-use Rattle.jop_base.specs.Outside.{SourceNow}
-use Rattle.jop_base.specs.Random.{EntropyNow}
-use Rattle.jop_base.specs.Reading.{IsRestOf}
+use Rattle.jop_outside.specs.Clocks.{ClockNow}
+use Rattle.jop_outside.specs.Outside.{SourceNow}
+use Rattle.jop_outside.specs.Random.{EntropyNow}
+use Rattle.jop_outside.specs.Reading.{IsRestOf}
 use Rattle.local_commands.specs.Drawing.{Drawing, NoId, OneId, TwoIds}
 use Rattle.local_commands.specs.Running.{Around, Plan}
 use Rattle.local_commands.specs.Taking.{Intake}

@@ -1,9 +1,9 @@
 -- The time and the ids of what is made.
 use Rattle.std.specs.Prelude.{ℕ, ◌≡◌, List, Result, Ok, Err}
-use Rattle.jop_base.specs.Clocks.{ClockNow}
-use Rattle.jop_base.specs.Outside.{HasRisen}
-use Rattle.jop_base.specs.Random.{EntropyNow}
-use Rattle.jop_base.specs.declared.failed.Failed.{Failed}
+use Rattle.jop_outside.specs.Clocks.{ClockNow}
+use Rattle.jop_outside.specs.Outside.{HasRisen}
+use Rattle.jop_outside.specs.Random.{EntropyNow}
+use Rattle.jop_outside.specs.declared.failed.Failed.{Failed}
 use Rattle.local_store.specs.declared.tables.Tables.{Tables}
 use Rattle.local_commands.specs.declared.stamp.StampErr.{StampErr}
 use Rattle.local_commands.specs.declared.stamp.StampErr.TheVariants as errors

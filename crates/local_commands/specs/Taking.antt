@@ -1,9 +1,9 @@
 -- What a command takes from its input and from its clock.
 use Rattle.std.specs.Prelude.{ℕ, ◌+◌, ◌≤◌, ◌≡◌, List, [], Bool, true, false, Option, Some, None, Ok}
 use Rattle.std.specs.Str.{IsUtf8}
-use Rattle.jop_base.specs.Clocks.{ClockNow, Shows}
-use Rattle.jop_base.specs.Outside.{HasRisen, SourceNow}
-use Rattle.jop_base.specs.Reading.{WasRead, WasTooLarge}
+use Rattle.jop_outside.specs.Clocks.{ClockNow, Shows}
+use Rattle.jop_outside.specs.Outside.{HasRisen, SourceNow}
+use Rattle.jop_outside.specs.Reading.{WasRead, WasTooLarge}
 use Rattle.jop_base.specs.Times.{last_time}
 
 -- ---- the input

@@ -1,7 +1,8 @@
 ghost use Rattle.local_commands.specs.Bodies.{TakesBody, body_limit};
 ghost use Rattle.local_commands.specs.Sparing.{IsReadOf};
 
-use jop_base::{ReadErr, Source, Text, read_to_end};
+use jop_base::Text;
+use jop_outside::{ReadErr, Source, read_to_end};
 use std::alloc::{AllocError, Global};
 
 /// The most bytes of a body that is taken: 1 MiB.

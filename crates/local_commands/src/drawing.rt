@@ -1,6 +1,7 @@
 ghost use Rattle.local_commands.specs.Drawing.{DrawsNewId, DrawsSecondId};
 
-use jop_base::{Entropy, Failed, Id};
+use jop_base::Id;
+use jop_outside::{Entropy, Failed};
 use local_changes::free_id;
 use local_store::Tables;
 use site::draw_id;

@@ -5,8 +5,9 @@ ghost use Rattle.local_commands.specs.Keeping.{notes, notes_if, save_then};
 
 use jop_base::{Bytes, Copied, Id};
 use jop_target::Diary;
-use local_store::{Change, Changes, Keeper, KeeperErr, Tables, let_go};
+use local_store::{Change, Changes, Tables, let_go};
 use std::alloc::Global;
+use table_keeper::{Keeper, KeeperErr};
 
 /// The tables of a keeper.
 pub(crate) fn read_tables<K: Keeper>(alloc: Global, keeper: &mut K) -> Result<Tables, KeeperErr>

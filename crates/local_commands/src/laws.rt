@@ -3,7 +3,7 @@
 
 ghost use Rattle.std.specs.Prelude.{◌≡◌, ℕ, List, Result, Ok, Err, false};
 ghost use Rattle.local_store.specs.Changing.{after_all};
-ghost use Rattle.local_store.specs.Keepers.{Kept};
+ghost use Rattle.table_keeper.specs.Keepers.{Kept};
 ghost use Rattle.local_commands.specs.Plans.{plan_of};
 ghost use Rattle.local_commands.specs.Following.{Follows, FollowsChanges, HasNoCause, IsNoted};
 ghost use Rattle.local_commands.specs.Following.{IsWellOrMemory, MayBeLate, saves_bytes};

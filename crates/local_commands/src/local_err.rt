@@ -2,8 +2,8 @@ use crate::body::{BODY_LIMIT, BodyErr};
 use crate::stamp::StampErr;
 use jop_base::Id;
 use local_changes::StoreErr;
-use local_store::KeeperErr;
 use std::alloc::AllocError;
+use table_keeper::KeeperErr;
 
 /// Why a command ended otherwise than well: one word for each cause. Which of them a command can give
 /// follows from its plan.

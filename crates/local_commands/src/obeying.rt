@@ -19,10 +19,11 @@ use crate::keeping::read_tables;
 use crate::local_command::LocalCommand;
 use crate::local_err::LocalErr;
 use crate::printed::{Printed, a_text, an_id, no_text};
-use jop_base::{Clock, Entropy, Source};
+use jop_outside::{Clock, Entropy, Source};
 use jop_target::Diary;
-use local_store::{Changes, Keeper, KeeperErr, Tables};
+use local_store::{Changes, Tables};
 use std::alloc::Global;
+use table_keeper::{Keeper, KeeperErr};
 
 /// Does what a command says, and answers what it prints.
 pub fn obey<K: Keeper, I: Source, C: Clock, N: Entropy>(

@@ -1,7 +1,8 @@
 ghost use Rattle.local_commands.specs.Stamping.{ShowsNow, Stamps, StampsTwice};
 
 use crate::drawing::{new_id, second_id};
-use jop_base::{Clock, Entropy, Failed, Id};
+use jop_base::Id;
+use jop_outside::{Clock, Entropy, Failed};
 use local_store::Tables;
 
 /// Why there is no time, or no new id.

@@ -1,4 +1,3 @@
 pub mod Keeping
-pub mod KeptBlobs
 pub mod Places
 pub mod Telling

@@ -3,8 +3,6 @@ pub mod Tables
 pub mod Changing
 pub mod Sound
 pub mod Ledger
-pub mod Keepers
-pub mod Memory
 pub mod Ordered
 pub mod Places
 pub mod Tale

@@ -1,10 +1,9 @@
--- Rows, deletions and blobs by their ids, and what their items are.
+-- Rows and deletions by their ids, and what their items are.
 use Rattle.std.specs.Prelude.{ℕ, List, Bool, false, Option, Some, None, nat_eq, option_and_then}
 use Rattle.item_kinds.specs.declared.kind.Kind.{Kind}
 use Rattle.item_kinds.specs.Kinds.{type_number}
 use Rattle.item_text.specs.Props.{type_key, value_of}
 use Rattle.item_text.specs.declared.item.Item.{Item}
-use Rattle.local_store.specs.declared.blob.Blob.{Blob}
 use Rattle.local_store.specs.declared.content.Content.{Content}
 use Rattle.local_store.specs.declared.content.Content.TheVariants.{Plain, Sealed}
 use Rattle.local_store.specs.declared.deletion.Deletion.{Deletion}
@@ -15,9 +14,6 @@ row_id r = r.id
 
 abbrev pub deletion_id : Deletion → List ℕ
 deletion_id d = d.id
-
-abbrev pub blob_id : Blob → List ℕ
-blob_id b = b.id
 
 -- the item, whether it is sealed or not
 abbrev pub item_of : Content → Item

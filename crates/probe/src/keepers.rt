@@ -6,8 +6,9 @@ use crate::notes::note_saved;
 use crate::trouble::Trouble;
 use jop_base::{Id, Text};
 use keeper_sqlite::keeper_at;
-use local_store::{Change, Keeper, let_go};
+use local_store::{Change, let_go};
 use std::time::Instant;
+use table_keeper::Keeper;
 
 /// Opens the file, which the first call does, and answers the microseconds that it took.
 fn open<K: Keeper>(rt: &HostRuntime, keeper: &mut K) -> Result<u128, Trouble> {

@@ -1,6 +1,6 @@
-use local_store::KeeperErr;
 use std::alloc::{AllocError, AllocFailed};
 use std::io;
+use table_keeper::KeeperErr;
 use worked_client::BrokenOff;
 
 /// Why nothing was measured.

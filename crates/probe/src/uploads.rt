@@ -3,9 +3,10 @@
 use crate::notes::note_saved;
 use crate::trouble::Trouble;
 use jop_target::MemTarget;
-use local_store::{Keeper, let_go};
+use local_store::let_go;
 use std::alloc::Global;
 use std::time::Instant;
+use table_keeper::Keeper;
 use worked_client::{Client, OWN, Part};
 
 /// Saves the note of this number.

@@ -13,7 +13,7 @@ use Rattle.local_store.specs.declared.deletion.Deletion.{Deletion}
 use Rattle.local_store.specs.declared.row.Row.{Row}
 use Rattle.local_store.specs.declared.tables.Tables.{Tables}
 use Rattle.local_store.specs.Changing.{after, without_row, uploaded, conflicted, opened}
-use Rattle.local_store.specs.Keepers.{Kept, changed}
+use Rattle.table_keeper.specs.Keepers.{Kept, changed}
 use Rattle.local_store.specs.Rows.{deletion_id, item_of}
 use Rattle.local_store.specs.Sound.{IsAllowed, IsContentOf, MayBePending, IsRemoteOf, IsSoundRow}
 use Rattle.local_store.specs.Tables.{row_at, is_synced, is_resource}

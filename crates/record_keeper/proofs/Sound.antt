@@ -3,10 +3,10 @@ use Rattle.std.specs.Prelude.{ℕ, ◌≡◌, List, [], ◌∷◌, All, not, nat
 use Rattle.std.proofs.Common.{sym, subst}
 use Rattle.std.proofs.lemmas.List.Elements.{All-append, All-filter, All-cons, All-nil, All-head, All-tail}
 use Rattle.jop_base.proofs.KeyedLaws.{All-at, All-put, All-cut, IsSorted-put, IsSorted-cut, key-at}
-use Rattle.local_store.specs.declared.blob.Blob.{Blob}
+use Rattle.table_keeper.specs.declared.blob.Blob.{Blob}
 use Rattle.local_store.specs.declared.row.Row.{Row}
 use Rattle.local_store.specs.declared.tables.Tables.{Tables}
-use Rattle.local_store.specs.Memory.{IsSoundKept}
+use Rattle.table_keeper.specs.Memory.{IsSoundKept}
 use Rattle.local_store.specs.Rows.{row_id, deletion_id}
 use Rattle.local_store.specs.Sound.{IsSoundRow, IsSoundNote, IsSound}
 use Rattle.local_store.specs.Tables.{row_at}

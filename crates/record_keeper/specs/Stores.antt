@@ -1,13 +1,13 @@
 -- What is asked of every store of records.
 use Rattle.std.specs.Prelude.{ℕ, ◌≡◌, ◌⊎◌, List, [], All, true, false, Option, Some, None, option_and_then, Result, Err, IsSome}
 use Rattle.std.specs.List.{list_all}
-use Rattle.jop_base.specs.Plan.{Calls, after_call, next_fate}
+use Rattle.jop_outside.specs.Plan.{Calls, after_call, next_fate}
 use Rattle.local_store.specs.declared.change.Change.{Change}
-use Rattle.local_store.specs.declared.keeper_err.KeeperErr.{KeeperErr}
-use Rattle.local_store.specs.declared.keeper_err.KeeperErr.TheVariants.{Fault}
+use Rattle.table_keeper.specs.declared.keeper_err.KeeperErr.{KeeperErr}
+use Rattle.table_keeper.specs.declared.keeper_err.KeeperErr.TheVariants.{Fault}
 use Rattle.local_store.specs.declared.row.Row.{Row}
 use Rattle.local_store.specs.declared.tables.Tables.{Tables}
-use Rattle.local_store.specs.Keepers.{Kept}
+use Rattle.table_keeper.specs.Keepers.{Kept}
 use Rattle.local_store.specs.Sound.{IsSoundRow}
 use Rattle.local_store.specs.Tables.{row_at}
 use Rattle.record_keeper.specs.declared.write.Write.{Write}

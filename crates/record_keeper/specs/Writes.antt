@@ -6,7 +6,7 @@ use Rattle.sync_info.specs.Info.{IsInfo}
 use Rattle.local_store.specs.declared.conflict_note.ConflictNote.{ConflictNote}
 use Rattle.local_store.specs.declared.tables.Tables.{Tables}
 use Rattle.local_store.specs.Changing.{with_row, without_row, cleared}
-use Rattle.local_store.specs.Keepers.{Kept}
+use Rattle.table_keeper.specs.Keepers.{Kept}
 use Rattle.local_store.specs.Rows.{deletion_id}
 use Rattle.local_store.specs.Sound.{IsSoundRow, IsSoundNote}
 use Rattle.record_keeper.specs.declared.write.Write.{Write}

@@ -1,13 +1,14 @@
 ghost use Rattle.std.specs.Prelude.{◌≡◌, All, IfOk};
-ghost use Rattle.local_store.specs.Keepers.{HasCause};
+ghost use Rattle.table_keeper.specs.Keepers.{HasCause};
 ghost use Rattle.record_keeper.specs.Making.{row_needed};
 ghost use Rattle.record_keeper.specs.Stores.{IsSoundRowFor, IsRowFor, IsNumberFor};
 
 use crate::making::{needs_number, row_needed, writes_of};
 use crate::record_store::RecordStore;
 use jop_base::{Bytes, Id};
-use local_store::{Change, Keeper, KeeperErr, Row, Tables, let_go};
+use local_store::{Change, Row, Tables, let_go};
 use std::alloc::Global;
+use table_keeper::{Keeper, KeeperErr};
 
 /// A keeper over a store of records. What it keeps, and how often it has failed, are the store's. A change is one
 /// write of the store, so it is made whole or not at all.

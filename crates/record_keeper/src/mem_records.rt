@@ -1,8 +1,8 @@
 ghost use Rattle.std.specs.Prelude.{◌≡◌, ◌≤◌, All, IfOk, OnOk, OnErr, Some, false, true};
-ghost use Rattle.jop_base.specs.Outside.{risen};
-ghost use Rattle.jop_base.specs.Plan.{with_failing};
-ghost use Rattle.local_store.specs.Keepers.{HasCause, blob_at, with_blob};
-ghost use Rattle.local_store.specs.Memory.{IsPlanned, IsSoundKept, new_memory};
+ghost use Rattle.jop_outside.specs.Outside.{risen};
+ghost use Rattle.jop_outside.specs.Plan.{with_failing};
+ghost use Rattle.table_keeper.specs.Keepers.{HasCause, blob_at, with_blob};
+ghost use Rattle.table_keeper.specs.Memory.{IsPlanned, IsSoundKept, new_memory};
 ghost use Rattle.local_store.specs.Sound.{IsSound};
 ghost use Rattle.local_store.specs.Tables.{row_at};
 ghost use Rattle.record_keeper.specs.Stores.{IsSoundRowOf, IsPlannedWrite};
@@ -11,10 +11,12 @@ ghost use Rattle.record_keeper.specs.Writes.{IsSoundWrite, wrote, written_all, a
 use crate::record_store::RecordStore;
 use crate::write::Write;
 use crate::writing::make_all;
-use jop_base::{Bytes, Copied, Faults, Id, Plan, Seq};
-use local_store::{Blob, KeeperErr, Row, Tables};
+use jop_base::{Bytes, Copied, Id, Seq};
+use jop_outside::{Faults, Plan};
+use local_store::{Row, Tables};
 use std::alloc::{AllocError, Global};
 use std::marker::Model;
+use table_keeper::{Blob, KeeperErr};
 
 /// A store of records in memory, which tells what it keeps, with calls that are to fail.
 #[derive(Debug, Drop)]
@@ -26,7 +28,7 @@ pub struct MemRecords {
 }
 
 impl Model for MemRecords {
-    ghost use Rattle.local_store.specs.Memory.{MemKept, IsSoundKept};
+    ghost use Rattle.table_keeper.specs.Memory.{MemKept, IsSoundKept};
 
     ghost Value = { MemKept };
 
@@ -190,7 +192,7 @@ impl RecordStore for MemRecords {
         }
     }
 
-    #[tactic(auto, using(local_store::proofs::KeptBlobs::blobs_kept))]
+    #[tactic(auto, using(table_keeper::proofs::KeptBlobs::blobs_kept))]
     fn save_blob(&mut self, alloc: Global, id: &Id, bytes: &Bytes) -> Result<(), KeeperErr>
         ensures ok { OnOk result (self.new.kept ≡ with_blob id.now bytes.now self.old.kept) }
         ensures err { OnErr result (self.new.kept ≡ self.old.kept) }

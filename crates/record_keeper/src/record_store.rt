@@ -1,13 +1,14 @@
 ghost use Rattle.std.specs.Prelude.{◌≡◌, All, IfOk, OnOk, OnErr, option_map};
-ghost use Rattle.local_store.specs.Keepers.{KeeperNow, HasCause, IsOfKept, IsBlobOfKept, with_blob};
+ghost use Rattle.table_keeper.specs.Keepers.{KeeperNow, HasCause, IsOfKept, IsBlobOfKept, with_blob};
 ghost use Rattle.local_store.specs.Sound.{IsSound};
 ghost use Rattle.record_keeper.specs.Stores.{IsSoundRowOf, IsRowOfKept, IsNextOfKept, Fit};
 ghost use Rattle.record_keeper.specs.Writes.{IsSoundWrite, wrote};
 
 use crate::write::Write;
 use jop_base::{Bytes, Id, Seq};
-use local_store::{KeeperErr, Row, Tables};
+use local_store::{Row, Tables};
 use std::alloc::Global;
+use table_keeper::KeeperErr;
 
 /// Where tables and blobs are kept record by record: a database, or memory. A call that is refused changes nothing.
 pub trait RecordStore: Drop {

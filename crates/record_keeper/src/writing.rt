@@ -6,9 +6,10 @@ ghost use Rattle.std.specs.List.{list_all};
 
 use crate::write::Write;
 use jop_base::{Context, Copied, Id};
-use local_store::{Change, ConflictNote, KeeperErr, Row, Tables, let_go};
+use local_store::{Change, ConflictNote, Row, Tables, let_go};
 use std::alloc::{AllocError, Global};
 use sync_info::Info;
+use table_keeper::KeeperErr;
 
 /// The numbers that a database holds are below this one, 2^63.
 const LIMIT: u64 = 9_223_372_036_854_775_808;

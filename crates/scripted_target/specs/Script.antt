@@ -1,6 +1,6 @@
 -- Calls of others that land between those of a target's caller.
 use Rattle.std.specs.Prelude.{ℕ, ◌+◌, ◌-◌, ◌^◌, ◌≡◌, List, [], ◌∷◌, Bool, true, false, not, min, nat_eq, if◌then◌else◌}
-use Rattle.jop_base.specs.Outside.{risen}
+use Rattle.jop_outside.specs.Outside.{risen}
 use Rattle.jop_target.specs.Replies.{names_blob}
 use Rattle.jop_target.specs.Runs.{is_failed}
 use Rattle.jop_target.specs.Store.{Store, store_after, store_reply}

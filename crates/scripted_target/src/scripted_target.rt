@@ -4,7 +4,8 @@ ghost use Rattle.jop_target.specs.Replies.{Answers, HasCause, IsCallable, IsRepl
 ghost use Rattle.scripted_target.specs.Script.{Steps, after_one, after_script, counted};
 ghost use Rattle.scripted_target.specs.Script.{is_scriptable, scripted};
 
-use jop_base::{Bytes, Faults};
+use jop_base::Bytes;
+use jop_outside::Faults;
 use jop_target::{Call, MemTarget, Reply, Target, Tree};
 use std::alloc::{AllocError, Global};
 use std::marker::Model;

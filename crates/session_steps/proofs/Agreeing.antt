@@ -5,7 +5,7 @@ use Rattle.std.proofs.lemmas.List.Elements.{All-head, All-tail}
 use Rattle.desk.specs.Desks.{DeskNow, IsSameDesk}
 use Rattle.jop_base.proofs.KeyedLaws.{at-cut_other, at-put, at-put_other, at-put_same, bytes_eq-refl, same_text}
 use Rattle.jop_base.specs.Keyed.{at, cut, put}
-use Rattle.jop_base.specs.Plan.{next_fate}
+use Rattle.jop_outside.specs.Plan.{next_fate}
 use Rattle.jop_base.specs.declared.dir.Dir.TheVariants.{Locks}
 use Rattle.jop_base.specs.declared.path.Path.{Path}
 use Rattle.jop_base.specs.declared.path.Path.TheVariants.{Blob, Info, Item, Lock, OldVersion, Temp}
@@ -24,9 +24,8 @@ use Rattle.jop_target.specs.declared.tree.BlobBytes.{BlobBytes}
 use Rattle.lease.specs.Calls.{IsLeaseCall, IsLeaseEvent}
 use Rattle.licences.specs.Trails.{session_calls}
 use Rattle.licences.specs.Views.{Heard, is_about_locks, with_call}
-use Rattle.local_store.specs.Keepers.{KeeperNow, Kept, blob_at, changed, with_blob as with_kept}
-use Rattle.local_store.specs.Rows.{blob_id}
-use Rattle.local_store.specs.declared.blob.Blob.{Blob as Saved}
+use Rattle.table_keeper.specs.Keepers.{KeeperNow, Kept, blob_at, blob_id, changed, with_blob as with_kept}
+use Rattle.table_keeper.specs.declared.blob.Blob.{Blob as Saved}
 use Rattle.local_store.specs.declared.change.Change.{Change}
 use Rattle.session_steps.specs.Agreeing.{AgreeBut, IsKeptFor, is_on_bytes, is_owed, moved, moves}
 use Rattle.session_steps.specs.Kept.{IsSaved}

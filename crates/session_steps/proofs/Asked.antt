@@ -31,7 +31,7 @@ use Rattle.licences.specs.Deeds.{Deed, Asks, events_of}
 use Rattle.licences.specs.Licences.{Each, MayCall}
 use Rattle.licences.specs.Trails.{calls_from, session_calls}
 use Rattle.licences.specs.Views.{Shown, View, is_about_locks, view_from, with_call}
-use Rattle.local_store.specs.Keepers.{KeeperNow}
+use Rattle.table_keeper.specs.Keepers.{KeeperNow}
 use Rattle.session_steps.proofs.Saves.{blobs_got-append, blobs_got-locks}
 use Rattle.session_steps.proofs.Agreeing.{agrees_asked, blob_stays}
 use Rattle.session_steps.specs.Agreeing.{IsKeptFor}

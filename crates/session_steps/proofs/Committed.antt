@@ -5,7 +5,7 @@ use Rattle.std.proofs.lemmas.List.Elements.{All-cons, All-nil}
 use Rattle.conflicts.specs.Reports.{counted}
 use Rattle.conflicts.specs.declared.report.SyncReport.{SyncReport}
 use Rattle.desk.specs.Desks.{DeskNow, IsChanged, IsMade, IsTidy, IsUnmade}
-use Rattle.jop_base.specs.Outside.{HasRisen}
+use Rattle.jop_outside.specs.Outside.{HasRisen}
 use Rattle.jop_target.proofs.Runs.{continues_same}
 use Rattle.jop_target.specs.Replies.{TargetNow}
 use Rattle.jop_target.specs.Runs.{Continues, LeadsTo, TellsRun, has_failed}
@@ -25,7 +25,7 @@ use Rattle.licences.specs.Licences.{AreWork, Each}
 use Rattle.licences.specs.Trails.{calls_from, session_calls}
 use Rattle.licences.specs.Views.{Shown, Working, stage_after, view_from}
 use Rattle.local_store.specs.Changing.{after, after_all}
-use Rattle.local_store.specs.Keepers.{KeeperNow, Kept, IsOfKept, changed}
+use Rattle.table_keeper.specs.Keepers.{KeeperNow, Kept, IsOfKept, changed}
 use Rattle.local_store.specs.Sound.{IsAllowed, IsSound}
 use Rattle.local_store.specs.declared.change.Change.{Change}
 use Rattle.local_store.specs.declared.tables.Tables.{Tables}

@@ -21,8 +21,8 @@ use Rattle.licences.specs.Trails.{calls_from, session_calls}
 use Rattle.licences.specs.Views.{Heard, Shown, Stage, View, Working, view_from}
 use Rattle.local_store.proofs.Telling.{after_all-append}
 use Rattle.local_store.specs.Changing.{after_all}
-use Rattle.local_store.specs.Keepers.{Kept}
-use Rattle.local_store.specs.declared.blob.Blob.{Blob}
+use Rattle.table_keeper.specs.Keepers.{Kept}
+use Rattle.table_keeper.specs.declared.blob.Blob.{Blob}
 use Rattle.local_store.specs.declared.change.Change.{Change}
 use Rattle.local_store.specs.declared.tables.Tables.{Tables}
 use Rattle.session_steps.proofs.Saves.{got_both, saved_all-append}

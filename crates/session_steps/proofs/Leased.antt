@@ -21,7 +21,7 @@ use Rattle.licences.specs.Deeds.{Deed, changes_in, events_of}
 use Rattle.licences.specs.Licences.{Each, MayDo}
 use Rattle.licences.specs.Views.{Shown, View}
 use Rattle.local_store.specs.Changing.{after_all}
-use Rattle.local_store.specs.Keepers.{IsOfKept, KeeperNow, Kept}
+use Rattle.table_keeper.specs.Keepers.{IsOfKept, KeeperNow, Kept}
 use Rattle.local_store.specs.Sound.{IsSound}
 use Rattle.local_store.specs.declared.change.Change.{Change}
 use Rattle.local_store.specs.declared.tables.Tables.{Tables}

@@ -15,8 +15,8 @@ use Rattle.lease.specs.declared.lease.Lease.{Lease}
 use Rattle.licences.specs.Deeds.{changes_in}
 use Rattle.licences.specs.Views.{Shown, Working}
 use Rattle.local_store.specs.Changing.{after_all}
-use Rattle.local_store.specs.Keepers.{Kept, with_blob}
-use Rattle.local_store.specs.declared.blob.Blob.{Blob}
+use Rattle.table_keeper.specs.Keepers.{Kept, with_blob}
+use Rattle.table_keeper.specs.declared.blob.Blob.{Blob}
 use Rattle.local_store.specs.declared.change.Change.{Change}
 use Rattle.session_steps.proofs.Committed.{tidy_unmade}
 use Rattle.session_steps.proofs.Agreeing.{agrees_saved}

@@ -12,8 +12,8 @@ use Rattle.jop_target.specs.declared.event.Event.TheVariants.{Began, Sent, Calle
 use Rattle.jop_target.specs.declared.reply.Reply.{Reply}
 use Rattle.lease.specs.Calls.{IsLeaseCall}
 use Rattle.licences.specs.Deeds.{Deed, Begins, Asks, Makes, MakesUntold, Ends, Stops, events_of}
-use Rattle.local_store.specs.Rows.{blob_id}
-use Rattle.local_store.specs.declared.blob.Blob.{Blob}
+use Rattle.table_keeper.specs.Keepers.{blob_id}
+use Rattle.table_keeper.specs.declared.blob.Blob.{Blob}
 use Rattle.session_steps.proofs.LockDeeds.{AreLocks}
 use Rattle.session_steps.specs.Doing.{Went}
 use Rattle.session_steps.specs.Saving.{Told, blobs_got, got_by, got_in, saved_all, tale_of}

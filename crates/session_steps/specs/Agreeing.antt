@@ -10,7 +10,7 @@ use Rattle.jop_target.specs.declared.reply.Reply.{Reply}
 use Rattle.jop_target.specs.declared.reply.Reply.TheVariants.{Done, GotBlob}
 use Rattle.licences.specs.Trails.{session_calls}
 use Rattle.licences.specs.Views.{Heard}
-use Rattle.local_store.specs.Keepers.{IsBlobOfKept, Kept, blob_at}
+use Rattle.table_keeper.specs.Keepers.{IsBlobOfKept, Kept, blob_at}
 use Rattle.session_steps.specs.Saving.{Told}
 
 -- ---- bytes that were moved

@@ -3,7 +3,7 @@ use Rattle.std.specs.Prelude.{ℕ, ◌≤◌, ◌≡◌, List, [], ◌++◌, len
 use Rattle.conflicts.specs.declared.error.StepErr.{StepErr}
 use Rattle.conflicts.specs.declared.error.StepErr.TheVariants.{Lost, TargetFault, KeeperFault, FailSafe, NoMemory}
 use Rattle.desk.specs.Desks.{IsTidy}
-use Rattle.jop_base.specs.Outside.{HasRisen}
+use Rattle.jop_outside.specs.Outside.{HasRisen}
 use Rattle.jop_target.specs.Runs.{has_failed}
 use Rattle.jop_target.specs.declared.call.Call.{Call}
 use Rattle.lease.specs.Calls.{Fails, GoesOn}
@@ -17,7 +17,7 @@ use Rattle.licences.specs.Deeds.{Deed, changes_in, events_of}
 use Rattle.licences.specs.Licences.{AreWork, ObeysData}
 use Rattle.licences.specs.Views.{Finished, Shown, Stage, Working, view_from}
 use Rattle.local_store.specs.Changing.{after_all}
-use Rattle.local_store.specs.declared.blob.Blob.{Blob}
+use Rattle.table_keeper.specs.declared.blob.Blob.{Blob}
 use Rattle.session_steps.specs.Agreeing.{AgreeBut}
 use Rattle.session_steps.specs.Parts.{Part, but_locks}
 use Rattle.session_steps.specs.Reported.{reported}

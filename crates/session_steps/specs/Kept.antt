@@ -3,8 +3,8 @@ use Rattle.std.specs.Prelude.{ℕ, ◌≤◌, ◌≡◌, List, option_map, Resul
 use Rattle.conflicts.specs.declared.error.StepErr.{StepErr}
 use Rattle.conflicts.specs.declared.error.StepErr.TheVariants.{KeeperFault, NoMemory}
 use Rattle.desk.specs.Desks.{DeskNow, IsUnmade}
-use Rattle.jop_base.specs.Outside.{HasRisen}
-use Rattle.local_store.specs.Keepers.{with_blob}
+use Rattle.jop_outside.specs.Outside.{HasRisen}
+use Rattle.table_keeper.specs.Keepers.{with_blob}
 
 -- they are kept, if the keeper tells, and all else is as it was
 pub record IsSaved (id bytes : List ℕ) (old new : DeskNow) : Type 0 where

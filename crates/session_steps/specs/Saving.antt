@@ -7,9 +7,8 @@ use Rattle.jop_target.specs.declared.reply.Reply.{Reply}
 use Rattle.jop_target.specs.declared.reply.Reply.TheVariants.{GotBlob}
 use Rattle.licences.specs.Deeds.{Deed, Asks}
 use Rattle.local_store.specs.Changing.{after_all}
-use Rattle.local_store.specs.Keepers.{Kept}
-use Rattle.local_store.specs.Rows.{blob_id}
-use Rattle.local_store.specs.declared.blob.Blob.{Blob}
+use Rattle.table_keeper.specs.Keepers.{Kept, blob_id}
+use Rattle.table_keeper.specs.declared.blob.Blob.{Blob}
 use Rattle.local_store.specs.declared.change.Change.{Change}
 
 -- ---- got

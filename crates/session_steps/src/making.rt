@@ -15,8 +15,9 @@ ghost use Rattle.session_steps.specs.Work.{view_of, work, work_by};
 
 use conflicts::{StepErr, SyncReport, Tally};
 use desk::Desk;
-use local_store::{Change, KeeperErr};
+use local_store::Change;
 use std::alloc::Global;
+use table_keeper::KeeperErr;
 
 /// Makes a change of a part of a session, and counts it. It may be the session's last one.
 pub fn make_shown<S: Desk>(

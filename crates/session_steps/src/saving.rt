@@ -5,8 +5,8 @@ ghost use Rattle.session_steps.specs.Kept.{Saves};
 use conflicts::StepErr;
 use desk::Desk;
 use jop_base::{Bytes, Id};
-use local_store::KeeperErr;
 use std::alloc::Global;
+use table_keeper::KeeperErr;
 
 /// Saves the bytes of a resource that a part of a session has got.
 pub fn save<S: Desk>(alloc: Global, site: &mut S, id: &Id, bytes: &Bytes) -> Result<(), StepErr>

@@ -1,7 +1,7 @@
 -- Ids of random bytes.
 use Rattle.std.specs.Prelude.{ℕ, ◌≤◌, ◌≡◌, List, length, take, drop, Option, Some, None, Result, Ok, Err}
 use Rattle.hex.specs.Hex.{encode_lower}
-use Rattle.jop_base.specs.declared.failed.Failed.{Failed}
+use Rattle.jop_outside.specs.declared.failed.Failed.{Failed}
 
 -- the id of the first 16 of these bytes
 abbrev pub first_id : List ℕ → List ℕ

@@ -1,13 +1,13 @@
 -- Whose client this is.
 use Rattle.std.specs.Prelude.{ℕ, ◌≡◌, ◌⊎◌, List, Option, Some, None, Result, Ok, Err}
-use Rattle.jop_base.specs.Outside.{HasRisen}
-use Rattle.jop_base.specs.Random.{EntropyNow}
+use Rattle.jop_outside.specs.Outside.{HasRisen}
+use Rattle.jop_outside.specs.Random.{EntropyNow}
 use Rattle.jop_target.specs.declared.event.Event.{Event}
-use Rattle.local_store.specs.Keepers.{KeeperNow, Kept}
+use Rattle.table_keeper.specs.Keepers.{KeeperNow, Kept}
 use Rattle.local_store.specs.declared.change.Change.{Change}
 use Rattle.local_store.specs.declared.change.Change.TheVariants.{Named}
-use Rattle.local_store.specs.declared.keeper_err.KeeperErr.{KeeperErr}
-use Rattle.local_store.specs.declared.keeper_err.KeeperErr.TheVariants as keeper_errors
+use Rattle.table_keeper.specs.declared.keeper_err.KeeperErr.{KeeperErr}
+use Rattle.table_keeper.specs.declared.keeper_err.KeeperErr.TheVariants as keeper_errors
 use Rattle.site.specs.Drawing.{Draws}
 use Rattle.site.specs.Sites.{HasMade, IsAsBefore, SiteNow}
 use Rattle.site.specs.declared.own_err.OwnErr.{OwnErr}

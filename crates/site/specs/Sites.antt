@@ -2,9 +2,9 @@
 use Rattle.std.specs.Prelude.{◌≡◌, List, [], ◌∷◌, ◌++◌, length, option_map, Result, Ok, Err}
 use Rattle.jop_target.specs.declared.event.Event.{Event}
 use Rattle.jop_target.specs.declared.event.Event.TheVariants.{Made}
-use Rattle.local_store.specs.Keepers.{KeeperNow, changed}
+use Rattle.table_keeper.specs.Keepers.{KeeperNow, changed}
 use Rattle.local_store.specs.declared.change.Change.{Change}
-use Rattle.local_store.specs.declared.keeper_err.KeeperErr.{KeeperErr}
+use Rattle.table_keeper.specs.declared.keeper_err.KeeperErr.{KeeperErr}
 
 -- its keeper, what it did, and the changes that it has made
 pub record SiteNow : Type 0 where

@@ -1,12 +1,13 @@
 ghost use Rattle.std.specs.Prelude.{◌≡◌, ◌++◌, ◌∷◌, [], ◌≤◌, length, option_map, OnOk, OnErr};
 ghost use Rattle.jop_target.specs.declared.event.Event.TheVariants.{Made};
-ghost use Rattle.local_store.specs.Keepers.{HasCause, changed};
+ghost use Rattle.table_keeper.specs.Keepers.{HasCause, changed};
 ghost use Rattle.local_store.specs.Sound.{IsAllowed};
 ghost use Rattle.site.specs.Sites.{Commits};
 
 use jop_target::Diary;
-use local_store::{Change, Changes, Keeper, KeeperErr, let_go};
+use local_store::{Change, Changes, let_go};
 use std::alloc::Global;
+use table_keeper::{Keeper, KeeperErr};
 
 /// Makes a change: keeps it, and writes it down in the diary by its number and in the list of changes.
 /// A change that is refused is written down nowhere.

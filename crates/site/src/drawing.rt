@@ -1,10 +1,11 @@
 ghost use Rattle.std.specs.Prelude.{◌≡◌};
 ghost use Rattle.hex.specs.Hex.{encode_lower};
-ghost use Rattle.jop_base.specs.Outside.{HasCause};
+ghost use Rattle.jop_outside.specs.Outside.{HasCause};
 ghost use Rattle.site.specs.Drawing.{Draws};
 
 use hex::encode_to_slice;
-use jop_base::{Entropy, Failed, Id};
+use jop_base::Id;
+use jop_outside::{Entropy, Failed};
 
 /// An id of 16 random bytes, in hexadecimal digits.
 pub fn draw_id<N: Entropy>(entropy: &mut N) -> Result<Id, Failed>

@@ -1,5 +1,5 @@
-use jop_base::Failed;
-use local_store::KeeperErr;
+use jop_outside::Failed;
+use table_keeper::KeeperErr;
 
 /// Why there is no client's id.
 #[derive(Clone, Copy, Debug, PartialEq, Eq)]

@@ -4,10 +4,12 @@ ghost use Rattle.site.specs.Owning.{NamesClient, Owns, own};
 use crate::committing::commit;
 use crate::drawing::draw_id;
 use crate::own_err::OwnErr;
-use jop_base::{ClientId, Entropy};
+use jop_base::ClientId;
+use jop_outside::Entropy;
 use jop_target::Diary;
-use local_store::{Change, Changes, Keeper};
+use local_store::{Change, Changes};
 use std::alloc::Global;
+use table_keeper::Keeper;
 
 /// The client that the tables name. Where they name none its id is drawn, and `Named` is committed.
 /// Nothing else is changed; what is refused changes nothing.

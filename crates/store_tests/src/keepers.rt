@@ -5,10 +5,11 @@ ghost use Rattle.local_store.specs.Sound.{IsAllowed};
 use crate::named::{NOW, bytes, id, line, plain_mime};
 use jop_base::{Copied, Id};
 use local_changes::new_resource;
-use local_store::{Change, Keeper, KeeperErr, MemKeeper, Tables, let_go};
+use local_store::{Change, Tables, let_go};
 use std::alloc::{AllocError, Global};
 use std::process::Abort;
 use std::test::Fail;
+use table_keeper::{Keeper, KeeperErr, MemKeeper};
 
 /// Names the client `c..`. Whether that is answered so, and the client is known then.
 fn is_named(alloc: Global, keeper: &mut MemKeeper, answer: Result<(), KeeperErr>) -> bool {

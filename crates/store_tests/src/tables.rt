@@ -1,9 +1,10 @@
 use crate::named::NOW;
 use crate::steps::{Step, change};
 use local_changes::StoreErr;
-use local_store::{Keeper, MemKeeper, Tables, let_go};
+use local_store::{Tables, let_go};
 use std::alloc::Global;
 use std::test::Fail;
+use table_keeper::{Keeper, MemKeeper};
 
 /// How many rows, rows that wait to be uploaded, deletions and conflict notes there are.
 fn counts(tables: &Tables) -> [usize; 4] {

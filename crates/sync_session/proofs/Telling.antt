@@ -11,7 +11,7 @@ use Rattle.licences.proofs.Told.{AreWork-append, changes_in-append, deeds_of-eve
 use Rattle.licences.specs.Deeds.{Deed, Begins, Asks, Makes, MakesUntold, Ends, Stops, changes_in, events_of}
 use Rattle.licences.specs.Licences.{AreWork, Each, IsInside, MayDo, MayMerge, MergesInfo}
 use Rattle.licences.specs.Views.{Shown, View, seen, view_from}
-use Rattle.local_store.specs.Keepers.{KeeperNow}
+use Rattle.table_keeper.specs.Keepers.{KeeperNow}
 use Rattle.local_store.specs.declared.change.Change.{Change}
 use Rattle.opening.proofs.Merging.{merges_of}
 use Rattle.opening.specs.Opening.{MergesBetween}

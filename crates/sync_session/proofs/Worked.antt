@@ -18,9 +18,9 @@ use Rattle.licences.specs.Deeds.{Deed}
 use Rattle.licences.specs.Puts.{has_put}
 use Rattle.licences.specs.Trails.{session_calls}
 use Rattle.licences.specs.Views.{Heard, View}
-use Rattle.local_store.specs.Keepers.{Kept}
+use Rattle.table_keeper.specs.Keepers.{Kept}
 use Rattle.local_store.specs.Rows.{row_id}
-use Rattle.local_store.specs.declared.blob.Blob.{Blob}
+use Rattle.table_keeper.specs.declared.blob.Blob.{Blob}
 use Rattle.local_store.specs.declared.row.Row.{Row}
 use Rattle.local_store.specs.declared.tables.Tables.{Tables}
 use Rattle.opening.proofs.Merging.{merges_none, merges_on}

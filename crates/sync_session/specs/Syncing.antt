@@ -3,7 +3,7 @@ use Rattle.std.specs.Prelude.{ℕ, ◌≡◌, List, [], ◌∷◌, ◌++◌, Boo
 use Rattle.conflicts.specs.Reports.{new_report}
 use Rattle.conflicts.specs.declared.report.SyncReport.{SyncReport}
 use Rattle.desk.specs.Desks.{DeskNow, IsSameDesk}
-use Rattle.jop_base.specs.Outside.{HasRisen}
+use Rattle.jop_outside.specs.Outside.{HasRisen}
 use Rattle.jop_base.specs.declared.lock_name.LockKind.TheVariants.{Sync}
 use Rattle.jop_base.specs.declared.path.Path.TheVariants.{Lock as LockFile}
 use Rattle.jop_target.specs.Replies.{TargetNow}
@@ -22,7 +22,7 @@ use Rattle.lease.specs.WholeSession.{AddsBegun, AddsWhole}
 use Rattle.lease.specs.declared.lease.Lease.{Lease}
 use Rattle.licences.specs.Trails.{session_calls}
 use Rattle.licences.specs.Views.{View, Working, at_rest}
-use Rattle.local_store.specs.Keepers.{KeeperNow}
+use Rattle.table_keeper.specs.Keepers.{KeeperNow}
 use Rattle.local_store.specs.declared.change.Change.{Change}
 use Rattle.local_store.specs.declared.tables.Tables.{Tables}
 use Rattle.session_steps.specs.Agreeing.{AgreeBut}

@@ -4,7 +4,7 @@ use Rattle.desk.specs.Desks.{DeskNow}
 use Rattle.licences.specs.Deeds.{Deed, changes_in, deeds_of, events_of}
 use Rattle.licences.specs.Licences.{AreWork, MergesInfo, ObeysData}
 use Rattle.licences.specs.Views.{View}
-use Rattle.local_store.specs.declared.blob.Blob.{Blob}
+use Rattle.table_keeper.specs.declared.blob.Blob.{Blob}
 use Rattle.session_steps.specs.Saving.{kept_after}
 
 -- A client has gone on by these deeds, which its trail and its changes tell. Each call and each

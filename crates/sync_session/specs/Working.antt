@@ -13,7 +13,7 @@ use Rattle.jop_target.specs.declared.reply.Reply.TheVariants.{Listed}
 use Rattle.lease.specs.Calls.{Fails}
 use Rattle.lease.specs.declared.error.Seen.{Seen}
 use Rattle.licences.specs.Views.{synced_ids}
-use Rattle.local_store.specs.Keepers.{Kept}
+use Rattle.table_keeper.specs.Keepers.{Kept}
 use Rattle.opening.specs.Opening.{Opens, ReadsBadInfo, ReadsVersion, is_opening}
 use Rattle.session_steps.specs.Agreeing.{AgreeBut}
 use Rattle.session_steps.specs.Doing.{Does, Finishes, GivesUp, HasLapsed, KeeperFails, Stops, Went}

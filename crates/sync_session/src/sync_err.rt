@@ -4,9 +4,9 @@ ghost use Rattle.sync_session.specs.Syncing.{has_ended};
 use conflicts::{StepErr, SyncReport};
 use jop_base::Id;
 use lease::{LeaseErr, Lock, Seen};
-use local_store::KeeperErr;
 use opening::OpenErr;
 use std::alloc::AllocError;
+use table_keeper::KeeperErr;
 
 /// Why a sync ended before all was done.
 #[derive(Clone, Copy, Debug, PartialEq, Eq)]

@@ -35,8 +35,9 @@ use jop_base::{ClientId, LockKind};
 use jop_target::{Diary, Target};
 use kept_tables::notes_are_kept_by_tables;
 use lease::{Lease, LeaseErr, acquire, blocked, held_apart};
-use local_store::{Changes, Keeper, Tables};
+use local_store::{Changes, Tables};
 use std::alloc::Global;
+use table_keeper::Keeper;
 
 /// A session that brings a client's tables and a target together. It takes a sync lock for the
 /// client, reads the info of the target and merges it with the client's own, uploads what was saved

@@ -1,7 +1,7 @@
 -- What a call over a link comes to, step by step.
 use Rattle.std.proofs.Common.{◌≡◌, ◌⊎◌, ◌∙◌, refl, sym, ap, subst, inl, inr, arith, ℕ, List, [], length, append-nil, Bool, Option, Some, None, Result, Ok, Err}
-use Rattle.jop_base.specs.Outside.{HasRisen}
-use Rattle.jop_base.specs.Writing.{Appends, WasWritten, WasCut}
+use Rattle.jop_outside.specs.Outside.{HasRisen}
+use Rattle.jop_outside.specs.Writing.{Appends, WasWritten, WasCut}
 use Rattle.jop_target.specs.Replies.{IsReplyTo, KeepsBlob}
 use Rattle.jop_target.specs.declared.call.Call.{Call}
 use Rattle.jop_target.specs.declared.reply.Reply.{Reply}

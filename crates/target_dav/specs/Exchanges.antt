@@ -1,12 +1,12 @@
 -- What a call over a link comes to.
 use Rattle.std.specs.Prelude.{ℕ, ◌≡◌, ◌⊎◌, List, ◌++◌, length, Bool, true, false, nat_eq, Result, Ok, Err}
 use Rattle.std.specs.declared.alloc.AllocError.{AllocError}
-use Rattle.jop_base.specs.Outside.{HasRisen, risen}
-use Rattle.jop_base.specs.Writing.{Appends}
+use Rattle.jop_outside.specs.Outside.{HasRisen, risen}
+use Rattle.jop_outside.specs.Writing.{Appends}
 use Rattle.jop_target.specs.declared.call.Call.{Call}
 use Rattle.jop_target.specs.declared.reply.Reply.{Reply}
 use Rattle.jop_target.specs.declared.reply.Reply.TheVariants.{GotBlob, Failed, TooLarge}
-use Rattle.jop_base.specs.declared.failed.Failed.{Failed as LinkFailed}
+use Rattle.jop_outside.specs.declared.failed.Failed.{Failed as LinkFailed}
 use Rattle.dav_link.specs.Links.{LinkNow, OpensAlone, Takes}
 use Rattle.dav_link.specs.declared.error.LinkErr.{LinkErr}
 use Rattle.dav_link.specs.declared.error.LinkErr.TheVariants.{Fault, NoMemory}

@@ -5,7 +5,8 @@ ghost use Rattle.target_dav.specs.Exchanges.{Asks, Begins, Exchanges, Sends, blo
 use crate::receiving::{Received, receive};
 use dav_link::{Link, LinkErr, write_message};
 use dav_wire::write_request;
-use jop_base::{Bytes, Failed, Faults, Text};
+use jop_base::{Bytes, Text};
+use jop_outside::{Failed, Faults};
 use jop_target::{Call, Reply, Target};
 use std::alloc::{AllocError, Global};
 

@@ -12,10 +12,10 @@ use Rattle.licences.specs.Deeds.{Deed, changes_in}
 use Rattle.licences.specs.Puts.{has_put}
 use Rattle.licences.specs.Trails.{session_calls}
 use Rattle.licences.specs.Views.{Shown, View, view_from}
-use Rattle.local_store.specs.Keepers.{Kept}
+use Rattle.table_keeper.specs.Keepers.{Kept}
 use Rattle.local_store.specs.Rows.{row_id}
 use Rattle.local_store.specs.Tables.{row_at}
-use Rattle.local_store.specs.declared.blob.Blob.{Blob}
+use Rattle.table_keeper.specs.declared.blob.Blob.{Blob}
 use Rattle.local_store.specs.declared.change.Change.{Change}
 use Rattle.local_store.specs.declared.row.Row.{Row}
 use Rattle.local_store.specs.declared.tables.Tables.{Tables}

@@ -22,7 +22,7 @@ use Rattle.licences.specs.Views.{Heard, Shown}
 use Rattle.local_store.specs.Rows.{item_of, row_id}
 use Rattle.local_store.specs.Sound.{IsContentOf, IsSound, IsSoundRow}
 use Rattle.local_store.specs.Tables.{base_of, row_at}
-use Rattle.local_store.specs.declared.blob.Blob.{Blob}
+use Rattle.table_keeper.specs.declared.blob.Blob.{Blob}
 use Rattle.local_store.specs.declared.content.Content.{Content}
 use Rattle.local_store.specs.declared.content.Content.TheVariants.{Plain, Sealed}
 use Rattle.local_store.specs.declared.row.Row.{Row}

@@ -13,7 +13,7 @@ use Rattle.licences.specs.Checks.{last_on}
 use Rattle.licences.specs.Deeds.{Deed}
 use Rattle.licences.specs.Trails.{session_calls}
 use Rattle.licences.specs.Views.{View}
-use Rattle.local_store.specs.Keepers.{IsBlobOfKept, Kept}
+use Rattle.table_keeper.specs.Keepers.{IsBlobOfKept, Kept}
 use Rattle.session_steps.proofs.Ending.{does_as}
 use Rattle.session_steps.specs.Asking.{IsAnswered, IsHeardBy}
 use Rattle.session_steps.specs.Doing.{Does}

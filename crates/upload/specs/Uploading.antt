@@ -9,10 +9,10 @@ use Rattle.jop_target.specs.declared.call.Call.TheVariants.{Get, Put, PutBlob}
 use Rattle.jop_target.specs.declared.reply.Reply.{Reply}
 use Rattle.jop_target.specs.declared.reply.Reply.TheVariants.{Done}
 use Rattle.licences.specs.Items.{is_folder, is_resource}
-use Rattle.local_store.specs.Keepers.{Kept}
-use Rattle.local_store.specs.Rows.{blob_id, item_of, row_id}
+use Rattle.table_keeper.specs.Keepers.{Kept, blob_id}
+use Rattle.local_store.specs.Rows.{item_of, row_id}
 use Rattle.local_store.specs.Tables.{row_at}
-use Rattle.local_store.specs.declared.blob.Blob.{Blob}
+use Rattle.table_keeper.specs.declared.blob.Blob.{Blob}
 use Rattle.local_store.specs.declared.change.Change.TheVariants.{Uploaded}
 use Rattle.local_store.specs.declared.content.Content.{Content}
 use Rattle.local_store.specs.declared.row.Row.{Row}

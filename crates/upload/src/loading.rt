@@ -8,7 +8,7 @@ ghost use Rattle.licences.specs.Checks.{last_on};
 ghost use Rattle.licences.specs.Puts.{MayPutBlob};
 ghost use Rattle.licences.specs.Trails.{session_calls};
 ghost use Rattle.licences.specs.Views.{Shown};
-ghost use Rattle.local_store.specs.Keepers.{IsBlobOfKept};
+ghost use Rattle.table_keeper.specs.Keepers.{IsBlobOfKept};
 ghost use Rattle.session_steps.specs.Doing.{Ends};
 ghost use Rattle.session_steps.specs.Parts.{Nothing};
 ghost use Rattle.session_steps.specs.Work.{IsReady, view_of, work};
@@ -19,9 +19,9 @@ use desk::Desk;
 use jop_base::{Bytes, Id};
 use jop_target::Call;
 use lease::Lease;
-use local_store::KeeperErr;
 use session_steps::ask;
 use std::alloc::Global;
+use table_keeper::KeeperErr;
 
 /// The bytes of a resource that the keeper has.
 fn load<S: Desk>(alloc: Global, site: &mut S, id: &Id) -> Result<Option<Bytes>, StepErr>

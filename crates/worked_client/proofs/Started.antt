@@ -12,7 +12,7 @@ use Rattle.lease.specs.Standing.{StandsIn}
 use Rattle.licences.proofs.Told.{calls_from-append}
 use Rattle.licences.specs.Puts.{has_put}
 use Rattle.licences.specs.Trails.{calls_from, session_calls}
-use Rattle.local_store.specs.Keepers.{IsOfKept, KeeperNow}
+use Rattle.table_keeper.specs.Keepers.{IsOfKept, KeeperNow}
 use Rattle.local_store.specs.Sound.{IsSound}
 use Rattle.local_store.specs.declared.tables.Tables.{Tables}
 use Rattle.session_steps.proofs.Asked.{calls_locks}

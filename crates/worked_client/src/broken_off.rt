@@ -1,7 +1,7 @@
 use conflicts::StepErr;
 use lease::LeaseErr;
-use local_store::KeeperErr;
 use std::alloc::AllocError;
+use table_keeper::KeeperErr;
 
 /// Why something that a client was to do gave nothing.
 #[derive(Clone, Copy, Debug)]

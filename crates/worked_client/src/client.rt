@@ -1,4 +1,4 @@
-ghost use Rattle.local_store.specs.Keepers.{IsOfKept};
+ghost use Rattle.table_keeper.specs.Keepers.{IsOfKept};
 ghost use Rattle.local_store.specs.Sound.{IsSound};
 
 use crate::broken_off::BrokenOff;
@@ -9,8 +9,9 @@ use conflicts::SyncReport;
 use desk::Site;
 use jop_base::{Bytes, Id};
 use jop_target::{Diary, Target};
-use local_store::{Changes, Keeper, MemKeeper, Tables, let_go};
+use local_store::{Changes, Tables, let_go};
 use std::alloc::Global;
+use table_keeper::{Keeper, MemKeeper};
 
 /// A client, and the keeper of its tables.
 pub struct Client {

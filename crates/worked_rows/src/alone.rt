@@ -1,8 +1,8 @@
 use crate::client::{Client, client_at};
 use crate::due::comes_out;
 use jop_target::MemTarget;
-use local_store::MemKeeper;
 use std::alloc::{AllocError, Global};
+use table_keeper::MemKeeper;
 
 /// A client that keeps its tables in memory, and a target that it alone uses.
 pub(crate) struct Alone {

@@ -1,9 +1,11 @@
 use command_line::Words;
-use jop_base::{Bytes, MemClock, MemEntropy, MemSink, MemSource, Seq, Text};
+use jop_base::{Bytes, Seq, Text};
 use jop_cli::{Status, run};
+use jop_outside::{MemClock, MemEntropy, MemSink, MemSource};
 use jop_target::{Diary, MemTarget};
-use local_store::{Changes, Keeper, MemKeeper};
+use local_store::Changes;
 use std::alloc::{AllocError, Global};
+use table_keeper::{Keeper, MemKeeper};
 
 /// A client with all that is outside it. The sinks, the diary and the status are those of the last command.
 pub(crate) struct Client<K: Keeper> {

@@ -1,9 +1,9 @@
 use crate::client::{Client, client_at, new_entropy};
 use crate::due::{has_come_out, read_due};
-use local_store::Keeper;
 use record_keeper::{MemRecords, RecordKeeper};
 use std::alloc::{AllocError, Global};
 use std::test::Fail;
+use table_keeper::Keeper;
 
 /// A line a command: its words, its input, its exit status, and what it writes, in which `~` stands for
 /// a line feed. A notebook's first id is 0001..0f, and each command that draws ids draws the next ones.

@@ -1,7 +1,7 @@
 use crate::client::Client;
 use jop_target::MemTarget;
-use local_store::Keeper;
 use std::alloc::{AllocError, Global};
+use table_keeper::Keeper;
 
 /// A command, and what is to become of it: its words, its input, its exit status, and what it writes,
 /// in which `~` stands for a line feed.

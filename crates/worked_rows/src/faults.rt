@@ -1,9 +1,9 @@
 use crate::client::{Client, client_at, new_entropy};
 use jop_base::Bytes;
-use local_store::Keeper;
 use record_keeper::{MemRecords, RecordKeeper};
 use std::alloc::{AllocError, Global};
 use std::test::Fail;
+use table_keeper::Keeper;
 
 /// Records whose first call fails.
 fn failing_records(alloc: Global) -> Result<MemRecords, AllocError> {

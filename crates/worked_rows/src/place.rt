@@ -1,7 +1,8 @@
 use crate::client::{entropy_from, source_of};
 use crate::due::{Due, cut, read_due};
 use command_line::Words;
-use jop_base::{MemClock, MemEntropy, MemSink, MemSource, Seq, Text};
+use jop_base::{Seq, Text};
+use jop_outside::{MemClock, MemEntropy, MemSink, MemSource};
 use jop_start::{Outside, run_named};
 use std::alloc::{AllocError, Global};
 use std::path::PathBuf;

@@ -1,6 +1,7 @@
 use crate::alone::Alone;
 use crate::client::source_of;
-use jop_base::{Bytes, MemSource, Path};
+use jop_base::{Bytes, Path};
+use jop_outside::MemSource;
 use std::alloc::{AllocError, Global};
 use std::test::Fail;
 

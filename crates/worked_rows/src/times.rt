@@ -1,9 +1,11 @@
 use crate::client::{Client, client_at};
 use item_kinds::updated_of;
-use jop_base::{Id, MAX_TIME, MemClock};
-use local_store::{Keeper, Tables};
+use jop_base::{Id, MAX_TIME};
+use jop_outside::MemClock;
+use local_store::Tables;
 use std::alloc::{AllocError, Global};
 use std::test::Fail;
+use table_keeper::Keeper;
 
 /// Makes a note in a notebook, and edits it at five milliseconds past 1970.
 fn make_and_edit<K: Keeper>(alloc: Global, client: &mut Client<K>) -> Result<u8, AllocError> {

@@ -1,10 +1,11 @@
 use crate::client::{Client, client_at};
 use crate::due::{comes_out, cut};
-use jop_base::{Bytes, Id, MemEntropy, Path};
+use jop_base::{Bytes, Id, Path};
+use jop_outside::MemEntropy;
 use jop_target::MemTarget;
-use local_store::MemKeeper;
 use std::alloc::{AllocError, Global};
 use std::test::Fail;
+use table_keeper::MemKeeper;
 
 /// Two clients and their target.
 struct Two {

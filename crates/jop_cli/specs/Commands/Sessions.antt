@@ -10,7 +10,7 @@ use Rattle.jop_target.specs.declared.event.Event.TheVariants.{Made}
 use Rattle.lease.specs.Blocked.{NamesALiveLock}
 use Rattle.lease.specs.Exclusion.{KeepsApart}
 use Rattle.lease.specs.declared.lock.Lock.{Lock}
-use Rattle.local_store.specs.Keepers.{KeeperNow}
+use Rattle.table_keeper.specs.Keepers.{KeeperNow}
 use Rattle.site.specs.Owning.{NamesClient, OwnNow, own}
 use Rattle.site.specs.declared.own_err.OwnErr.{OwnErr}
 use Rattle.site.specs.declared.own_err.OwnErr.TheVariants as own_errors

@@ -6,10 +6,10 @@ use Rattle.item_text.specs.Grammar.{first_fault}
 use Rattle.item_text.specs.declared.bad_item.BadItem.{BadItem}
 use Rattle.item_text.specs.declared.bad_item.ItemErr.{ItemErr}
 use Rattle.item_text.specs.declared.bad_item.ItemErr.TheVariants as item_errors
-use Rattle.jop_base.specs.Outside.{HasRisen, SourceNow}
-use Rattle.jop_base.specs.Reading.{WasRead, WasTooLarge}
-use Rattle.jop_base.specs.declared.reading.ReadErr.{ReadErr}
-use Rattle.jop_base.specs.declared.reading.ReadErr.TheVariants as read_errors
+use Rattle.jop_outside.specs.Outside.{HasRisen, SourceNow}
+use Rattle.jop_outside.specs.Reading.{WasRead, WasTooLarge}
+use Rattle.jop_outside.specs.declared.reading.ReadErr.{ReadErr}
+use Rattle.jop_outside.specs.declared.reading.ReadErr.TheVariants as read_errors
 use Rattle.jop_cli.specs.declared.command.tidy.TidyErr.{TidyErr}
 use Rattle.jop_cli.specs.declared.command.tidy.TidyErr.TheVariants as tidy_errors
 use Rattle.jop_cli.specs.Commands.Sessions.{Outcome}

@@ -1,8 +1,8 @@
 ghost use Rattle.std.specs.Prelude.{◌≡◌, [], Some};
-ghost use Rattle.jop_base.specs.Clocks.{ClockNow};
-ghost use Rattle.jop_base.specs.Outside.{SourceNow};
-ghost use Rattle.jop_base.specs.Random.{EntropyNow};
-ghost use Rattle.local_store.specs.Keepers.{KeeperNow};
+ghost use Rattle.jop_outside.specs.Clocks.{ClockNow};
+ghost use Rattle.jop_outside.specs.Outside.{SourceNow};
+ghost use Rattle.jop_outside.specs.Random.{EntropyNow};
+ghost use Rattle.table_keeper.specs.Keepers.{KeeperNow};
 ghost use Rattle.jop_cli.specs.Outside.{did, seen};
 ghost use Rattle.jop_cli.specs.Run.{Acts};
 ghost use Rattle.command_line.specs.declared.verb.Verb.TheVariants as verbs;
@@ -11,7 +11,8 @@ ghost use Rattle.command_line.specs.declared.target_name.TargetName.{TargetName}
 use crate::emit::emit;
 use crate::piece::Piece;
 use crate::status::Status;
-use jop_base::{ClientId, Sink};
+use jop_base::ClientId;
+use jop_outside::Sink;
 use jop_target::{Diary, Target};
 use std::alloc::Global;
 use sync_run::check_on;

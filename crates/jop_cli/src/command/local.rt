@@ -7,11 +7,12 @@ ghost use Rattle.local_commands.specs.Plans.{IsWellFormed};
 
 use crate::emit::emit_printed;
 use crate::status::Status;
-use jop_base::{Clock, Entropy, Sink, Source};
+use jop_outside::{Clock, Entropy, Sink, Source};
 use jop_target::Diary;
 use local_commands::{LocalCommand, obey as obey_locally};
-use local_store::{Changes, Keeper};
+use local_store::Changes;
 use std::alloc::Global;
+use table_keeper::Keeper;
 
 /// Does a command on the tables, and prints what it tells.
 pub(crate) fn obey<K: Keeper, I: Source, O: Sink, C: Clock, N: Entropy>(

@@ -1,7 +1,7 @@
 ghost use Rattle.std.specs.Prelude.{◌≡◌, ◌≤◌, [], IfOk, None, OnOk, Some};
-ghost use Rattle.jop_base.specs.Clocks.{ClockNow};
-ghost use Rattle.jop_base.specs.Outside.{SourceNow};
-ghost use Rattle.local_store.specs.Keepers.{IsOfKept};
+ghost use Rattle.jop_outside.specs.Clocks.{ClockNow};
+ghost use Rattle.jop_outside.specs.Outside.{SourceNow};
+ghost use Rattle.table_keeper.specs.Keepers.{IsOfKept};
 ghost use Rattle.local_store.specs.Sound.{IsSound};
 ghost use Rattle.site.specs.Owning.{NamesClient, Owns, own};
 ghost use Rattle.jop_cli.specs.Commands.Sync.{SyncsBy, client_of};
@@ -13,12 +13,14 @@ ghost use Rattle.command_line.specs.declared.target_name.TargetName.{TargetName}
 use crate::emit::emit_report;
 use crate::status::Status;
 use conflicts::SyncReport;
-use jop_base::{ClientId, Entropy, Sink};
+use jop_base::ClientId;
+use jop_outside::{Entropy, Sink};
 use jop_target::{Diary, Target};
-use local_store::{Change, Changes, Keeper, Tables, let_go};
+use local_store::{Change, Changes, Tables, let_go};
 use site::{OwnErr, commit, draw_id};
 use std::alloc::Global;
 use sync_session::{SyncErr, sync_on};
+use table_keeper::Keeper;
 
 /// Why a sync didn't go well.
 #[derive(Clone, Copy, Debug, PartialEq, Eq)]

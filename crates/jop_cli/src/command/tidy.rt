@@ -8,7 +8,7 @@ ghost use Rattle.local_commands.specs.Sparing.{IsReadOf};
 use crate::emit::emit_three;
 use crate::status::Status;
 use item_text::{BadItem, ItemErr, canonical_parts};
-use jop_base::{ReadErr, Sink, Source, read_to_end};
+use jop_outside::{ReadErr, Sink, Source, read_to_end};
 use std::alloc::Global;
 
 /// The most bytes of an input that is tidied: 16 MiB.

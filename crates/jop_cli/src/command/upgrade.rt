@@ -1,6 +1,6 @@
 ghost use Rattle.std.specs.Prelude.{◌≡◌, [], Some};
-ghost use Rattle.jop_base.specs.Clocks.{ClockNow};
-ghost use Rattle.jop_base.specs.Outside.{SourceNow};
+ghost use Rattle.jop_outside.specs.Clocks.{ClockNow};
+ghost use Rattle.jop_outside.specs.Outside.{SourceNow};
 ghost use Rattle.site.specs.Owning.{own};
 ghost use Rattle.jop_cli.specs.Commands.Upgrade.{UpgradesBy};
 ghost use Rattle.jop_cli.specs.Outside.{did, seen};
@@ -10,12 +10,13 @@ ghost use Rattle.command_line.specs.declared.target_name.TargetName.{TargetName}
 
 use crate::emit::emit_version;
 use crate::status::Status;
-use jop_base::{Entropy, Sink};
+use jop_outside::{Entropy, Sink};
 use jop_target::{Diary, Target};
-use local_store::{Changes, Keeper};
+use local_store::Changes;
 use site::{OwnErr, own_client};
 use std::alloc::Global;
 use sync_run::{SessionErr, upgrade_on};
+use table_keeper::Keeper;
 
 /// Why a target wasn't upgraded.
 #[derive(Clone, Copy, Debug, PartialEq, Eq)]

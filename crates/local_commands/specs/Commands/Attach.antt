@@ -1,7 +1,7 @@
 -- `attach`: a new resource.
 use Rattle.std.specs.Prelude.{ℕ, ◌+◌, ◌≡◌, List, [], ◌∷◌, length, true, false, Some, None, Result, Ok}
-use Rattle.jop_base.specs.declared.reading.ReadErr.{ReadErr}
-use Rattle.jop_base.specs.declared.reading.ReadErr.TheVariants as read_errors
+use Rattle.jop_outside.specs.declared.reading.ReadErr.{ReadErr}
+use Rattle.jop_outside.specs.declared.reading.ReadErr.TheVariants as read_errors
 use Rattle.local_changes.specs.Makers.{new_resource}
 use Rattle.local_store.specs.declared.change.Change.{Change}
 use Rattle.local_commands.specs.Drawing.{OneId}

@@ -12,11 +12,13 @@ use crate::books::missing_book;
 use crate::keeping::commit;
 use crate::local_err::LocalErr;
 use crate::stamp::{StampErr, stamp};
-use jop_base::{Clock, Entropy, Id, Source, Text};
+use jop_base::{Id, Text};
+use jop_outside::{Clock, Entropy, Source};
 use jop_target::Diary;
 use local_changes::{StoreErr, new_note};
-use local_store::{Changes, Keeper, KeeperErr, Tables};
+use local_store::{Changes, Tables};
 use std::alloc::Global;
+use table_keeper::{Keeper, KeeperErr};
 
 /// Makes a note in a notebook, of which the whole input is the body, and answers its id, which is
 /// printed on a line of its own. In this order: `NotFound` exactly if no row of `book` is a notebook;

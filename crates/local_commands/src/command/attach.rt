@@ -11,11 +11,13 @@ ghost use Rattle.local_commands.specs.Sparing.{IsReadOf};
 use crate::keeping::save_resource;
 use crate::local_err::LocalErr;
 use crate::stamp::{StampErr, stamp};
-use jop_base::{Clock, Entropy, Id, ReadErr, Source, Text, read_to_end};
+use jop_base::{Id, Text};
+use jop_outside::{Clock, Entropy, ReadErr, Source, read_to_end};
 use jop_target::Diary;
 use local_changes::new_resource;
-use local_store::{Changes, Keeper, KeeperErr, Tables};
+use local_store::{Changes, Tables};
 use std::alloc::{AllocError, Global};
+use table_keeper::{Keeper, KeeperErr};
 
 /// The most bytes of a resource that is taken: 32 MiB.
 pub const BLOB_LIMIT: usize = 33_554_432;

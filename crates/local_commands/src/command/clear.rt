@@ -8,8 +8,9 @@ ghost use Rattle.local_commands.specs.Running.{Around, Runs};
 use crate::keeping::commit;
 use crate::local_err::LocalErr;
 use jop_target::Diary;
-use local_store::{Change, Changes, ConflictNote, Keeper, KeeperErr, Tables};
+use local_store::{Change, Changes, ConflictNote, Tables};
 use std::alloc::Global;
+use table_keeper::{Keeper, KeeperErr};
 
 /// Takes out the conflict notes of this number, and prints nothing. `NoConflict` exactly if there is
 /// none.

@@ -15,11 +15,13 @@ use crate::local_err::LocalErr;
 use crate::stamp::read_clock;
 use item_kinds::{Kind, updated_of};
 use item_text::Item;
-use jop_base::{Clock, Id, MAX_TIME, Source, Text};
+use jop_base::{Id, MAX_TIME, Text};
+use jop_outside::{Clock, Source};
 use jop_target::Diary;
 use local_changes::{StoreErr, edited};
-use local_store::{Changes, Content, Keeper, KeeperErr, Tables, has_kind};
+use local_store::{Changes, Content, Tables, has_kind};
 use std::alloc::Global;
+use table_keeper::{Keeper, KeeperErr};
 
 /// Gives a note another title, if one is given, and the whole input as its body, and prints nothing. In
 /// this order: `NotFound` exactly if no row of this id is a note; `Sealed` exactly if it is sealed;

@@ -9,11 +9,13 @@ use crate::books::missing_book;
 use crate::keeping::commit;
 use crate::local_err::LocalErr;
 use crate::stamp::{StampErr, stamp};
-use jop_base::{Clock, Entropy, Id, Text};
+use jop_base::{Id, Text};
+use jop_outside::{Clock, Entropy};
 use jop_target::Diary;
 use local_changes::{StoreErr, new_book};
-use local_store::{Changes, Keeper, KeeperErr, Tables};
+use local_store::{Changes, Tables};
 use std::alloc::Global;
+use table_keeper::{Keeper, KeeperErr};
 
 /// Makes a notebook, at the top or in the parent that is given, and answers its id, which is printed on
 /// a line of its own. `NotFound` exactly if a parent is given and no row of its id is a notebook; it

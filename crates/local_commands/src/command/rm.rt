@@ -9,8 +9,9 @@ use crate::local_err::LocalErr;
 use jop_base::Id;
 use jop_target::Diary;
 use local_changes::{StoreErr, removed};
-use local_store::{Changes, Keeper, KeeperErr, Tables};
+use local_store::{Changes, Tables};
 use std::alloc::Global;
+use table_keeper::{Keeper, KeeperErr};
 
 /// Removes the item of this id, and prints nothing. `NotFound` exactly if there is no row of it, and
 /// `NotEmpty` exactly if it is a notebook in which notes or notebooks are.

@@ -9,11 +9,13 @@ use crate::keeping::commit_all;
 use crate::local_err::LocalErr;
 use crate::stamp::{StampErr, stamp_twice};
 use item_kinds::Kind;
-use jop_base::{Clock, Entropy, Id, Text};
+use jop_base::{Id, Text};
+use jop_outside::{Clock, Entropy};
 use jop_target::Diary;
 use local_changes::{StoreErr, has_row, tagged};
-use local_store::{Changes, Keeper, KeeperErr, Tables};
+use local_store::{Changes, Tables};
 use std::alloc::Global;
+use table_keeper::{Keeper, KeeperErr};
 
 /// Gives a note the tag of this title, and prints nothing. `NotFound` exactly if no row of `note` is a
 /// note; it comes before the clock and the random source are asked. Two ids are drawn, whether they

@@ -1,5 +1,5 @@
 use Rattle.std.proofs.Common.{sym, subst, refl, ◌∙◌, ℕ, List}
-use Rattle.jop_base.proofs.WritingLaws.{IsAt, at_taken}
+use Rattle.jop_outside.proofs.WritingLaws.{IsAt, at_taken}
 use Rattle.dav_link.specs.Links.{sink_of}
 use Rattle.dav_link.proofs.sending.write_message.Goals as goal
 

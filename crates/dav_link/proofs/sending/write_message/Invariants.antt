@@ -1,5 +1,5 @@
 use Rattle.std.proofs.Common.{length}
-use Rattle.jop_base.proofs.WritingLaws.{IsAt}
+use Rattle.jop_outside.proofs.WritingLaws.{IsAt}
 use Rattle.dav_link.specs.Links.{WritesAlone, sink_of}
 use Rattle.dav_link.proofs.sending.write_message.Given as goal
 

@@ -2,7 +2,7 @@ use Rattle.std.proofs.Common.{◌≡◌, ◌∙◌, ap, sym, subst, All, true, f
 use Rattle.std.specs.Ordering.{is_eq}
 use Rattle.std.proofs.lemmas.List.{take_all}
 use Rattle.std.proofs.lemmas.List.Elements.{All-more}
-use Rattle.jop_base.proofs.PlaceLaws.{Differs, order, same_key, differs, IsPlaceOf-here, IsLacking-all}
+use Rattle.jop_base.proofs.PlaceLaws.{Differs, order, same_key, differs, IsFirstPlaceOf-here, IsLacking-all}
 use Rattle.jop_base.proofs.keyed.place_of.Goals as goal
 
 pub returns-then-is_eq-clause-some : goal.returns-then-is_eq-clause-some
@@ -12,7 +12,7 @@ returns-then-is_eq-clause-some g c =
     let item = c.index-items-place.result in
     let is : is_eq (order key k item) ≡ true =
     sym (ap is_eq c.compare.ensures) ∙ (sym c.is_eq.ensures ∙ c.if-is_eq.true) in
-    IsPlaceOf-here key c.args.items.now k c.loop-place.place item c.loop-place-test.true
+    IsFirstPlaceOf-here key c.args.items.now k c.loop-place.place item c.loop-place-test.true
     c.loop-place.invariant (sym (ap key c.index-items-place.is) ∙ same_key key k item is)
 
 pub loop-place-preserved : goal.loop-place-preserved

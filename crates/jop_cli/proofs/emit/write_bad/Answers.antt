@@ -1,7 +1,7 @@
 use Rattle.std.proofs.Common.{subst, List, ℕ}
 use Rattle.std.proofs.lemmas.Result.{err_from_is_err_and}
-use Rattle.jop_base.proofs.WritingLaws.{at_part, at_next, at_cut}
-use Rattle.jop_base.specs.Writing.{WasCut, WasWritten}
+use Rattle.jop_outside.proofs.WritingLaws.{at_part, at_next, at_cut}
+use Rattle.jop_outside.specs.Writing.{WasCut, WasWritten}
 use Rattle.jop_cli.specs.Commands.Sync.{bad_line}
 use Rattle.jop_cli.proofs.emit.write_bad.Goals as goal
 

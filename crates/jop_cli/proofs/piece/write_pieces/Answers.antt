@@ -1,7 +1,7 @@
 use Rattle.std.proofs.Common.{subst}
 use Rattle.std.proofs.lemmas.Result.{err_from_is_err_and}
-use Rattle.jop_base.proofs.WritingLaws.{at_part, at_next, at_cut}
-use Rattle.jop_base.specs.Writing.{WasCut, WasWritten}
+use Rattle.jop_outside.proofs.WritingLaws.{at_part, at_next, at_cut}
+use Rattle.jop_outside.specs.Writing.{WasCut, WasWritten}
 use Rattle.jop_cli.specs.Pieces.{piece_text}
 use Rattle.jop_cli.specs.declared.piece.Piece.{Piece}
 use Rattle.jop_cli.proofs.piece.write_pieces.Goals as goal

@@ -1,5 +1,5 @@
 use Rattle.std.proofs.Common.{drop}
-use Rattle.jop_base.proofs.WritingLaws.{IsAt}
+use Rattle.jop_outside.proofs.WritingLaws.{IsAt}
 use Rattle.jop_cli.specs.Pieces.{pieces_text}
 use Rattle.jop_cli.proofs.piece.write_pieces.Given as goal
 

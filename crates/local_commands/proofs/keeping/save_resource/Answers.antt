@@ -1,6 +1,6 @@
 use Rattle.std.specs.Prelude.{Result}
 use Rattle.std.proofs.Common.{[], ◌∷◌, Ok, Err, refl, subst}
-use Rattle.local_store.specs.declared.keeper_err.KeeperErr.{KeeperErr}
+use Rattle.table_keeper.specs.declared.keeper_err.KeeperErr.{KeeperErr}
 use Rattle.local_commands.specs.Keeping.{Act, Acts, MakeChange, SaveBlob, notes}
 use Rattle.local_commands.proofs.InARow.{acts_refused, saved_then}
 use Rattle.local_commands.proofs.keeping.save_resource.Goals as goal

@@ -1,6 +1,6 @@
 use Rattle.std.proofs.Common.{refl, sym, subst}
 use Rattle.std.proofs.lemmas.Result.{err_from_is_err_and}
-use Rattle.local_store.specs.Keepers.{KeeperNow}
+use Rattle.table_keeper.specs.Keepers.{KeeperNow}
 use Rattle.local_commands.specs.Keeping.{AreKept, notes}
 use Rattle.local_commands.specs.Lines.{printed_text}
 use Rattle.local_commands.specs.Plans.{plan_of}

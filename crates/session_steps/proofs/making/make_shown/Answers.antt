@@ -3,8 +3,8 @@ use Rattle.std.proofs.Common.{◌∙◌, ap, subst}
 use Rattle.conflicts.specs.Reports.{with_tally}
 use Rattle.desk.specs.Desks.{Commits}
 use Rattle.jop_target.specs.Trail.{LineNow}
-use Rattle.local_store.specs.Keepers.{HasCause}
-use Rattle.local_store.specs.declared.keeper_err.KeeperErr.{KeeperErr}
+use Rattle.table_keeper.specs.Keepers.{HasCause}
+use Rattle.table_keeper.specs.declared.keeper_err.KeeperErr.{KeeperErr}
 use Rattle.session_steps.proofs.Committed.{calls_made, does_made, fails_unmade, held_made, went_either}
 use Rattle.session_steps.proofs.making.make_shown.Goals as goal
 

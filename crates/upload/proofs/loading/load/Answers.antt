@@ -1,8 +1,8 @@
 use Rattle.std.specs.Prelude.{Err, Option, List, ℕ, refl}
 use Rattle.std.proofs.Common.{subst, sym}
 use Rattle.desk.specs.Desks.{DeskNow}
-use Rattle.local_store.specs.Keepers.{HasCause}
-use Rattle.local_store.specs.declared.keeper_err.KeeperErr.{KeeperErr}
+use Rattle.table_keeper.specs.Keepers.{HasCause}
+use Rattle.table_keeper.specs.declared.keeper_err.KeeperErr.{KeeperErr}
 use Rattle.session_steps.proofs.Committed.{fails_unmade, went_nowhere}
 use Rattle.session_steps.proofs.Ending.{does_nothing}
 use Rattle.session_steps.specs.Doing.{Does}

@@ -2,7 +2,7 @@ use Rattle.std.specs.Prelude.{◌+◌, List, ℕ, drop, take, Option, refl}
 use Rattle.std.proofs.Common.{◌∙◌, ap, arith, subst}
 use Rattle.std.proofs.lemmas.List.{drop_all}
 use Rattle.std.proofs.lemmas.Result.{err_from_is_err_and}
-use Rattle.local_store.specs.declared.blob.Blob.{Blob}
+use Rattle.table_keeper.specs.declared.blob.Blob.{Blob}
 use Rattle.session_steps.proofs.Ending.{does_nothing, gives_up_behind}
 use Rattle.session_steps.proofs.Joins.{same_but}
 use Rattle.session_steps.proofs.Repeating.{does_all, does_here, here_and_left}

@@ -1,5 +1,5 @@
 use Rattle.std.proofs.Common.{◌≡◌, ◌≤◌, ◌∙◌, ap, arith}
-use Rattle.jop_base.specs.Plan.{next_fate}
+use Rattle.jop_outside.specs.Plan.{next_fate}
 use Rattle.jop_target.specs.Memory.{Memory, faults_after}
 use Rattle.jop_target.proofs.Calls.{has_cause}
 use Rattle.jop_target.proofs.mem_target.MemTargetTarget.call.Goals as goal

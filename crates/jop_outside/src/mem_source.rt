@@ -1,0 +1,68 @@
+ghost use Rattle.std.specs.Prelude.{◌≡◌, [], ◌≤◌, OnOk, OnErr, IfOk, IsSome, None, false, length, min};
+ghost use Rattle.jop_outside.specs.Outside.{HasCause, Reads};
+ghost use Rattle.jop_outside.specs.Plan.{after_call, next_fate, with_failing};
+
+use crate::failed::Failed;
+use crate::faults::Faults;
+use crate::plan::Plan;
+use crate::source::Source;
+use crate::unread::Unread;
+use jop_base::Bytes;
+use std::alloc::{AllocError, Global};
+
+/// A source in memory. To read from it takes no memory.
+#[derive(Debug, Drop)]
+pub struct MemSource {
+    pub left: Unread,
+    pub faults: Faults,
+    pub plan: Plan,
+}
+
+impl MemSource {
+    /// It gives these bytes, as many a call as fit, and no call is to fail.
+    pub fn new(alloc: Global, bytes: Bytes) -> MemSource
+        ensures left { result.left ≡ bytes }
+        ensures faults { result.faults ≡ 0 }
+        ensures plan { result.plan ≡ record { made = 0; failing = [] } }
+    {
+        MemSource {
+            left: Unread::of(bytes),
+            faults: Faults::new(),
+            plan: Plan::new(alloc),
+        }
+    }
+
+    /// The call of this number, counted from 1 at the first, answers `Failed` and reads nothing.
+    pub fn fail(&mut self, nth: u64) -> Result<(), AllocError>
+        ensures ok { OnOk result
+            (self.new ≡ record self.old { plan = with_failing self.old.plan nth false }) }
+        ensures err { OnErr result (self.new ≡ self.old) }
+    {
+        self.plan.fail(nth, false)
+    }
+}
+
+impl Source for MemSource {
+    ghost use Rattle.std.specs.Prelude.{Some};
+
+    ghost state = { λ s. record { left = Some s.left; faults = s.faults } };
+
+    fn read(&mut self, into: &mut [u8]) -> Result<usize, Failed>
+        ensures within { IfOk result (λ count. count ≤ length into.old) }
+        ensures length { length into.new ≡ length into.old }
+        ensures read { Reads (Some self.old.left) result into.new (Some self.new.left) }
+        ensures cause { HasCause self.old.faults result self.new.faults }
+        ensures whole { IfOk result (λ count. count ≡ min (length into.old) (length self.old.left)) }
+        ensures planned { OnOk result (next_fate self.old.plan ≡ None) }
+        ensures failed { OnErr result (IsSome (next_fate self.old.plan)) }
+        ensures counted { self.new.plan ≡ after_call self.old.plan }
+    {
+        let fate = self.plan.fate();
+        self.plan.count_call();
+        if fate.is_some() {
+            self.faults.rise();
+            return Err(Failed);
+        }
+        Ok(self.left.give(into))
+    }
+}
