@@ -2,6 +2,9 @@
 use Rattle.std.proofs.Common.{◌≡◌, refl, sym, subst, inr, ℕ, List, [], ◌++◌, Some, Result, Ok, Err}
 use Rattle.std.proofs.lemmas.List.Elements.{All-nil}
 use Rattle.exclusion.specs.Exclusive.{KeepsExclusive}
+use Rattle.exit_status.specs.Outcomes.{Emits}
+use Rattle.exit_status.specs.Refusals.{session_status}
+use Rattle.exit_status.specs.declared.status.Status.{Status}
 use Rattle.jop_outside.specs.Outside.{SinkNow}
 use Rattle.jop_base.specs.declared.lock_name.LockKind.TheVariants.{Sync}
 use Rattle.jop_target.specs.Replies.{TargetNow}
@@ -24,11 +27,10 @@ use Rattle.jop_cli.proofs.Runs.{explained_emit, keeps_none, uses_behind}
 use Rattle.jop_cli.proofs.Sessions.{busy_result, failed_session}
 use Rattle.jop_cli.specs.Causes.{IsExplained}
 use Rattle.jop_cli.specs.Commands.Check.{free_line}
-use Rattle.jop_cli.specs.Commands.Sessions.{IsChange, outcome_by, session_status}
+use Rattle.jop_cli.specs.Commands.Sessions.{IsChange, outcome_by}
 use Rattle.jop_cli.specs.Outside.{Outside, did}
-use Rattle.jop_cli.specs.Run.{Acts, Emits, UsesTarget}
+use Rattle.jop_cli.specs.Run.{Acts, UsesTarget}
 use Rattle.command_line.specs.declared.verb.Verb.TheVariants.{Check}
-use Rattle.jop_cli.specs.declared.status.Status.{Status}
 use Rattle.command_line.specs.declared.target_name.TargetName.{TargetName}
 
 -- what is printed of a check

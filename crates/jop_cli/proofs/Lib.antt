@@ -12,6 +12,5 @@ mod SyncCauses
 mod OwnLicences
 mod SyncSides
 mod Synced
-mod Three
 mod Tidied
 mod Upgraded

@@ -3,6 +3,10 @@ use Rattle.std.proofs.Common.{◌≡◌, ◌∙◌, refl, sym, ap, subst, inl, i
 use Rattle.std.proofs.Common.{Bool, true, false, Option, Some, None, Result, Ok, Err}
 use Rattle.std.specs.Prelude.{option_map}
 use Rattle.std.proofs.lemmas.List.Elements.{All-nil, All-cons}
+use Rattle.exit_status.specs.Outcomes.{Emits, Outcome}
+use Rattle.exit_status.specs.Refusals.{local_status}
+use Rattle.exit_status.specs.Statuses.{is_early}
+use Rattle.exit_status.specs.declared.status.Status.{Status}
 use Rattle.jop_outside.specs.Outside.{HasRisen, SourceNow}
 use Rattle.jop_outside.specs.Random.{EntropyNow}
 use Rattle.jop_target.specs.Replies.{TargetNow}
@@ -31,14 +35,12 @@ use Rattle.jop_cli.proofs.Licensed.{AllLocal, local_licensed}
 use Rattle.jop_cli.proofs.LocalLicences.{makes_local}
 use Rattle.jop_cli.proofs.Runs.{explained_emit, uses_changes}
 use Rattle.jop_cli.specs.Causes.{IsExplained}
-use Rattle.jop_cli.specs.Commands.Local.{RunsLocally, local_outcome, local_status, own_side}
-use Rattle.jop_cli.specs.Commands.Sessions.{IsChange, IsUncalled, Outcome}
+use Rattle.jop_cli.specs.Commands.Local.{RunsLocally, local_outcome, own_side}
+use Rattle.jop_cli.specs.Commands.Sessions.{IsChange, IsUncalled}
 use Rattle.jop_cli.specs.Outside.{Outside, Ran, did}
-use Rattle.jop_cli.specs.Run.{Acts, Answers, Emits, IsUnsaved, KeepsChanges, UsesTarget, may_be_late, with_changes}
-use Rattle.jop_cli.specs.Statuses.{is_early}
+use Rattle.jop_cli.specs.Run.{Acts, Answers, IsUnsaved, KeepsChanges, UsesTarget, may_be_late, with_changes}
 use Rattle.command_line.specs.declared.verb.Verb.{Verb}
 use Rattle.command_line.specs.declared.verb.Verb.TheVariants.{Local}
-use Rattle.jop_cli.specs.declared.status.Status.{Status}
 
 -- ---- why the command ends so
 

@@ -2,6 +2,8 @@
 use Rattle.std.proofs.Common.{◌≡◌, ◌∙◌, refl, sym, ap, subst, inl, inr, ℕ, List, [], ◌∷◌, true, false, Option, Some, None, Ok, Err}
 use Rattle.std.specs.Prelude.{option_map}
 use Rattle.std.proofs.lemmas.List.Elements.{All-cons, All-nil}
+use Rattle.exit_status.specs.Refusals.{own_status}
+use Rattle.exit_status.specs.Statuses.{is_early}
 use Rattle.jop_outside.specs.Random.{EntropyNow}
 use Rattle.jop_target.specs.declared.event.Event.TheVariants.{Made}
 use Rattle.local_store.specs.Changing.{after_all}
@@ -13,9 +15,8 @@ use Rattle.site.specs.Sites.{IsAsBefore, SiteNow}
 use Rattle.site.specs.declared.own_err.OwnErr.{OwnErr}
 use Rattle.site.specs.declared.own_err.OwnErr.TheVariants as own_errors
 use Rattle.jop_cli.proofs.Runs.{keeps_none}
-use Rattle.jop_cli.specs.Commands.Sessions.{IsChange, IsUncalled, own_status}
+use Rattle.jop_cli.specs.Commands.Sessions.{IsChange, IsUncalled}
 use Rattle.jop_cli.specs.Run.{KeepsChanges, with_changes}
-use Rattle.jop_cli.specs.Statuses.{is_early}
 
 pub early_own : (error : OwnErr) → is_early (own_status error) ≡ true
 early_own own_errors.KeeperFault = refl

@@ -4,6 +4,10 @@ use Rattle.std.proofs.Common.{Bool, true, false, Option, Some, None, Ok, Err}
 use Rattle.std.specs.Prelude.{option_map}
 use Rattle.std.proofs.lemmas.List.{append-nil}
 use Rattle.std.proofs.lemmas.List.Elements.{All-nil}
+use Rattle.exit_status.specs.Outcomes.{Emits, Outcome}
+use Rattle.exit_status.specs.Statuses.{is_early, is_refusal, usage_line}
+use Rattle.exit_status.specs.declared.status.Status.{Status}
+use Rattle.exit_status.specs.declared.status.Status.TheVariants as statuses
 use Rattle.jop_outside.specs.Clocks.{ClockNow}
 use Rattle.jop_outside.specs.Outside.{SourceNow}
 use Rattle.jop_outside.specs.Random.{EntropyNow}
@@ -27,15 +31,11 @@ use Rattle.local_store.specs.declared.change.Change.{Change}
 use Rattle.local_store.specs.declared.tables.Tables.{Tables}
 use Rattle.jop_cli.specs.Causes.{HasNoCause, IsExplained}
 use Rattle.jop_cli.specs.Commands.{ComesTo, Uses, used}
-use Rattle.jop_cli.specs.Commands.Help.{usage_line}
-use Rattle.jop_cli.specs.Commands.Sessions.{IsChange, IsUncalled, Outcome, Session}
+use Rattle.jop_cli.specs.Commands.Sessions.{IsChange, IsUncalled, Session}
 use Rattle.jop_cli.specs.Outside.{Outside, Ran, did}
-use Rattle.jop_cli.specs.Run.{Acts, Answers, Does, Emits, HasLicences, IsIdle, IsUnsaved, KeepsChanges, LeavesAlone, LeavesTables, LeavesTarget, Obeys, Prints, Sessions, TidiesTold, UsesTarget, may_be_late, with_changes}
-use Rattle.jop_cli.specs.Statuses.{is_early, is_refusal}
+use Rattle.jop_cli.specs.Run.{Acts, Answers, Does, HasLicences, IsIdle, IsUnsaved, KeepsChanges, LeavesAlone, LeavesTables, LeavesTarget, Obeys, Prints, Sessions, TidiesTold, UsesTarget, may_be_late, with_changes}
 use Rattle.command_line.specs.declared.verb.Verb.{Verb}
 use Rattle.command_line.specs.declared.verb.Verb.TheVariants.{Help, Local, Tidy}
-use Rattle.jop_cli.specs.declared.status.Status.{Status}
-use Rattle.jop_cli.specs.declared.status.Status.TheVariants as statuses
 
 -- ---- the target
 

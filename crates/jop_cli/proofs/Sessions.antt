@@ -1,6 +1,11 @@
 -- What follows of how a session ended.
 use Rattle.std.proofs.Common.{◌≡◌, ◌∙◌, refl, sym, ap, inl, inr, ℕ, List, [], ◌∷◌, ◌++◌, append_assoc}
 use Rattle.std.proofs.Common.{Bool, true, false, ◌||◌, Result, Ok, Err}
+use Rattle.exit_status.specs.Outcomes.{Emits}
+use Rattle.exit_status.specs.Refusals.{session_status}
+use Rattle.exit_status.specs.Statuses.{is_early}
+use Rattle.exit_status.specs.declared.status.Status.{Status}
+use Rattle.exit_status.specs.declared.status.Status.TheVariants as statuses
 use Rattle.jop_outside.specs.Outside.{SinkNow}
 use Rattle.jop_target.proofs.Runs.{has_failed-append}
 use Rattle.jop_target.specs.Runs.{has_failed}
@@ -13,11 +18,7 @@ use Rattle.lease.specs.WholeSession.{AddsWhole}
 use Rattle.lease.specs.declared.lock.Lock.{Lock}
 use Rattle.sync_run.specs.declared.session_err.SessionErr.{SessionErr}
 use Rattle.sync_run.specs.declared.session_err.SessionErr.TheVariants.{Busy, LeaseLost, TargetNewer, BadInfo, TargetFault, NoMemory}
-use Rattle.jop_cli.specs.Commands.Sessions.{outcome_by, session_status}
-use Rattle.jop_cli.specs.Run.{Emits}
-use Rattle.jop_cli.specs.Statuses.{is_early}
-use Rattle.jop_cli.specs.declared.status.Status.{Status}
-use Rattle.jop_cli.specs.declared.status.Status.TheVariants as statuses
+use Rattle.jop_cli.specs.Commands.Sessions.{outcome_by}
 
 pub early_session : (error : SessionErr) → is_early (session_status error) ≡ true
 early_session (Busy lock now) = refl

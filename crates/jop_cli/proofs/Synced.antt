@@ -2,6 +2,11 @@
 use Rattle.std.proofs.Common.{◌≡◌, ◌∙◌, ◌≤◌, refl, sym, ap, subst, arith, inl, inr, ℕ, List, [], ◌∷◌, ◌++◌, true, Some, None, Result, Ok, Err}
 use Rattle.std.proofs.lemmas.List.Elements.{All-nil}
 use Rattle.conflicts.specs.declared.report.SyncReport.{SyncReport}
+use Rattle.exit_status.specs.Outcomes.{Emits}
+use Rattle.exit_status.specs.Refusals.{own_status, sync_status}
+use Rattle.exit_status.specs.Statuses.{is_early}
+use Rattle.exit_status.specs.declared.status.Status.{Status}
+use Rattle.exit_status.specs.declared.status.Status.TheVariants as statuses
 use Rattle.jop_outside.specs.Outside.{HasRisen, SinkNow}
 use Rattle.jop_base.specs.declared.lock_name.LockKind.{LockKind}
 use Rattle.jop_base.specs.declared.lock_name.LockKind.TheVariants as kinds
@@ -32,16 +37,13 @@ use Rattle.jop_cli.proofs.SyncCauses.{bad_info, emptied, keyless, late_trail, ne
 use Rattle.jop_cli.proofs.OwnLicences.{licensed_behind, unowned_licensed}
 use Rattle.jop_cli.proofs.SyncSides.{added, keeps_acts, licensed_kept, names_after}
 use Rattle.jop_cli.specs.Causes.{HasEnded, HasFound, HasGotBad, HasLeft, HasListedNone, IsExplained, LacksKey}
-use Rattle.jop_cli.specs.Commands.Sessions.{ClientNow, IsChange, IsUncalled, own_status, side}
-use Rattle.jop_cli.specs.Commands.Sync.{HasSynced, SyncsBy, outcome_of, report_text, status_of, sync_at, sync_status}
+use Rattle.jop_cli.specs.Commands.Sessions.{ClientNow, IsChange, IsUncalled, side}
+use Rattle.jop_cli.specs.Commands.Sync.{HasSynced, SyncsBy, outcome_of, report_text, status_of, sync_at}
 use Rattle.jop_cli.specs.Outside.{Outside, did}
-use Rattle.jop_cli.specs.Run.{Acts, Emits, UsesTarget}
-use Rattle.jop_cli.specs.Statuses.{is_early}
+use Rattle.jop_cli.specs.Run.{Acts, UsesTarget}
 use Rattle.command_line.specs.declared.verb.Verb.TheVariants.{Sync}
 use Rattle.jop_cli.specs.declared.command.sync.SyncRefusal.{SyncRefusal}
 use Rattle.jop_cli.specs.declared.command.sync.SyncRefusal.TheVariants.{Own, Session}
-use Rattle.jop_cli.specs.declared.status.Status.{Status}
-use Rattle.jop_cli.specs.declared.status.Status.TheVariants as statuses
 use Rattle.command_line.specs.declared.target_name.TargetName.{TargetName}
 
 -- ---- statuses

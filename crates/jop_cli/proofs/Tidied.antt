@@ -1,5 +1,8 @@
 -- What tidying an input comes to.
 use Rattle.std.proofs.Common.{◌≡◌, ◌≤◌, refl, sym, subst, ap, inl, inr, ℕ, List, [], length}
+use Rattle.exit_status.specs.Outcomes.{Emits, Outcome}
+use Rattle.exit_status.specs.Statuses.{is_early}
+use Rattle.exit_status.specs.declared.status.Status.{Status}
 use Rattle.jop_target.specs.declared.event.Event.{Event}
 use Rattle.local_store.specs.declared.change.Change.{Change}
 use Rattle.std.proofs.Common.{Option, Some, Result, Ok, Err, true}
@@ -14,16 +17,13 @@ use Rattle.jop_outside.specs.declared.reading.ReadErr.TheVariants as read_errors
 use Rattle.local_commands.specs.Sparing.{IsReadOf}
 use Rattle.jop_cli.proofs.Runs.{acts_quiet, explained_emit}
 use Rattle.jop_cli.specs.Commands.Tidy.{IsAnswerTo, StandsFor, TIDY_LIMIT, Tidies, TidiesBytes, TidiesInput, bytes_outcome, item_err, outcome_of, read_err, status_of}
-use Rattle.jop_cli.specs.Commands.Sessions.{Outcome}
 use Rattle.jop_cli.specs.Outside.{Outside, Ran, did}
 use Rattle.jop_cli.specs.Causes.{IsExplained}
-use Rattle.jop_cli.specs.Run.{Acts, Answers, Emits, Obeys, TidiesTold}
-use Rattle.jop_cli.specs.Statuses.{is_early}
+use Rattle.jop_cli.specs.Run.{Acts, Answers, Obeys, TidiesTold}
 use Rattle.command_line.specs.declared.verb.Verb.{Verb}
 use Rattle.command_line.specs.declared.verb.Verb.TheVariants.{Tidy}
 use Rattle.jop_cli.specs.declared.command.tidy.TidyErr.{TidyErr}
 use Rattle.jop_cli.specs.declared.command.tidy.TidyErr.TheVariants.{Fault, TooLarge, Bad, NoMemory}
-use Rattle.jop_cli.specs.declared.status.Status.{Status}
 
 -- ---- why the command ends so
 

@@ -1,6 +1,11 @@
 -- What an upgrade comes to.
 use Rattle.std.proofs.Common.{◌≡◌, refl, sym, subst, inl, inr, ℕ, List, [], true, Some, None, Result, Ok, Err, false}
 use Rattle.std.proofs.lemmas.List.Elements.{All-nil}
+use Rattle.exit_status.specs.Outcomes.{Emits}
+use Rattle.exit_status.specs.Refusals.{own_status, session_status}
+use Rattle.exit_status.specs.Statuses.{is_early}
+use Rattle.exit_status.specs.declared.status.Status.{Status}
+use Rattle.exit_status.specs.declared.status.Status.TheVariants as statuses
 use Rattle.jop_outside.specs.Outside.{SinkNow}
 use Rattle.jop_base.specs.declared.lock_name.LockKind.TheVariants.{Exclusive}
 use Rattle.jop_target.specs.Replies.{TargetNow}
@@ -23,16 +28,13 @@ use Rattle.jop_cli.proofs.Owned.{early_own, owned, unowned}
 use Rattle.jop_cli.proofs.Runs.{explained_emit, keeps_none, uses_behind, uses_none}
 use Rattle.jop_cli.proofs.Sessions.{busy_result, early_session, failed_session}
 use Rattle.jop_cli.specs.Causes.{IsExplained}
-use Rattle.jop_cli.specs.Commands.Sessions.{ClientNow, IsChange, IsUncalled, Redoes, outcome_by, own_status, session_status, side}
+use Rattle.jop_cli.specs.Commands.Sessions.{ClientNow, IsChange, IsUncalled, Redoes, outcome_by, side}
 use Rattle.jop_cli.specs.Commands.Upgrade.{HasRun, UpgradesBy, outcome_of, status_of, version_line}
 use Rattle.jop_cli.specs.Outside.{Outside, did}
-use Rattle.jop_cli.specs.Run.{Acts, Emits, KeepsChanges, UsesTarget}
-use Rattle.jop_cli.specs.Statuses.{is_early}
+use Rattle.jop_cli.specs.Run.{Acts, KeepsChanges, UsesTarget}
 use Rattle.command_line.specs.declared.verb.Verb.TheVariants.{Upgrade}
 use Rattle.jop_cli.specs.declared.command.upgrade.UpgradeErr.{UpgradeErr}
 use Rattle.jop_cli.specs.declared.command.upgrade.UpgradeErr.TheVariants.{Own, Session}
-use Rattle.jop_cli.specs.declared.status.Status.{Status}
-use Rattle.jop_cli.specs.declared.status.Status.TheVariants as statuses
 use Rattle.command_line.specs.declared.target_name.TargetName.{TargetName}
 
 pub early_upgrade : (error : UpgradeErr) → is_early (status_of error) ≡ true

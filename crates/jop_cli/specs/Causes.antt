@@ -1,6 +1,9 @@
 -- Why a run ends so: the cause of each status.
 use Rattle.std.specs.Prelude.{ℕ, ◌+◌, ◌<◌, ◌≡◌, ◌⊎◌, List, [], ◌∷◌, ◌++◌, true, Option, Some, None, Err}
 use Rattle.delta.specs.Page.{fail_safe}
+use Rattle.exit_status.specs.Statuses.{is_refusal}
+use Rattle.exit_status.specs.declared.status.Status.{Status}
+use Rattle.exit_status.specs.declared.status.Status.TheVariants as statuses
 use Rattle.jop_outside.specs.Outside.{HasRisen, SourceNow}
 use Rattle.jop_outside.specs.Reading.{WasTooLarge}
 use Rattle.jop_base.specs.declared.dir.Dir.TheVariants.{Root}
@@ -38,11 +41,8 @@ use Rattle.jop_cli.specs.Commands.Local.{RunsLocally}
 use Rattle.jop_cli.specs.Commands.Sessions.{IsClientOf, IsUncalled, Session}
 use Rattle.jop_cli.specs.Commands.Tidy.{IsFaulty}
 use Rattle.jop_cli.specs.Outside.{Outside, Ran}
-use Rattle.jop_cli.specs.Statuses.{is_refusal}
 use Rattle.command_line.specs.declared.verb.Verb.{Verb}
 use Rattle.command_line.specs.declared.verb.Verb.TheVariants as verbs
-use Rattle.jop_cli.specs.declared.status.Status.{Status}
-use Rattle.jop_cli.specs.declared.status.Status.TheVariants as statuses
 
 -- ---- calls, input, and commands on the tables
 

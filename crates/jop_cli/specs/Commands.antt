@@ -8,6 +8,7 @@ pub mod Tidy
 pub mod Upgrade
 use Rattle.std.specs.Prelude.{ℕ, Bool, true, false}
 use Rattle.std.specs.Prelude.{Option, Some, None, option_map}
+use Rattle.exit_status.specs.Outcomes.{Outcome}
 use Rattle.jop_base.specs.declared.lock_name.LockKind.{LockKind}
 use Rattle.jop_base.specs.declared.lock_name.LockKind.TheVariants as kinds
 use Rattle.local_commands.specs.Following.{saves_bytes}
@@ -20,7 +21,7 @@ use Rattle.command_line.specs.declared.verb.Verb.TheVariants as verbs
 use Rattle.jop_cli.specs.Commands.Check.{Checks}
 use Rattle.jop_cli.specs.Commands.Help.{Helps}
 use Rattle.jop_cli.specs.Commands.Local.{DoesLocally}
-use Rattle.jop_cli.specs.Commands.Sessions.{Outcome, Session}
+use Rattle.jop_cli.specs.Commands.Sessions.{Session}
 use Rattle.jop_cli.specs.Commands.Sync.{Syncs}
 use Rattle.jop_cli.specs.Commands.Tidy.{TIDY_LIMIT, Tidies}
 use Rattle.jop_cli.specs.Commands.Upgrade.{Upgrades}

@@ -1,7 +1,10 @@
 -- What a run of the program comes to.
 use Rattle.std.specs.Prelude.{ℕ, ◌≤◌, ◌≡◌, ◌⊎◌, List, [], ◌++◌, Bool, true, false}
-use Rattle.std.specs.Prelude.{Option, Some, None, Ok, Err, option_map}
-use Rattle.jop_outside.specs.Outside.{HasRisen, SinkNow}
+use Rattle.std.specs.Prelude.{Option, Some, None, Ok, option_map}
+use Rattle.exit_status.specs.Outcomes.{Emits, Outcome}
+use Rattle.exit_status.specs.declared.status.Status.{Status}
+use Rattle.exit_status.specs.declared.status.Status.TheVariants as statuses
+use Rattle.jop_outside.specs.Outside.{HasRisen}
 use Rattle.jop_outside.specs.Writing.{WasCut, WasWritten}
 use Rattle.jop_target.specs.declared.event.Event.{Event}
 use Rattle.jop_target.specs.Runs.{TellsRun, has_failed}
@@ -20,25 +23,13 @@ use Rattle.local_store.specs.declared.change.Change.{Change}
 use Rattle.local_store.specs.declared.tables.Tables.{Tables}
 use Rattle.jop_cli.specs.Causes.{HasNoCause, IsExplained}
 use Rattle.jop_cli.specs.Commands.{ComesTo, Uses, used}
-use Rattle.jop_cli.specs.Commands.Sessions.{IsClientOf, IsUncalled, KeepsLease, Outcome, Session}
+use Rattle.jop_cli.specs.Commands.Sessions.{IsClientOf, IsUncalled, KeepsLease, Session}
 use Rattle.jop_cli.specs.Commands.Tidy.{StandsFor, IsAnswerTo}
 use Rattle.jop_cli.specs.Outside.{Outside, Ran}
-use Rattle.jop_cli.specs.Statuses.{is_early, row_of}
 use Rattle.command_line.specs.declared.verb.Verb.{Verb}
 use Rattle.command_line.specs.declared.verb.Verb.TheVariants as verbs
-use Rattle.jop_cli.specs.declared.status.Status.{Status}
-use Rattle.jop_cli.specs.declared.status.Status.TheVariants as statuses
 
 -- ---- what is done
-
--- The text of an outcome is printed whole; or the output has failed, and a prefix of it is printed.
--- Of a refusal nothing is printed.
-abbrev pub Emits : Outcome → SinkNow → Status → SinkNow → Type 0
-Emits (Ok text) before status after =
-    ((status ≡ statuses.Ok) × WasWritten before text after)
-    ⊎ ((status ≡ statuses.SinkFault) × WasCut before text after)
-Emits (Err error) before status after =
-    (status ≡ error) × (is_early error ≡ true) × (after ≡ before)
 
 -- a command came to something, and that was printed
 pub record Obeys (verb : Verb) (before : Outside) (ran : Ran) (status : Status) (after : Outside)
@@ -163,14 +154,6 @@ Prints verb before ran statuses.Ok after =
 Prints verb before ran statuses.SinkFault after =
     (text : List ℕ) × ComesToText verb before ran text after × WasCut before.out text after.out
 Prints verb before ran status after = after.out ≡ before.out
-
--- this text stands in a sink, or a prefix of it if the sink has failed
-abbrev pub WritesLine : SinkNow → List ℕ → SinkNow → Type 0
-WritesLine before line after = WasWritten before line after ⊎ WasCut before line after
-
--- the line of the status stands on standard error, or a prefix of it if that has failed
-abbrev pub Reports : SinkNow → Status → SinkNow → Type 0
-Reports before status after = WritesLine before (row_of status).line after
 
 -- ---- licences
 

@@ -1,7 +1,6 @@
 //! What each command does.
 
 pub(crate) mod check;
-pub(crate) mod help;
 pub(crate) mod local;
 pub(crate) mod sync;
 pub(crate) mod tidy;

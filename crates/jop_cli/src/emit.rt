@@ -1,27 +1,15 @@
-ghost use Rattle.std.specs.Prelude.{◌++◌, Ok};
+ghost use Rattle.std.specs.Prelude.{Ok};
+ghost use Rattle.exit_status.specs.Outcomes.{Emits};
 ghost use Rattle.jop_outside.specs.Writing.{WritesAll};
 ghost use Rattle.local_commands.specs.Lines.{printed_text};
 ghost use Rattle.jop_cli.specs.Commands.Sync.{bad_text, counts_text, report_text};
 ghost use Rattle.jop_cli.specs.Commands.Upgrade.{version_line};
-ghost use Rattle.jop_cli.specs.Pieces.{pieces_text};
-ghost use Rattle.jop_cli.specs.Run.{Emits};
 
-use crate::piece::{Piece, write_pieces};
-use crate::status::Status;
 use conflicts::SyncReport;
+use exit_status::{Piece, Status, emit, write_pieces};
 use jop_base::Id;
-use jop_outside::{Failed, Sink, write_whole};
+use jop_outside::{Failed, Sink};
 use local_commands::Printed;
-
-/// Prints the text that a command came to.
-pub(crate) fn emit<O: Sink>(out: &mut O, pieces: &[Piece]) -> Status
-    ensures { Emits (Ok (pieces_text pieces.now)) (O.state out.old) result (O.state out.new) }
-{
-    match write_pieces(out, pieces) {
-        Ok(()) => Status::Ok,
-        Err(_) => Status::SinkFault,
-    }
-}
 
 /// Prints the version that a target has now.
 pub(crate) fn emit_version<O: Sink>(out: &mut O, version: u64) -> Status
@@ -103,30 +91,4 @@ pub(crate) fn emit_printed<O: Sink>(out: &mut O, printed: &Printed) -> Status
         Printed::Id(id) => emit(out, &[Piece::Id(*id), Piece::Word("\n")]),
         Printed::Text(text) => emit(out, &[Piece::Bytes(text.as_slice())]),
     }
-}
-
-/// Prints the text that a command came to, given as three parts in a row.
-pub(crate) fn emit_three<O: Sink>(out: &mut O, first: &[u8], second: &[u8], third: &[u8]) -> Status
-    ensures { Emits (Ok (first.now ++ (second.now ++ third.now)))
-        (O.state out.old) result (O.state out.new) }
-{
-    match write_three(out, first, second, third) {
-        Ok(()) => Status::Ok,
-        Err(_) => Status::SinkFault,
-    }
-}
-
-/// Writes three parts in a row. After `Failed` a prefix of them was written.
-fn write_three<O: Sink>(
-    out: &mut O,
-    first: &[u8],
-    second: &[u8],
-    third: &[u8],
-) -> Result<(), Failed>
-    ensures { WritesAll (O.state out.old) (first.now ++ (second.now ++ third.now))
-        result (O.state out.new) }
-{
-    write_whole(out, first)?;
-    write_whole(out, second)?;
-    write_whole(out, third)
 }

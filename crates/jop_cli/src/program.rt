@@ -1,17 +1,14 @@
 ghost use Rattle.std.specs.Prelude.{◌≡◌, [], Some};
 ghost use Rattle.command_line.specs.Commands.{meant};
 ghost use Rattle.command_line.specs.Verbs.{IsFit};
+ghost use Rattle.exit_status.specs.Reports.{Reports};
 ghost use Rattle.jop_cli.specs.Outside.{did, seen};
-ghost use Rattle.jop_cli.specs.Run.{Acts, Does, Reports};
+ghost use Rattle.jop_cli.specs.Run.{Acts, Does};
 
-use crate::command::help::USAGE_LINE;
 use crate::command::tidy::tidy;
 use crate::command::{check, local, sync, upgrade};
-use crate::emit::emit;
-use crate::piece::Piece;
-use crate::report::report;
-use crate::status::Status;
 use command_line::{Verb, Words, WordsErr, read_words};
+use exit_status::{Piece, Status, USAGE_LINE, emit, report};
 use jop_outside::{Clock, Entropy, Sink, Source};
 use jop_target::{Diary, Target};
 use kept_tables::notes_are_kept_by_tables;

@@ -1,5 +1,8 @@
 -- What a run on a keeper and a target of its own comes to.
 use Rattle.std.specs.Prelude.{ℕ, ◌≡◌, List, Bool, true, false, Option, Some, None}
+use Rattle.exit_status.specs.Reports.{Reports}
+use Rattle.exit_status.specs.Statuses.{row_of}
+use Rattle.exit_status.specs.declared.status.Status.{Status}
 use Rattle.jop_outside.specs.Clocks.{ClockNow}
 use Rattle.jop_outside.specs.Outside.{SinkNow, SourceNow}
 use Rattle.jop_outside.specs.Random.{EntropyNow}
@@ -7,10 +10,8 @@ use Rattle.jop_target.specs.Replies.{TargetNow}
 use Rattle.table_keeper.specs.Keepers.{KeeperNow}
 use Rattle.command_line.specs.Commands.{target_words}
 use Rattle.jop_cli.specs.Outside.{Ran, seen}
-use Rattle.jop_cli.specs.Run.{Does, Reports}
-use Rattle.jop_cli.specs.Statuses.{row_of}
+use Rattle.jop_cli.specs.Run.{Does}
 use Rattle.command_line.specs.declared.verb.Verb.{Verb}
-use Rattle.jop_cli.specs.declared.status.Status.{Status}
 use Rattle.command_line.specs.declared.target_name.TargetKind.{TargetKind}
 use Rattle.command_line.specs.declared.target_name.TargetKind.TheVariants.{Mem, Dir}
 use Rattle.command_line.specs.declared.target_name.TargetName.{TargetName}

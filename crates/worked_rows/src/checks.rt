@@ -1,8 +1,8 @@
 use crate::alone::Alone;
 use crate::client::source_of;
 use crate::locks::{ONE, TWO, lock_name};
+use exit_status::Status;
 use jop_base::{Bytes, LockKind, Path};
-use jop_cli::Status;
 use jop_target::Event;
 use lease::Seen;
 use std::alloc::{AllocError, Global};

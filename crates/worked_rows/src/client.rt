@@ -1,6 +1,7 @@
 use command_line::Words;
+use exit_status::Status;
 use jop_base::{Bytes, Seq, Text};
-use jop_cli::{Status, run};
+use jop_cli::run;
 use jop_outside::{MemClock, MemEntropy, MemSink, MemSource};
 use jop_target::{Diary, MemTarget};
 use local_store::Changes;

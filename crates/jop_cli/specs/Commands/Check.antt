@@ -1,9 +1,10 @@
 -- `check`: a session that takes a sync lock and releases it.
 use Rattle.std.specs.Prelude.{ℕ, ◌≡◌, List, [], ◌∷◌, ◌++◌, codes, Result}
+use Rattle.exit_status.specs.Outcomes.{Outcome}
 use Rattle.jop_target.specs.declared.event.Event.{Event}
 use Rattle.sync_run.specs.Checks.{AddsCheck}
 use Rattle.sync_run.specs.declared.session_err.SessionErr.{SessionErr}
-use Rattle.jop_cli.specs.Commands.Sessions.{Outcome, outcome_by}
+use Rattle.jop_cli.specs.Commands.Sessions.{outcome_by}
 
 abbrev pub free_line : List ℕ
 free_line = codes "free" ++ 10 ∷ []

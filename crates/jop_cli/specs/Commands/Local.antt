@@ -1,30 +1,13 @@
 -- What the commands on this machine's own tables come to.
 use Rattle.std.specs.Prelude.{ℕ, ◌≡◌, List, [], Result, Ok, Err}
+use Rattle.exit_status.specs.Outcomes.{Outcome}
+use Rattle.exit_status.specs.Refusals.{local_status}
 use Rattle.local_commands.specs.Keeping.{notes}
 use Rattle.local_commands.specs.Plans.{plan_of}
 use Rattle.local_commands.specs.Running.{Around, Runs, around}
 use Rattle.local_commands.specs.declared.local_command.LocalCommand.{LocalCommand}
 use Rattle.local_commands.specs.declared.local_err.LocalErr.{LocalErr}
-use Rattle.local_commands.specs.declared.local_err.LocalErr.TheVariants as errors
-use Rattle.jop_cli.specs.declared.status.Status.{Status}
-use Rattle.jop_cli.specs.declared.status.Status.TheVariants as statuses
-use Rattle.jop_cli.specs.Commands.Sessions.{Outcome}
 use Rattle.jop_cli.specs.Outside.{Outside, Ran, did}
-
--- why it ended otherwise than well, as a status
-abbrev pub local_status : LocalErr → Status
-local_status errors.KeeperFault = statuses.KeeperFault
-local_status errors.SourceFault = statuses.SourceFault
-local_status errors.ClockFault = statuses.ClockFault
-local_status errors.EntropyFault = statuses.EntropyFault
-local_status (errors.NotFound id) = statuses.NotFound id
-local_status (errors.Sealed id) = statuses.Sealed id
-local_status (errors.TimeEnd id) = statuses.TimeEnd id
-local_status (errors.NotEmpty id) = statuses.NotEmpty id
-local_status (errors.NoConflict number) = statuses.NoConflict number
-local_status (errors.TooLarge len) = statuses.TooLarge len
-local_status errors.NotText = statuses.NotText
-local_status errors.NoMemory = statuses.NoMemory
 
 abbrev pub local_outcome : Result (List ℕ) LocalErr → Outcome
 local_outcome (Ok text) = Ok text

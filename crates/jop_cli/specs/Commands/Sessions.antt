@@ -1,6 +1,10 @@
 -- Commands that run a session on a target.
 use Rattle.std.specs.Prelude.{ℕ, ◌≡◌, List, All, Option, Some, None, Result, Ok, Err}
 use Rattle.exclusion.specs.Exclusive.{KeepsExclusive}
+use Rattle.exit_status.specs.Outcomes.{Outcome}
+use Rattle.exit_status.specs.Refusals.{session_status}
+use Rattle.exit_status.specs.declared.status.Status.{Status}
+use Rattle.exit_status.specs.declared.status.Status.TheVariants as statuses
 use Rattle.jop_base.specs.declared.lock_name.LockKind.{LockKind}
 use Rattle.jop_base.specs.declared.lock_name.LockKind.TheVariants.{Exclusive}
 use Rattle.jop_target.specs.Replies.{TargetNow}
@@ -12,30 +16,12 @@ use Rattle.lease.specs.Exclusion.{KeepsApart}
 use Rattle.lease.specs.declared.lock.Lock.{Lock}
 use Rattle.table_keeper.specs.Keepers.{KeeperNow}
 use Rattle.site.specs.Owning.{NamesClient, OwnNow, own}
-use Rattle.site.specs.declared.own_err.OwnErr.{OwnErr}
-use Rattle.site.specs.declared.own_err.OwnErr.TheVariants as own_errors
 use Rattle.sync_run.specs.declared.session_err.SessionErr.{SessionErr}
-use Rattle.sync_run.specs.declared.session_err.SessionErr.TheVariants as session_errors
 use Rattle.target_upgrade.specs.Course.{ObeysLease}
 use Rattle.target_upgrade.specs.Runs.{LeavesUpgraded}
-use Rattle.jop_cli.specs.declared.status.Status.{Status}
-use Rattle.jop_cli.specs.declared.status.Status.TheVariants as statuses
 use Rattle.jop_cli.specs.Outside.{Outside, Ran}
 
 -- ---- what a command comes to
-
--- the text that is printed, or the status for which nothing is
-abbrev pub Outcome : Type 0
-Outcome = Result (List ℕ) Status
-
--- why a session ended, as a status
-abbrev pub session_status : SessionErr → Status
-session_status (session_errors.Busy lock now) = statuses.Busy lock now
-session_status (session_errors.LeaseLost seen) = statuses.LeaseLost seen
-session_status (session_errors.TargetNewer version) = statuses.TargetNewer version
-session_status session_errors.BadInfo = statuses.BadInfo
-session_status session_errors.TargetFault = statuses.TargetFault
-session_status session_errors.NoMemory = statuses.NoMemory
 
 -- the text of what a session answered, or why it ended
 abbrev pub outcome_by : {T : Type 0} → (T → List ℕ) → Result T SessionErr → Outcome
@@ -57,12 +43,6 @@ side outside ran = record {
   own = own outside.keeper outside.entropy ran.trail ran.made;
   target = outside.target;
 }
-
--- why there is no client's id, as a status
-abbrev pub own_status : OwnErr → Status
-own_status own_errors.KeeperFault = statuses.KeeperFault
-own_status own_errors.EntropyFault = statuses.EntropyFault
-own_status own_errors.NoMemory = statuses.NoMemory
 
 -- ---- a trail without a session
 

@@ -6,6 +6,9 @@ use Rattle.std.specs.List.{flat_map}
 use Rattle.conflicts.specs.declared.report.SyncReport.{SyncReport}
 use Rattle.desk.specs.Desks.{IsTidy}
 use Rattle.exclusion.specs.Exclusive.{KeepsExclusive}
+use Rattle.exit_status.specs.Outcomes.{Outcome}
+use Rattle.exit_status.specs.Refusals.{own_status, sync_status}
+use Rattle.exit_status.specs.declared.status.Status.{Status}
 use Rattle.jop_base.specs.declared.lock_name.LockKind.TheVariants.{Sync as SyncLock}
 use Rattle.jop_target.specs.Replies.{TargetNow}
 use Rattle.jop_target.specs.Runs.{Continues}
@@ -29,9 +32,7 @@ use Rattle.target_upgrade.specs.Course.{ObeysLease}
 use Rattle.jop_cli.specs.declared.command.sync.Known.{Known}
 use Rattle.jop_cli.specs.declared.command.sync.SyncRefusal.{SyncRefusal}
 use Rattle.jop_cli.specs.declared.command.sync.SyncRefusal.TheVariants as refusals
-use Rattle.jop_cli.specs.declared.status.Status.{Status}
-use Rattle.jop_cli.specs.declared.status.Status.TheVariants as statuses
-use Rattle.jop_cli.specs.Commands.Sessions.{ClientNow, Outcome, line_at, own_status, side}
+use Rattle.jop_cli.specs.Commands.Sessions.{ClientNow, line_at, side}
 use Rattle.jop_cli.specs.Outside.{Outside, Ran, did}
 
 -- ---- the room
@@ -105,19 +106,6 @@ abbrev pub report_text : SyncReport → List ℕ
 report_text r = bad_text r.bad ++ counts_text r
 
 -- ---- the command
-
--- why a session ended, as a status
-abbrev pub sync_status : SyncErr → Status
-sync_status (sync_errors.Busy lock now) = statuses.Busy lock now
-sync_status (sync_errors.LeaseLost seen) = statuses.LeaseLost seen
-sync_status (sync_errors.TargetOlder version) = statuses.TargetOlder version
-sync_status (sync_errors.TargetNewer version) = statuses.TargetNewer version
-sync_status sync_errors.BadInfo = statuses.BadInfo
-sync_status (sync_errors.FailSafe count) = statuses.FailSafe count
-sync_status (sync_errors.NoKey key) = statuses.NoKey key
-sync_status sync_errors.TargetFault = statuses.TargetFault
-sync_status sync_errors.KeeperFault = statuses.KeeperFault
-sync_status sync_errors.NoMemory = statuses.NoMemory
 
 abbrev pub status_of : SyncRefusal → Status
 status_of (refusals.Own error) = own_status error

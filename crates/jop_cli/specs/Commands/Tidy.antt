@@ -1,6 +1,9 @@
 -- `tidy`: the canonical text of the item that the input reads to.
 use Rattle.std.specs.Prelude.{ℕ, ◌+◌, ◌<◌, ◌≤◌, ◌≡◌, ◌⊎◌, List, length}
 use Rattle.std.specs.Prelude.{Some, Result, Ok, Err}
+use Rattle.exit_status.specs.Outcomes.{Outcome}
+use Rattle.exit_status.specs.declared.status.Status.{Status}
+use Rattle.exit_status.specs.declared.status.Status.TheVariants as statuses
 use Rattle.item_text.specs.Canonical.{IsCanonical}
 use Rattle.item_text.specs.Grammar.{first_fault}
 use Rattle.item_text.specs.declared.bad_item.BadItem.{BadItem}
@@ -12,9 +15,6 @@ use Rattle.jop_outside.specs.declared.reading.ReadErr.{ReadErr}
 use Rattle.jop_outside.specs.declared.reading.ReadErr.TheVariants as read_errors
 use Rattle.jop_cli.specs.declared.command.tidy.TidyErr.{TidyErr}
 use Rattle.jop_cli.specs.declared.command.tidy.TidyErr.TheVariants as tidy_errors
-use Rattle.jop_cli.specs.Commands.Sessions.{Outcome}
-use Rattle.jop_cli.specs.declared.status.Status.{Status}
-use Rattle.jop_cli.specs.declared.status.Status.TheVariants as statuses
 
 -- the most bytes of an input that is tidied: 16 MiB
 abbrev pub TIDY_LIMIT : ℕ

@@ -3,6 +3,9 @@
 use Rattle.std.specs.Prelude.{ℕ, ◌≡◌, List, [], ◌∷◌, ◌++◌, codes, Result, Ok, Err}
 use Rattle.std.specs.Fmt.{decimal}
 use Rattle.exclusion.specs.Exclusive.{KeepsExclusive}
+use Rattle.exit_status.specs.Outcomes.{Outcome}
+use Rattle.exit_status.specs.Refusals.{own_status, session_status}
+use Rattle.exit_status.specs.declared.status.Status.{Status}
 use Rattle.jop_target.specs.Runs.{Continues}
 use Rattle.jop_base.specs.declared.lock_name.LockKind.TheVariants.{Exclusive}
 use Rattle.lease.specs.Blocked.{NamesALiveLock}
@@ -18,8 +21,7 @@ use Rattle.target_upgrade.specs.Course.{ObeysLease}
 use Rattle.target_upgrade.specs.Runs.{LeavesUpgraded}
 use Rattle.jop_cli.specs.declared.command.upgrade.UpgradeErr.{UpgradeErr}
 use Rattle.jop_cli.specs.declared.command.upgrade.UpgradeErr.TheVariants as upgrade_errors
-use Rattle.jop_cli.specs.declared.status.Status.{Status}
-use Rattle.jop_cli.specs.Commands.Sessions.{ClientNow, Outcome, line_at, own_status, session_status, side}
+use Rattle.jop_cli.specs.Commands.Sessions.{ClientNow, line_at, side}
 use Rattle.jop_cli.specs.Outside.{Outside, Ran, did}
 
 -- ---- the room

@@ -8,9 +8,7 @@ ghost use Rattle.jop_cli.specs.Run.{Acts};
 ghost use Rattle.command_line.specs.declared.verb.Verb.TheVariants as verbs;
 ghost use Rattle.command_line.specs.declared.target_name.TargetName.{TargetName};
 
-use crate::emit::emit;
-use crate::piece::Piece;
-use crate::status::Status;
+use exit_status::{Piece, Status, emit};
 use jop_base::ClientId;
 use jop_outside::Sink;
 use jop_target::{Diary, Target};

@@ -6,7 +6,7 @@ ghost use Rattle.command_line.specs.declared.verb.Verb.TheVariants as verbs;
 ghost use Rattle.local_commands.specs.Plans.{IsWellFormed};
 
 use crate::emit::emit_printed;
-use crate::status::Status;
+use exit_status::Status;
 use jop_outside::{Clock, Entropy, Sink, Source};
 use jop_target::Diary;
 use local_commands::{LocalCommand, obey as obey_locally};

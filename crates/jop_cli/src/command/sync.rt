@@ -11,8 +11,8 @@ ghost use Rattle.command_line.specs.declared.verb.Verb.TheVariants as verbs;
 ghost use Rattle.command_line.specs.declared.target_name.TargetName.{TargetName};
 
 use crate::emit::emit_report;
-use crate::status::Status;
 use conflicts::SyncReport;
+use exit_status::Status;
 use jop_base::ClientId;
 use jop_outside::{Entropy, Sink};
 use jop_target::{Diary, Target};
@@ -49,6 +49,20 @@ impl From<SyncErr> for SyncRefusal {
 
     fn from(error: SyncErr) -> SyncRefusal {
         SyncRefusal::Session(error)
+    }
+}
+
+impl From<SyncRefusal> for Status {
+    ghost use Rattle.std.specs.Prelude.{◌≡◌};
+    ghost use Rattle.jop_cli.specs.Commands.Sync.{status_of};
+
+    ghost from_gives = { λ r e. e ≡ status_of r };
+
+    fn from(error: SyncRefusal) -> Status {
+        match error {
+            SyncRefusal::Own(error) => Status::from(error),
+            SyncRefusal::Session(error) => Status::from(error),
+        }
     }
 }
 

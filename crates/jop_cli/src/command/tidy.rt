@@ -1,12 +1,10 @@
 ghost use Rattle.std.specs.Prelude.{◌≡◌, ℕ, List, Result};
+ghost use Rattle.exit_status.specs.Outcomes.{Emits, Outcome};
 ghost use Rattle.item_text.specs.declared.bad_item.ItemErr.{ItemErr};
-ghost use Rattle.jop_cli.specs.Commands.Sessions.{Outcome};
 ghost use Rattle.jop_cli.specs.Commands.Tidy.{TIDY_LIMIT, Tidies, TidiesBytes, bytes_outcome};
-ghost use Rattle.jop_cli.specs.Run.{Emits};
 ghost use Rattle.local_commands.specs.Sparing.{IsReadOf};
 
-use crate::emit::emit_three;
-use crate::status::Status;
+use exit_status::{Status, emit_three};
 use item_text::{BadItem, ItemErr, canonical_parts};
 use jop_outside::{ReadErr, Sink, Source, read_to_end};
 use std::alloc::Global;
@@ -51,6 +49,22 @@ impl From<ItemErr> for TidyErr {
         match error {
             ItemErr::Bad(bad) => TidyErr::Bad(bad),
             ItemErr::NoMemory => TidyErr::NoMemory,
+        }
+    }
+}
+
+impl From<TidyErr> for Status {
+    ghost use Rattle.std.specs.Prelude.{◌≡◌};
+    ghost use Rattle.jop_cli.specs.Commands.Tidy.{status_of};
+
+    ghost from_gives = { λ t e. e ≡ status_of t };
+
+    fn from(error: TidyErr) -> Status {
+        match error {
+            TidyErr::Fault => Status::SourceFault,
+            TidyErr::TooLarge => Status::TooLarge(TIDY_LIMIT as u64 + 1),
+            TidyErr::Bad(bad) => Status::BadItem(bad),
+            TidyErr::NoMemory => Status::NoMemory,
         }
     }
 }

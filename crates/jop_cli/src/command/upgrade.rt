@@ -9,7 +9,7 @@ ghost use Rattle.command_line.specs.declared.verb.Verb.TheVariants as verbs;
 ghost use Rattle.command_line.specs.declared.target_name.TargetName.{TargetName};
 
 use crate::emit::emit_version;
-use crate::status::Status;
+use exit_status::Status;
 use jop_outside::{Entropy, Sink};
 use jop_target::{Diary, Target};
 use local_store::Changes;
@@ -45,6 +45,20 @@ impl From<SessionErr> for UpgradeErr {
 
     fn from(error: SessionErr) -> UpgradeErr {
         UpgradeErr::Session(error)
+    }
+}
+
+impl From<UpgradeErr> for Status {
+    ghost use Rattle.std.specs.Prelude.{◌≡◌};
+    ghost use Rattle.jop_cli.specs.Commands.Upgrade.{status_of};
+
+    ghost from_gives = { λ u e. e ≡ status_of u };
+
+    fn from(error: UpgradeErr) -> Status {
+        match error {
+            UpgradeErr::Own(error) => Status::from(error),
+            UpgradeErr::Session(error) => Status::from(error),
+        }
     }
 }
 

@@ -1,4 +1,4 @@
-use Rattle.jop_cli.proofs.report.write_line.Goals as goal
+use Rattle.exit_status.proofs.status_line.write_line.Goals as goal
 
 pub returns-in-FailSafe : goal.returns-in-FailSafe
 returns-in-FailSafe g c = rw (c.in-FailSafe.is) c.write_within-in-FailSafe.ensures

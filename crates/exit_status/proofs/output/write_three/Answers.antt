@@ -1,6 +1,6 @@
 use Rattle.std.proofs.lemmas.Result.{err_from_is_err_and}
-use Rattle.jop_cli.proofs.Three.{cut_first, cut_second, writes_third}
-use Rattle.jop_cli.proofs.emit.write_three.Goals as goal
+use Rattle.exit_status.proofs.Three.{cut_first, cut_second, writes_third}
+use Rattle.exit_status.proofs.output.write_three.Goals as goal
 
 pub returns-in_err-write_whole : goal.returns-in_err-write_whole
 returns-in_err-write_whole g c =

@@ -1,7 +1,7 @@
 use Rattle.std.proofs.Common.{drop}
 use Rattle.jop_outside.proofs.WritingLaws.{IsAt}
-use Rattle.jop_cli.specs.Pieces.{pieces_text}
-use Rattle.jop_cli.proofs.piece.write_pieces.Given as goal
+use Rattle.exit_status.specs.Pieces.{pieces_text}
+use Rattle.exit_status.proofs.piece.write_pieces.Given as goal
 
 abbrev pub invariant-loop-piece : goal.invariant-loop-piece
 invariant-loop-piece g l =

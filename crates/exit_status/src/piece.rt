@@ -1,6 +1,6 @@
 ghost use Rattle.jop_base.specs.LockNames.{file_name};
 ghost use Rattle.jop_outside.specs.Writing.{WritesAll};
-ghost use Rattle.jop_cli.specs.Pieces.{piece_text, pieces_text};
+ghost use Rattle.exit_status.specs.Pieces.{piece_text, pieces_text};
 
 use itoa::Buffer;
 use jop_base::{Id, LockName};
@@ -8,18 +8,21 @@ use jop_outside::{Failed, Sink, write_parts, write_whole};
 
 /// A part of a text. Texts that are written piece by piece take no memory.
 #[derive(Clone, Copy)]
-pub(crate) enum Piece<'a> {
+pub enum Piece<'a> {
+    /// A text as it is.
     Word(&'a str),
+    /// Bytes as they are.
     Bytes(&'a [u8]),
     /// In decimal digits.
     Number(u64),
+    /// In its 32 hexadecimal digits.
     Id(Id),
     /// The name of a lock's file.
     Name(LockName),
 }
 
 /// Writes all pieces in a row. After `Failed` a prefix of their text was written.
-pub(crate) fn write_pieces<S: Sink>(sink: &mut S, pieces: &[Piece]) -> Result<(), Failed>
+pub fn write_pieces<S: Sink>(sink: &mut S, pieces: &[Piece]) -> Result<(), Failed>
     ensures { WritesAll (S.state sink.old) (pieces_text pieces.now) result (S.state sink.new) }
 {
     for piece in pieces {

@@ -4,9 +4,8 @@ use Rattle.std.specs.Fmt.{decimal}
 use Rattle.jop_base.specs.LockNames.{file_name}
 use Rattle.item_text.specs.declared.bad_item.BadWhy.{BadWhy}
 use Rattle.item_text.specs.declared.bad_item.BadWhy.TheVariants.{NotText, NoColon, NoType, TypeValue}
-use Rattle.jop_cli.specs.Commands.Help.{usage_line}
-use Rattle.jop_cli.specs.declared.status.Status.{Status}
-use Rattle.jop_cli.specs.declared.status.Status.TheVariants as statuses
+use Rattle.exit_status.specs.declared.status.Status.{Status}
+use Rattle.exit_status.specs.declared.status.Status.TheVariants as statuses
 
 pub record Row : Type 0 where
   pub exit : ℕ
@@ -18,6 +17,10 @@ row exit line = record { exit = exit; line = line }
 -- a line, with its line feed
 abbrev pub line_of : List ℕ → List ℕ
 line_of text = text ++ 10 ∷ []
+
+-- how the program is called
+abbrev pub usage_line : List ℕ
+usage_line = codes "usage: jop [--profile PATH] COMMAND" ++ 10 ∷ []
 
 -- why a text is no item's, in words
 abbrev pub why_text : BadWhy → List ℕ

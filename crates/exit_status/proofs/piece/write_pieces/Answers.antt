@@ -2,9 +2,9 @@ use Rattle.std.proofs.Common.{subst}
 use Rattle.std.proofs.lemmas.Result.{err_from_is_err_and}
 use Rattle.jop_outside.proofs.WritingLaws.{at_part, at_next, at_cut}
 use Rattle.jop_outside.specs.Writing.{WasCut, WasWritten}
-use Rattle.jop_cli.specs.Pieces.{piece_text}
-use Rattle.jop_cli.specs.declared.piece.Piece.{Piece}
-use Rattle.jop_cli.proofs.piece.write_pieces.Goals as goal
+use Rattle.exit_status.specs.Pieces.{piece_text}
+use Rattle.exit_status.specs.declared.piece.Piece.{Piece}
+use Rattle.exit_status.proofs.piece.write_pieces.Goals as goal
 
 pub returns-in_err-write_piece : goal.returns-in_err-write_piece
 returns-in_err-write_piece g c =

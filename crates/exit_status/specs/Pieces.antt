@@ -3,8 +3,8 @@ use Rattle.std.specs.Prelude.{ℕ, List}
 use Rattle.std.specs.List.{flat_map}
 use Rattle.std.specs.Fmt.{decimal}
 use Rattle.jop_base.specs.LockNames.{file_name}
-use Rattle.jop_cli.specs.declared.piece.Piece.{Piece}
-use Rattle.jop_cli.specs.declared.piece.Piece.TheVariants.{Word, Bytes, Number, Id, Name}
+use Rattle.exit_status.specs.declared.piece.Piece.{Piece}
+use Rattle.exit_status.specs.declared.piece.Piece.TheVariants.{Word, Bytes, Number, Id, Name}
 
 abbrev pub piece_text : Piece → List ℕ
 piece_text (Word text) = text.now

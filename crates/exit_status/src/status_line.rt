@@ -2,18 +2,21 @@ ghost use Rattle.std.specs.Prelude.{◌≡◌, ◌++◌, codes};
 ghost use Rattle.std.specs.Fmt.{decimal};
 ghost use Rattle.jop_base.specs.LockNames.{file_name};
 ghost use Rattle.jop_outside.specs.Writing.{WritesAll};
-ghost use Rattle.jop_cli.specs.Run.{Reports};
-ghost use Rattle.jop_cli.specs.Statuses.{line_of, row_of, why_text};
+ghost use Rattle.exit_status.specs.Reports.{Reports};
+ghost use Rattle.exit_status.specs.Statuses.{line_of, row_of, why_text};
 
-use crate::command::help::USAGE_LINE;
 use crate::piece::{Piece, write_pieces};
 use crate::status::Status;
 use item_text::BadWhy;
 use jop_base::{Id, LockName};
 use jop_outside::{Failed, Sink};
 
-/// Writes the line of the status on standard error, or as much of it as is taken.
-pub(crate) fn report<E: Sink>(err: &mut E, status: &Status)
+/// How the program is called: the line of `Usage`, and what `help` prints.
+pub const USAGE_LINE: &str = "usage: jop [--profile PATH] COMMAND\n";
+
+/// Writes the line of the status on standard error, or as much of it as is taken. A write that fails
+/// isn't told: the run has ended by then, and the status stays what it is.
+pub fn report<E: Sink>(err: &mut E, status: &Status)
     ensures { Reports (E.state err.old) status.now (E.state err.new) }
 {
     let _ = write_line(err, status);

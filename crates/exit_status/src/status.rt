@@ -1,9 +1,6 @@
 ghost use Rattle.std.specs.Prelude.{◌≡◌};
-ghost use Rattle.jop_cli.specs.Statuses.{row_of};
+ghost use Rattle.exit_status.specs.Statuses.{row_of};
 
-use crate::command::sync::SyncRefusal;
-use crate::command::tidy::{TIDY_LIMIT, TidyErr};
-use crate::command::upgrade::UpgradeErr;
 use item_text::BadItem;
 use jop_base::Id;
 use lease::{Lock, Seen};
@@ -101,7 +98,7 @@ impl Status {
 
 impl From<SessionErr> for Status {
     ghost use Rattle.std.specs.Prelude.{◌≡◌};
-    ghost use Rattle.jop_cli.specs.Commands.Sessions.{session_status};
+    ghost use Rattle.exit_status.specs.Refusals.{session_status};
 
     ghost from_gives = { λ s e. e ≡ session_status s };
 
@@ -119,7 +116,7 @@ impl From<SessionErr> for Status {
 
 impl From<SyncErr> for Status {
     ghost use Rattle.std.specs.Prelude.{◌≡◌};
-    ghost use Rattle.jop_cli.specs.Commands.Sync.{sync_status};
+    ghost use Rattle.exit_status.specs.Refusals.{sync_status};
 
     ghost from_gives = { λ s e. e ≡ sync_status s };
 
@@ -141,7 +138,7 @@ impl From<SyncErr> for Status {
 
 impl From<OwnErr> for Status {
     ghost use Rattle.std.specs.Prelude.{◌≡◌};
-    ghost use Rattle.jop_cli.specs.Commands.Sessions.{own_status};
+    ghost use Rattle.exit_status.specs.Refusals.{own_status};
 
     ghost from_gives = { λ o e. e ≡ own_status o };
 
@@ -154,53 +151,9 @@ impl From<OwnErr> for Status {
     }
 }
 
-impl From<UpgradeErr> for Status {
-    ghost use Rattle.std.specs.Prelude.{◌≡◌};
-    ghost use Rattle.jop_cli.specs.Commands.Upgrade.{status_of};
-
-    ghost from_gives = { λ u e. e ≡ status_of u };
-
-    fn from(error: UpgradeErr) -> Status {
-        match error {
-            UpgradeErr::Own(error) => Status::from(error),
-            UpgradeErr::Session(error) => Status::from(error),
-        }
-    }
-}
-
-impl From<SyncRefusal> for Status {
-    ghost use Rattle.std.specs.Prelude.{◌≡◌};
-    ghost use Rattle.jop_cli.specs.Commands.Sync.{status_of};
-
-    ghost from_gives = { λ r e. e ≡ status_of r };
-
-    fn from(error: SyncRefusal) -> Status {
-        match error {
-            SyncRefusal::Own(error) => Status::from(error),
-            SyncRefusal::Session(error) => Status::from(error),
-        }
-    }
-}
-
-impl From<TidyErr> for Status {
-    ghost use Rattle.std.specs.Prelude.{◌≡◌};
-    ghost use Rattle.jop_cli.specs.Commands.Tidy.{status_of};
-
-    ghost from_gives = { λ t e. e ≡ status_of t };
-
-    fn from(error: TidyErr) -> Status {
-        match error {
-            TidyErr::Fault => Status::SourceFault,
-            TidyErr::TooLarge => Status::TooLarge(TIDY_LIMIT as u64 + 1),
-            TidyErr::Bad(bad) => Status::BadItem(bad),
-            TidyErr::NoMemory => Status::NoMemory,
-        }
-    }
-}
-
 impl From<LocalErr> for Status {
     ghost use Rattle.std.specs.Prelude.{◌≡◌};
-    ghost use Rattle.jop_cli.specs.Commands.Local.{local_status};
+    ghost use Rattle.exit_status.specs.Refusals.{local_status};
 
     ghost from_gives = { λ l e. e ≡ local_status l };
 

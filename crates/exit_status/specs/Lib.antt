@@ -1,0 +1,5 @@
+pub mod Statuses
+pub mod Pieces
+pub mod Refusals
+pub mod Outcomes
+pub mod Reports
