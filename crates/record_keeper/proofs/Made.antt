@@ -1,7 +1,7 @@
 -- The writes of a change make it, and are sound.
 use Rattle.std.specs.Prelude.{ℕ, ◌+◌, ◌-◌, ◌^◌, min, ◌≡◌, List, [], ◌∷◌, ◌++◌, All, Bool, true, false, if◌then◌else◌, Option, Some, None, option_and_then, option_map, refl}
 use Rattle.std.proofs.Common.{sym, ◌∙◌, ap, subst}
-use Rattle.std.proofs.lemmas.List.Elements.{All-append, All-cons, All-nil}
+use Rattle.std.proofs.lemmas.List.Elements.{All-cons, All-nil}
 use Rattle.jop_base.specs.Keyed.{put}
 use Rattle.item_text.specs.declared.item.Item.{Item}
 use Rattle.item_text.specs.Valid.{IsItem}
@@ -15,10 +15,10 @@ use Rattle.local_store.specs.declared.tables.Tables.{Tables}
 use Rattle.local_store.specs.Changing.{after, without_row, uploaded, conflicted, opened}
 use Rattle.table_keeper.specs.Keepers.{Kept, changed}
 use Rattle.local_store.specs.Rows.{deletion_id, item_of}
-use Rattle.local_store.specs.Sound.{IsAllowed, IsContentOf, MayBePending, IsRemoteOf, IsSoundRow}
+use Rattle.local_store.specs.Sound.{IsAllowed, IsContentOf, MayBePending, IsRemoteOf}
 use Rattle.local_store.specs.Tables.{row_at, is_synced, is_resource}
 use Rattle.record_keeper.specs.declared.write.Write.{Write}
-use Rattle.record_keeper.specs.declared.write.Write.TheVariants.{SetRow, DropRow, SetDeletion, DropDeletion, AddConflict, DropConflict, SetNext, SetClient, SetContext, SetInfo}
+use Rattle.record_keeper.specs.declared.write.Write.TheVariants.{DropRow, SetDeletion, AddConflict, SetNext}
 use Rattle.record_keeper.specs.Making.{row_needed, needs_number, writes_of, upload_writes, remote_writes, note_writes, conflict_writes, open_writes}
 use Rattle.record_keeper.specs.Stores.{IsSoundRowOf, IsSoundRowFor, IsRowFor, IsNumberFor}
 use Rattle.record_keeper.specs.Writes.{written_all, wrote, IsSoundWrite}

@@ -1,5 +1,5 @@
 -- Sound writes keep tables sound, and what a store in memory answers is sound.
-use Rattle.std.specs.Prelude.{ℕ, ◌≡◌, List, [], ◌∷◌, All, not, nat_eq, Option, Some, None, refl}
+use Rattle.std.specs.Prelude.{ℕ, ◌≡◌, List, [], ◌∷◌, All, not, nat_eq, Some}
 use Rattle.std.proofs.Common.{sym, subst}
 use Rattle.std.proofs.lemmas.List.Elements.{All-append, All-filter, All-cons, All-nil, All-head, All-tail}
 use Rattle.jop_base.proofs.KeyedLaws.{All-at, All-put, All-cut, IsSorted-put, IsSorted-cut, key-at}
@@ -12,7 +12,6 @@ use Rattle.local_store.specs.Sound.{IsSoundRow, IsSoundNote, IsSound}
 use Rattle.local_store.specs.Tables.{row_at}
 use Rattle.record_keeper.specs.declared.write.Write.{Write}
 use Rattle.record_keeper.specs.declared.write.Write.TheVariants.{SetRow, DropRow, SetDeletion, DropDeletion, AddConflict, DropConflict, SetNext, SetClient, SetContext, SetInfo}
-use Rattle.record_keeper.specs.Stores.{IsSoundRowOf}
 use Rattle.record_keeper.specs.Writes.{written, written_all, IsSoundWrite}
 
 written_sound : (t : Tables) (w : Write) → IsSound t → IsSoundWrite w → IsSound (written t w)

@@ -1,5 +1,5 @@
 -- What is asked of every store of records.
-use Rattle.std.specs.Prelude.{ℕ, ◌≡◌, ◌⊎◌, List, [], All, true, false, Option, Some, None, option_and_then, Result, Err, IsSome}
+use Rattle.std.specs.Prelude.{ℕ, ◌≡◌, ◌⊎◌, List, true, false, Option, Some, None, option_and_then, Result, Err, IsSome}
 use Rattle.std.specs.List.{list_all}
 use Rattle.jop_outside.specs.Plan.{Calls, after_call, next_fate}
 use Rattle.local_store.specs.declared.change.Change.{Change}

@@ -1,5 +1,5 @@
 -- What each write does to tables. All that a case doesn't name stays as it is.
-use Rattle.std.specs.Prelude.{ℕ, ◌^◌, ◌≡◌, List, [], ◌∷◌, ◌++◌, All, Bool, true, not, ◌&&◌, nat_eq, nat_lt, Some}
+use Rattle.std.specs.Prelude.{ℕ, ◌^◌, List, [], ◌∷◌, ◌++◌, Bool, true, not, ◌&&◌, nat_eq, nat_lt, Some}
 use Rattle.std.specs.List.{list_any}
 use Rattle.jop_base.specs.Keyed.{put, cut}
 use Rattle.sync_info.specs.Info.{IsInfo}

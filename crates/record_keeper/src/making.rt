@@ -103,8 +103,8 @@ fn add_synced(
     ensures { OnOk result
         (writes.new ≡ writes.old ++ Write.SetRow (synced_row id.now content.now bytes.now) ∷ []) }
 {
-    let content = content.copy(alloc)?;
     let base = Some(bytes.copy(alloc)?);
+    let content = content.copy(alloc)?;
     writes.push(Write::SetRow(Row {
         id: *id,
         content,
@@ -206,8 +206,7 @@ fn add_moved(
     ensures { OnOk result (writes.new
         ≡ writes.old ++ conflict_writes id.now None true row.now number) }
 {
-    let remote = None;
-    add_conflict(writes, alloc, id, &remote, true, row, number)
+    add_conflict(writes, alloc, id, &None, true, row, number)
 }
 
 /// Puts a sealed row as it was opened.

@@ -13,9 +13,10 @@ use crate::write::Write;
 use crate::writing::make_all;
 use jop_base::{Bytes, Copied, Id, Seq};
 use jop_outside::{Faults, Plan};
-use local_store::{Row, Tables};
+use local_store::{Row, Tables, let_go};
 use std::alloc::{AllocError, Global};
 use std::marker::Model;
+use std::mem;
 use table_keeper::{Blob, KeeperErr};
 
 /// A store of records in memory, which tells what it keeps, with calls that are to fail.
@@ -103,7 +104,6 @@ impl MemRecords {
     }
 
     /// The tables with the writes.
-    #[tactic(auto, using(crate::proofs::Sound::written_tables_sound))]
     fn written(&self, alloc: Global, writes: &Seq<Write>) -> Result<Tables, KeeperErr>
         requires { All IsSoundWrite writes.now }
         ensures ok { IfOk result (λ tables. tables ≡ written_all self.now.kept.tables writes.now) }
@@ -113,8 +113,21 @@ impl MemRecords {
             → all_fit self.now.kept.tables writes.now ≡ false }
     {
         let mut tables = self.tables.copy(alloc)?;
-        make_all(alloc, &mut tables, writes.as_slice())?;
-        Ok(tables)
+        match make_all(alloc, &mut tables, writes.as_slice()) {
+            Ok(()) => Ok(tables),
+            Err(refusal) => {
+                let_go(tables);
+                Err(refusal)
+            }
+        }
+    }
+
+    /// These are its tables from now on.
+    fn keep(&mut self, tables: Tables)
+        requires { IsSound tables }
+        ensures { self.new ≡ record self.old { kept = record self.old.kept { tables = tables } } }
+    {
+        let_go(mem::replace(&mut self.tables, tables));
     }
 }
 
@@ -170,12 +183,11 @@ impl RecordStore for MemRecords {
             self.old.plan result self.new.plan }
     {
         self.begin()?;
-        let tables = match self.written(alloc, writes) {
-            Ok(tables) => tables,
+        match self.written(alloc, writes) {
+            Ok(tables) => self.keep(tables),
             Err(KeeperErr::Fault) => return Err(self.fault()),
             Err(KeeperErr::NoMemory) => return Err(KeeperErr::NoMemory),
-        };
-        self.tables = tables;
+        }
         Ok(())
     }
 

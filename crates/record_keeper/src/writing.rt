@@ -59,7 +59,7 @@ fn set_row(tables: &mut Tables, alloc: Global, row: &Row) -> Result<(), AllocErr
 fn drop_row(tables: &mut Tables, id: &Id)
     ensures { tables.new ≡ written tables.old (Write.DropRow id.now) }
 {
-    tables.rows.cut(id);
+    let_go(tables.rows.cut(id));
 }
 
 fn add_conflict(tables: &mut Tables, alloc: Global, note: &ConflictNote) -> Result<(), AllocError>
