@@ -1,6 +1,6 @@
 -- What a check of a new file says.
-use Rattle.std.specs.Prelude.{ℕ, ◌≡◌, List, ◌∷◌, Bool, true, false, bytes_eq, if◌then◌else◌, Option, Some, None, refl}
-use Rattle.std.proofs.Common.{sym, ap, subst, ◌∙◌}
+use Rattle.std.specs.Prelude.{ℕ, ◌≡◌, List, ◌∷◌, Bool, if◌then◌else◌, Option, Some, None, refl}
+use Rattle.std.proofs.Common.{sym, ap, ◌∙◌}
 use Rattle.conflicts.specs.Reports.{with_bad}
 use Rattle.conflicts.specs.declared.report.SyncReport.{SyncReport}
 use Rattle.desk.specs.Desks.{DeskNow}
@@ -15,13 +15,12 @@ use Rattle.licences.specs.Checks.{last_on}
 use Rattle.licences.specs.Trails.{session_calls}
 use Rattle.licences.specs.Views.{Heard, Shown}
 use Rattle.local_store.specs.Tables.{base_of, row_at}
-use Rattle.local_store.specs.declared.row.Row.{Row}
 use Rattle.local_store.specs.declared.tables.Tables.{Tables}
-use Rattle.session_steps.proofs.Ending.{went_report}
+use Rattle.session_steps.proofs.Ending.{does_starves, starves_report}
 use Rattle.session_steps.proofs.Found.{bad_is_unreadable}
-use Rattle.session_steps.proofs.Known.{does_known, went_known}
+use Rattle.session_steps.proofs.Known.{does_known, starves_known}
 use Rattle.session_steps.specs.Asking.{IsAnswered, IsHeardBy}
-use Rattle.session_steps.specs.Doing.{GivesUp, Went}
+use Rattle.session_steps.specs.Doing.{Starves}
 use Rattle.session_steps.specs.Findings.{finding_of, is_unreadable}
 use Rattle.session_steps.specs.Reported.{after_call, is_bad}
 use Rattle.session_steps.specs.Work.{work, work_by}
@@ -74,13 +73,13 @@ found_now id old new finding a same found = record {
 }
 
 -- out of memory the report may lag behind
-pub went_get : (id : List ℕ) (known : Option Shown) (old new : DeskNow) (before after : Lease)
+pub starves_got : (id : List ℕ) (known : Option Shown) (old new : DeskNow) (before after : Lease)
     (r s : SyncReport)
     → IsAnswered (Get (Item id)) old new
     → IsHeardBy is_download (Get (Item id)) old before new after
-    → Went is_download (work_by known old before r) (work_by known new after s)
-went_get id known old new before after r s a heard =
+    → Starves is_download (work_by known old before r) (work_by known new after s)
+starves_got id known old new before after r s a heard =
     let q = after_call (view_of None old) r (Get (Item id)) (Some a.reply) in
-    went_known is_download known known old new before after r s
-    (went_report is_download (work old before r) new after q s
-    (heard a.reply r q a.ends (λ shown. refl)).went)
+    starves_known is_download known known old new before after r s
+    (starves_report is_download (work old before r) new after q s
+    (does_starves (heard a.reply r q a.ends (λ shown. refl))))

@@ -1,6 +1,6 @@
 -- What it comes to that the bytes of a resource are got.
-use Rattle.std.specs.Prelude.{ℕ, ◌≡◌, List, [], ◌∷◌, length, Bool, true, false, Option, Some, None, Result, Ok, Err, refl}
-use Rattle.std.proofs.Common.{sym, ap, subst, ◌∙◌}
+use Rattle.std.specs.Prelude.{ℕ, ◌≡◌, List, [], ◌∷◌, Bool, true, false, Option, Result, Err, refl}
+use Rattle.std.proofs.Common.{sym, ap, subst}
 use Rattle.conflicts.specs.declared.error.StepErr.{StepErr}
 use Rattle.conflicts.specs.declared.report.SyncReport.{SyncReport}
 use Rattle.desk.specs.Desks.{DeskNow, IsTidy}
@@ -15,14 +15,14 @@ use Rattle.licences.specs.Checks.{last_on}
 use Rattle.licences.specs.Trails.{session_calls}
 use Rattle.licences.specs.Views.{Shown, Working}
 use Rattle.session_steps.proofs.Ending.{does_as, does_nothing}
-use Rattle.session_steps.proofs.Known.{does_known, gives_up_known}
+use Rattle.session_steps.proofs.Known.{does_known}
 use Rattle.session_steps.proofs.Paid.{ends_saved}
-use Rattle.session_steps.specs.Asking.{AreBytesOf, Asks, IsAnswered, IsHeardBy}
+use Rattle.session_steps.specs.Asking.{AreBytesOf, IsAnswered, IsHeardBy}
 use Rattle.session_steps.specs.Doing.{Does, DoesTo, Ends, GivesUp}
 use Rattle.session_steps.specs.Kept.{Saves}
 use Rattle.session_steps.specs.Parts.{Hears}
 use Rattle.session_steps.specs.Saving.{Told, told_of}
-use Rattle.session_steps.specs.Work.{IsReady, WorkNow, view_of, work_by}
+use Rattle.session_steps.specs.Work.{IsReady, WorkNow, work_by}
 
 -- it is no call on an item's file
 pub same_last : (id other : List ℕ) (old new : DeskNow) → IsAnswered (GetBlob id) old new

@@ -1,5 +1,5 @@
 -- At the end of a session it doesn't matter any more what it was shown.
-use Rattle.std.specs.Prelude.{Bool, List, Option, Some, None}
+use Rattle.std.specs.Prelude.{Bool, List, Option}
 use Rattle.conflicts.specs.declared.error.StepErr.{StepErr}
 use Rattle.conflicts.specs.declared.error.StepErr.TheVariants.{Lost, TargetFault, KeeperFault, FailSafe, NoMemory}
 use Rattle.conflicts.specs.declared.report.SyncReport.{SyncReport}
@@ -71,4 +71,5 @@ gives_up_forgot sort a known d l r KeeperFault h = record {
   rose = h.rose;
 }
 gives_up_forgot sort a known d l r (FailSafe count) h = absurd h
-gives_up_forgot sort a known d l r NoMemory h = went_forgot sort a known d l r h
+gives_up_forgot sort a known d l r NoMemory h =
+    record { went = went_forgot sort a known d l r h.went; heard = h.heard; well = h.well }

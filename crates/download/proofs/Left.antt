@@ -1,8 +1,8 @@
 -- How rows go whose files are gone.
-use Rattle.std.specs.Prelude.{ℕ, ◌≡◌, List, [], map, filter, All, Bool, true, false, ◌&&◌, not, Option, Some, None, refl}
+use Rattle.std.specs.Prelude.{ℕ, ◌≡◌, List, filter, All, Bool, true, false, ◌&&◌, not, Option, Some, None, refl}
 use Rattle.std.proofs.Common.{sym, ap, subst, ◌∙◌, inl}
 use Rattle.std.proofs.lemmas.Bool.{and_parts}
-use Rattle.conflicts.specs.Rules.{folder_gone_changes, move_of}
+use Rattle.conflicts.specs.Rules.{folder_gone_changes}
 use Rattle.desk.specs.Desks.{DeskNow}
 use Rattle.download.specs.Downloading.{Closes, ClosesIf, Goes, GoesIf, is_leaf, is_place}
 use Rattle.download.specs.Reading.{Lacks}
@@ -11,7 +11,6 @@ use Rattle.jop_target.specs.declared.call.Call.{Call}
 use Rattle.licences.specs.Checks.{is_pending}
 use Rattle.licences.specs.Deeds.{Deed}
 use Rattle.licences.specs.Items.{is_folder, is_note_in}
-use Rattle.licences.specs.Pages.{MayGo}
 use Rattle.licences.specs.Views.{Shown, View}
 use Rattle.local_store.specs.Changing.{after_all}
 use Rattle.local_store.specs.Rows.{item_of, row_id}

@@ -1,6 +1,6 @@
 -- How a page is applied.
-use Rattle.std.specs.Prelude.{ℕ, ◌≡◌, ◌<◌, List, [], length, All, Contains, Bool, true, false, Option, Some, None, Result, Ok, Err, refl}
-use Rattle.std.proofs.Common.{sym, ap, subst, ◌∙◌, get_or}
+use Rattle.std.specs.Prelude.{ℕ, ◌≡◌, ◌<◌, List, [], length, All, Contains, Bool, Some, Result, Ok, Err, refl}
+use Rattle.std.proofs.Common.{sym, subst, get_or}
 use Rattle.std.proofs.lemmas.List.Elements.{All-contains_itself, All-from_get_or, All-get_or}
 use Rattle.conflicts.specs.declared.error.StepErr.{StepErr}
 use Rattle.conflicts.specs.declared.error.StepErr.TheVariants.{Lost, TargetFault, KeeperFault, FailSafe, NoMemory}
@@ -9,7 +9,7 @@ use Rattle.delta.specs.declared.page.Page.{Page}
 use Rattle.desk.specs.Desks.{DeskNow}
 use Rattle.download.proofs.Forgotten.{does_forgot, gives_up_forgot}
 use Rattle.download.specs.Downloading.{Applies, Downloads, Leaves, TakesOne, is_download}
-use Rattle.download.specs.Reading.{AsksFor, HasListed, IsEmptied, IsPage, Lacks, Lists, PageIn, PageOf, Refuses, shown_at}
+use Rattle.download.specs.Reading.{AsksFor, HasListed, IsPage, Lacks, Lists, PageIn, PageOf, Refuses, shown_at}
 use Rattle.jop_base.specs.declared.dir.Dir.TheVariants.{Root}
 use Rattle.jop_target.specs.Replies.{IsReplyTo}
 use Rattle.jop_target.specs.declared.call.Call.{Call}
@@ -18,19 +18,17 @@ use Rattle.jop_target.specs.declared.reply.Listing.{Listing}
 use Rattle.jop_target.specs.declared.reply.Reply.{Reply}
 use Rattle.jop_target.specs.declared.reply.Reply.TheVariants.{Listed, Got, GotBlob, Absent, Done, Failed, TooLarge}
 use Rattle.lease.specs.declared.lease.Lease.{Lease}
-use Rattle.licences.specs.Deeds.{Deed}
-use Rattle.licences.specs.Views.{Finished, Shown, Stage}
+use Rattle.licences.specs.Views.{Shown}
 use Rattle.local_store.specs.declared.change.Change.TheVariants.{ContextIs}
 use Rattle.local_store.specs.declared.tables.Tables.{Tables}
-use Rattle.session_steps.proofs.Ending.{does_as, gives_up_behind}
+use Rattle.session_steps.proofs.Ending.{does_as, does_starves, gives_up_behind}
 use Rattle.session_steps.proofs.Joins.{does_then}
 use Rattle.session_steps.proofs.Known.{does_listed}
 use Rattle.session_steps.specs.Asking.{IsAnswered, IsHeardBy}
-use Rattle.session_steps.specs.Doing.{Does, DoesTo, Finishes, GivesUp}
+use Rattle.session_steps.specs.Doing.{Does, Finishes, GivesUp}
 use Rattle.session_steps.specs.Making.{MayMakeBy}
-use Rattle.session_steps.specs.Parts.{Changes, ForEach, Hears, Part, Then}
-use Rattle.session_steps.specs.Saving.{Told}
-use Rattle.session_steps.specs.Work.{WorkNow, view_of, work, work_by}
+use Rattle.session_steps.specs.Parts.{ForEach, Hears, Then}
+use Rattle.session_steps.specs.Work.{WorkNow, work, work_by}
 
 -- ---- the page's own
 
@@ -106,7 +104,7 @@ lists old new before after r result a heard page =
       }
       by (Err (FailSafe count)) listing is h =
           record { listing = listing; listed = h; rows = is }
-      by (Err NoMemory) listing is h = h.went
+      by (Err NoMemory) listing is h = does_starves h
       by (Err (Lost seen)) listing is h = absurd is
       by (Err TargetFault) listing is h = absurd is
       by (Err KeeperFault) listing is h = absurd is

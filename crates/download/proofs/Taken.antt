@@ -1,11 +1,10 @@
 -- How new files are taken.
-use Rattle.std.specs.Prelude.{ℕ, ◌≡◌, List, [], Bool, true, false, if◌then◌else◌, Option, Some, None, Result, Ok, Err, refl}
+use Rattle.std.specs.Prelude.{ℕ, ◌≡◌, List, [], Bool, true, false, if◌then◌else◌, Option, Some, None, Result, refl}
 use Rattle.std.proofs.Common.{sym, ap, subst, ◌∙◌}
 use Rattle.conflicts.specs.Rules.{conflict_change}
 use Rattle.conflicts.specs.declared.error.StepErr.{StepErr}
-use Rattle.delta.specs.declared.page.Page.{Page}
 use Rattle.desk.specs.Desks.{DeskNow}
-use Rattle.download.specs.Downloading.{GetsBytes, Meets, MeetsUnlessKey, Reads, TakesIn, TakesOne, is_download, is_key}
+use Rattle.download.specs.Downloading.{Meets, MeetsUnlessKey, Reads, TakesOne, is_download, is_key}
 use Rattle.download.specs.Reading.{AsksFor, HasChecked, IsFound}
 use Rattle.jop_base.proofs.KeyedLaws.{key-at}
 use Rattle.jop_base.specs.declared.path.Path.TheVariants.{Item}
@@ -13,8 +12,6 @@ use Rattle.jop_target.specs.declared.call.Call.TheVariants.{Get}
 use Rattle.licences.specs.Checks.{IsOther, is_pending, last_on}
 use Rattle.licences.specs.Conflicts.{MayConflict}
 use Rattle.licences.specs.Copies.{copies_for}
-use Rattle.licences.specs.Deeds.{Deed}
-use Rattle.licences.specs.Pages.{MayTake}
 use Rattle.licences.specs.Trails.{session_calls}
 use Rattle.licences.specs.Views.{Shown, Working, stage_after}
 use Rattle.local_store.specs.Rows.{item_of, row_id}
@@ -33,7 +30,7 @@ use Rattle.session_steps.specs.Making.{MayMakeBy}
 use Rattle.session_steps.specs.Parts.{Changes, Hears, Nothing, Then}
 use Rattle.session_steps.specs.Work.{IsReady, WorkNow, view_of}
 use Rattle.session_steps.specs.declared.finding.Finding.{Finding}
-use Rattle.session_steps.specs.declared.finding.Finding.TheVariants.{Same, Other, Missing, Unreadable}
+use Rattle.session_steps.specs.declared.finding.Finding.TheVariants.{Other}
 
 -- ---- licences
 

@@ -1,5 +1,5 @@
 -- What a download has found so far.
-use Rattle.std.specs.Prelude.{ℕ, ◌≡◌, List, Bool, true, false, Contains, Option, Some, None, Result, Ok, Err}
+use Rattle.std.specs.Prelude.{ℕ, ◌≡◌, List, Bool, true, false, Contains, Some, None, Result, Ok, Err}
 use Rattle.conflicts.specs.declared.error.StepErr.{StepErr}
 use Rattle.conflicts.specs.declared.error.StepErr.TheVariants.{Lost, TargetFault, KeeperFault, FailSafe, NoMemory}
 use Rattle.delta.specs.Page.{IsPageOf, fail_safe}
@@ -17,7 +17,6 @@ use Rattle.licences.specs.Checks.{last_on}
 use Rattle.licences.specs.Trails.{session_calls}
 use Rattle.licences.specs.Views.{Heard, Shown, synced_ids}
 use Rattle.local_store.specs.Tables.{base_of, row_at}
-use Rattle.local_store.specs.declared.content.Content.{Content}
 use Rattle.local_store.specs.declared.tables.Tables.{Tables}
 use Rattle.session_steps.specs.Asking.{IsAnswer}
 use Rattle.session_steps.specs.Doing.{Does, Finishes, GivesUp}
@@ -25,7 +24,6 @@ use Rattle.session_steps.specs.Findings.{finding_of}
 use Rattle.session_steps.specs.Parts.{Hears}
 use Rattle.session_steps.specs.Work.{WorkNow, work, work_by}
 use Rattle.session_steps.specs.declared.finding.Finding.{Finding}
-use Rattle.session_steps.specs.declared.finding.Finding.TheVariants.{Other}
 use Rattle.download.specs.Downloading.{Downloads, is_download}
 
 -- ---- the page

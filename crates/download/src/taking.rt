@@ -20,7 +20,7 @@ use desk::Desk;
 use item_kinds::Kind;
 use jop_base::{Bytes, Id};
 use lease::Lease;
-use local_store::{Change, Content, has_kind};
+use local_store::{Change, Content, has_kind, let_go};
 use session_steps::{Finding, make_shown, waiting_row};
 use std::alloc::Global;
 
@@ -77,7 +77,9 @@ fn meet<S: Desk>(
     let waiting = waiting_row(alloc, site.tables(), id)?;
     match waiting {
         Some(row) => {
-            make_shown(alloc, site, report, conflict_change(&row, Some(remote)))?;
+            let change = conflict_change(&row, Some(remote));
+            let_go(row);
+            make_shown(alloc, site, report, change)?;
             Ok(())
         }
         None => {

@@ -8,6 +8,7 @@ pub mod Law
 pub mod LockFiles
 pub mod Moves
 pub mod Named
+pub mod NoFailures
 pub mod Outcomes
 pub mod Renewals
 pub mod Sessions

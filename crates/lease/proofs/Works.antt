@@ -14,7 +14,7 @@ use Rattle.jop_target.proofs.Runs.{has_failed-append}
 use Rattle.lease.specs.declared.error.LeaseErr.{LeaseErr}
 use Rattle.lease.specs.declared.error.LeaseErr.TheVariants.{Busy, Lost, TargetFault, NoMemory}
 use Rattle.lease.specs.declared.lease.Lease.{Lease}
-use Rattle.lease.specs.Added.{AddsCalls, Makes}
+use Rattle.lease.specs.Added.{AddsCalls}
 use Rattle.lease.specs.Calls.{LeaseGoesOn, MayCall, Fails}
 use Rattle.lease.specs.Discipline.{session_of, keeps_lock_order, renews_in_time}
 use Rattle.lease.specs.Idle.{is_working, is_work}
@@ -22,7 +22,7 @@ use Rattle.lease.specs.Locks.{RENEWAL}
 use Rattle.lease.specs.Outcomes.{Renews, RenewsIfDue}
 use Rattle.lease.specs.Phase.{Phase, Held, Role, MakesLocks, Plain, role_of, allows, heard}
 use Rattle.lease.specs.Standing.{StandsIn, IsHeld, IsFresh, IsSameBut}
-use Rattle.lease.specs.Work.{IsReady, NoneFailed, Works}
+use Rattle.lease.specs.Work.{IsReady, MakesRenewal, NoneFailed, RenewsInVain, Works}
 use Rattle.lease.proofs.Added.{not_failed}
 use Rattle.lease.proofs.Calls.{held_stays}
 use Rattle.lease.proofs.Renewals.{now-is}
@@ -140,21 +140,20 @@ none_failed_unheard calls rest old mid new call blob bytes e h unheard = elim un
 
 -- ---- the renewal gave nothing
 
-pub works_none : (before after : Lease) (calls : List Call) (call : Call) (blob bytes : List ℕ)
-    (old new : LineNow)
-    (e : LeaseErr) → LeaseGoesOn before.client old new →
-    Makes {T = Unit {0}} calls old.trail new.trail (Err e) → Renews before after old new (Err e) →
+pub works_none : (before after : Lease) (call : Call) (blob bytes : List ℕ) (old new : LineNow)
+    (e : LeaseErr) → RenewsInVain before old new e → Renews before after old new (Err e) →
     Works before after call blob old new bytes (Err e)
-works_none before after calls call blob bytes old new (Lost seen) goes made h = (goes, h)
-works_none before after calls call blob bytes old new TargetFault goes made h = (h, inl goes)
-works_none before after calls call blob bytes old new NoMemory goes made h =
-    (none_failed calls made.0 _ _ made.1, inl goes)
-works_none before after calls call blob bytes old new (Busy lock now) goes made h = h
+works_none before after call blob bytes old new (Lost seen) vain h = (vain, h)
+works_none before after call blob bytes old new TargetFault vain h = (h, inl vain)
+works_none before after call blob bytes old new NoMemory vain h =
+    (none_failed _ vain.calls.0 _ _ vain.calls.1, inl vain)
+works_none before after call blob bytes old new (Busy lock now) vain h = h
 
-pub is_ready : (before after : Lease) (old mid : LineNow) (done : Unit {0}) →
-    LeaseGoesOn before.client old mid →
-    RenewsIfDue before after old mid (Ok done) → IsReady before after old mid
-is_ready before after old mid done goes h = record { goes = goes; fresh = h.0; spared = h.1 }
+pub is_ready : (before after : Lease) (old mid : LineNow) → LeaseGoesOn before.client old mid →
+    MakesRenewal before old mid (Ok tt) → RenewsIfDue before after old mid (Ok tt) →
+    IsReady before after old mid
+is_ready before after old mid goes made h =
+    record { goes = goes; calls = made; fresh = h.0; spared = h.1 }
 
 -- the lease with its new stamp is the one that there was
 pub fresh_same : (before after : Lease) (trail : List Event) → IsSameBut before after →

@@ -5,8 +5,8 @@ use Rattle.jop_target.specs.declared.event.Event.TheVariants.{Sent, Called}
 use Rattle.lease.specs.Discipline.{Session, session_of, session_after}
 use Rattle.lease.specs.Phase.{Phase, Held, Role, MakesLocks, PutsOwn, DeletesOwn, Plain, role_of}
 
--- a call that may be made under a lease: it has nothing to do with locks or temporary files, or
--- makes the folder of locks
+-- a call that may be made under a lease: it makes a folder, or has nothing to do with locks or
+-- temporary files
 abbrev pub is_working : Role → Bool
 is_working MakesLocks = true
 is_working Plain = true

@@ -1,5 +1,5 @@
 -- Why the calls of a lease answer as they do.
-use Rattle.std.specs.Prelude.{ℕ, ◌+◌, ◌<◌, ◌≡◌, ◌⊎◌, List, [], ◌∷◌, ◌++◌, Some, None, Result, Ok, Err, false}
+use Rattle.std.specs.Prelude.{ℕ, ◌+◌, ◌<◌, ◌≤◌, ◌≡◌, ◌⊎◌, List, [], ◌∷◌, ◌++◌, Some, None, Result, Ok, Err, false}
 use Rattle.jop_base.specs.declared.lock_name.LockKind.{LockKind}
 use Rattle.jop_base.specs.declared.dir.Dir.TheVariants.{Locks}
 use Rattle.jop_base.specs.declared.path.Path.TheVariants.{Lock as LockFile}
@@ -102,11 +102,12 @@ Renews before after old new (Err TargetFault) = Fails before.client old new
 Renews before after old new (Err NoMemory) = IsStarved before.client old.trail new.trail
 Renews before after old new (Err (Busy lock now)) = ⊥
 
--- the same of a lease that may not be due: then nothing is called
+-- the same of a lease that may not be due: then nothing is called, and the lease stays
 abbrev pub RenewsIfDue : Lease → Lease → LineNow → LineNow → Result (Unit {0}) LeaseErr → Type 0
 RenewsIfDue before after old new (Ok done) =
     IsFresh after new.trail × (last_moment old.trail < before.stamp + RENEWAL → new ≡ old)
-RenewsIfDue before after old new (Err e) = Renews before after old new (Err e)
+RenewsIfDue before after old new (Err e) =
+    (before.stamp + RENEWAL ≤ last_moment old.trail) × Renews before after old new (Err e)
 
 -- ---- the answers of `release`
 

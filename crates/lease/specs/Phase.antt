@@ -21,7 +21,7 @@ pub data Role : Type 0 where
   ListsLocks : Role
   PutsOwn : (kind : LockKind) → Role
   DeletesOwn : (kind : LockKind) → Role
-  -- a call that has nothing to do with locks or temporary files
+  -- a call that has nothing to do with locks or temporary files, or makes the folder of these
   Plain : Role
   -- a call on another's lock, or on a temporary file
   Foreign : Role

@@ -20,7 +20,7 @@ use Rattle.licences.specs.Views.{Heard, View}
 use Rattle.opening.specs.Opening.{IsOldVersion, IsTaken, PutsNoItem, ReadsBadInfo, ReadsInfo, ReadsOldFile, ReadsOldOr, ReadsOr, ReadsVersion, Refuses, Tells}
 use Rattle.opening.specs.declared.refusal.OpenErr.{OpenErr}
 use Rattle.opening.specs.declared.refusal.OpenErr.TheVariants.{Older, Newer, BadInfo, Step}
-use Rattle.session_steps.proofs.Ending.{does_as, gives_up_behind}
+use Rattle.session_steps.proofs.Ending.{does_as, does_starves, gives_up_behind}
 use Rattle.session_steps.proofs.Joins.{does_then}
 use Rattle.session_steps.specs.Asking.{IsAnswered, IsHeardBy}
 use Rattle.session_steps.specs.Doing.{Does, GivesUp}
@@ -181,7 +181,7 @@ pub told_refuses : (sort : Call → Bool) (a b : WorkNow) (answer reply : Reply)
 told_refuses sort a b answer reply BadInfo same tells h =
     reads_bad sort a b reply (subst IsBadReply same tells) h
 told_refuses sort a b answer reply (Step e) same tells h =
-    subst (λ (x : StepErr). GivesUp sort a x b) (sym tells) h.went
+    subst (λ (x : StepErr). GivesUp sort a x b) (sym tells) (does_starves h)
 told_refuses sort a b answer reply (Older version) same tells h = absurd tells
 told_refuses sort a b answer reply (Newer version) same tells h = absurd tells
 

@@ -16,7 +16,7 @@ went_up sort a b (Lost seen) h = h.0.went
 went_up sort a b TargetFault h = h.0.went
 went_up sort a b KeeperFault h = h.stops.went
 went_up sort a b (FailSafe count) h = absurd h
-went_up sort a b NoMemory h = h
+went_up sort a b NoMemory h = h.went
 
 pub went_ends : {R : Type 0} (P : Part) (sort : Call → Bool) (a b : WorkNow)
     (result : Result R StepErr) → Ends P sort a result b → Went sort a b

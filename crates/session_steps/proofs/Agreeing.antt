@@ -1,10 +1,10 @@
 -- The target's bytes of resources stay those that are kept.
-use Rattle.std.specs.Prelude.{ℕ, ◌≡◌, ◌⊎◌, List, [], ◌∷◌, ◌++◌, Bool, true, false, bytes_eq, ◌||◌, if◌then◌else◌, All, option_map, Option, Some, None, Ok, refl}
+use Rattle.std.specs.Prelude.{ℕ, ◌≡◌, List, [], ◌∷◌, Bool, true, false, bytes_eq, ◌||◌, if◌then◌else◌, All, option_map, Option, Some, None, Ok, refl}
 use Rattle.std.proofs.Common.{sym, ap, subst, ◌∙◌, inl, inr}
 use Rattle.std.proofs.lemmas.List.Elements.{All-head, All-tail}
 use Rattle.desk.specs.Desks.{DeskNow, IsSameDesk}
 use Rattle.jop_base.proofs.KeyedLaws.{at-cut_other, at-put, at-put_other, at-put_same, bytes_eq-refl, same_text}
-use Rattle.jop_base.specs.Keyed.{at, cut, put}
+use Rattle.jop_base.specs.Keyed.{at}
 use Rattle.jop_outside.specs.Plan.{next_fate}
 use Rattle.jop_base.specs.declared.dir.Dir.TheVariants.{Locks}
 use Rattle.jop_base.specs.declared.path.Path.{Path}
@@ -19,7 +19,7 @@ use Rattle.jop_target.specs.declared.call.Call.TheVariants.{List as ListDir, Get
 use Rattle.jop_target.specs.declared.event.Event.{Event}
 use Rattle.jop_target.specs.declared.event.Event.TheVariants.{Began, Called, Ended, Made, Sent}
 use Rattle.jop_target.specs.declared.reply.Reply.{Reply}
-use Rattle.jop_target.specs.declared.reply.Reply.TheVariants.{Listed, Got, GotBlob, Absent, Done, Failed, TooLarge}
+use Rattle.jop_target.specs.declared.reply.Reply.TheVariants.{GotBlob, Done, Failed}
 use Rattle.jop_target.specs.declared.tree.BlobBytes.{BlobBytes}
 use Rattle.lease.specs.Calls.{IsLeaseCall, IsLeaseEvent}
 use Rattle.licences.specs.Trails.{session_calls}
@@ -29,7 +29,7 @@ use Rattle.table_keeper.specs.declared.blob.Blob.{Blob as Saved}
 use Rattle.local_store.specs.declared.change.Change.{Change}
 use Rattle.session_steps.specs.Agreeing.{AgreeBut, IsKeptFor, is_on_bytes, is_owed, moved, moves}
 use Rattle.session_steps.specs.Kept.{IsSaved}
-use Rattle.session_steps.specs.Saving.{Told, got_by}
+use Rattle.session_steps.specs.Saving.{got_by}
 
 -- ---- calls that leave all bytes of resources
 

@@ -14,6 +14,7 @@ use Rattle.jop_target.specs.declared.event.Event.{Event}
 use Rattle.jop_target.specs.declared.event.Event.TheVariants.{Called}
 use Rattle.jop_target.specs.declared.reply.Reply.{Reply}
 use Rattle.jop_target.specs.declared.reply.Reply.TheVariants.{Failed, GotBlob}
+use Rattle.lease.proofs.NoFailures.{none_failed_from}
 use Rattle.lease.proofs.Sessions.{goes_answered, goes_unheard, session_from-append}
 use Rattle.lease.proofs.Works.{fresh_same, may_work}
 use Rattle.lease.specs.Calls.{LeaseGoesOn, is_held}
@@ -35,8 +36,7 @@ use Rattle.table_keeper.specs.Keepers.{KeeperNow}
 use Rattle.session_steps.proofs.Saves.{blobs_got-append, blobs_got-locks}
 use Rattle.session_steps.proofs.Agreeing.{agrees_asked, blob_stays}
 use Rattle.session_steps.specs.Agreeing.{IsKeptFor}
-use Rattle.session_steps.proofs.LockDeeds.{AreCalls, AreCalls-append, AreCalls-locks, AreLocks, AreWork-calls, but_locks-locks, view_from-locks}
-use Rattle.session_steps.proofs.NoFailed.{none_failed}
+use Rattle.session_steps.proofs.LockDeeds.{AreCalls, AreCalls-append, AreCalls-locks, AreLocks, AreWork-calls, but_locks-locks, none_begins, view_from-locks}
 use Rattle.session_steps.proofs.Seen.{but_locks-append}
 use Rattle.session_steps.specs.Asking as steps
 use Rattle.session_steps.specs.Asking.{AreBytesOf, IsHeardBy, step_of_lease}
@@ -169,7 +169,7 @@ none-failed old new lease n ds calls held trail =
     ≡ session_from client (session_of client old.trail) (events_of n ds) =
     ap (session_of client) trail
     ∙ session_from-append client outside old.trail (events_of n ds) in
-    none_failed client (session_of client old.trail) n ds calls
+    none_failed_from client (session_of client old.trail) (events_of n ds) (none_begins n ds calls)
     (ap (λ (s : Session). is_held s.phase) (sym whole) ∙ ap is_held held.stands.phase)
 
 pub asked_ok : (sort : Call → Bool) (old new : DeskNow) (before after : Lease) (call : Call)
@@ -326,11 +326,11 @@ pub asks_err : (sort : Call → Bool) (old new : DeskNow) (before after : Lease)
     → steps.Asks sort call old before (Err (step_of_lease e)) new after
 asks_err sort old new before after call blob bytes (Lost seen) same but tidy working callable may
     sorted h r =
-    (stops_leased sort old new before after r same but h.0 tidy, (before.stamp, h.1))
+    (stops_leased sort old new before after r same but h.0.goes tidy, (before.stamp, h.1))
 asks_err sort old new before after call blob bytes TargetFault same but tidy working callable may
     sorted h r = (
       elim h.1 [
-        | inl goes ↦ stops_leased sort old new before after r same but goes tidy
+        | inl vain ↦ stops_leased sort old new before after r same but vain.goes tidy
         | inr called ↦
             stops_failed sort old new before after call blob bytes r same but tidy working callable
             may sorted called
@@ -338,13 +338,16 @@ asks_err sort old new before after call blob bytes TargetFault same but tidy wor
       h.0,
     )
 asks_err sort old new before after call blob bytes NoMemory same but tidy working callable may
-    sorted h r =
-    elim h.1 [
-      | inl goes ↦ went_leased sort old new before after r r same but goes
-      | inr called ↦
-          went_unheard sort old new before after call blob bytes r same but working callable may
-          sorted called
-    ]
+    sorted h r = record {
+      went = elim h.1 [
+        | inl vain ↦ went_leased sort old new before after r r same but vain.goes
+        | inr called ↦
+            went_unheard sort old new before after call blob bytes r same but working callable may
+            sorted called
+      ];
+      heard = h.0;
+      well = ap (λ (k : KeeperNow). k.faults) same.keeper;
+    }
 asks_err sort old new before after call blob bytes (Busy lock now) same but tidy working callable
     may sorted h r = absurd h
 

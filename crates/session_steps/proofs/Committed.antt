@@ -1,5 +1,5 @@
 -- What a change comes to that a part of a session makes.
-use Rattle.std.specs.Prelude.{ℕ, ◌≤◌, ◌≡◌, ◌⊎◌, List, [], ◌∷◌, ◌++◌, length, option_map, Bool, true, false, Option, Some, None, Result, Ok, Err, refl}
+use Rattle.std.specs.Prelude.{ℕ, ◌≤◌, ◌≡◌, ◌⊎◌, List, [], ◌∷◌, ◌++◌, length, option_map, Bool, Option, Some, None, refl}
 use Rattle.std.proofs.Common.{sym, ap, subst, ◌∙◌, arith, append-nil, inl, inr}
 use Rattle.std.proofs.lemmas.List.Elements.{All-cons, All-nil}
 use Rattle.conflicts.specs.Reports.{counted}
@@ -14,30 +14,31 @@ use Rattle.jop_target.specs.Trail.{LineNow}
 use Rattle.jop_target.specs.declared.call.Call.{Call}
 use Rattle.jop_target.specs.declared.event.Event.{Event}
 use Rattle.jop_target.specs.declared.event.Event.TheVariants.{Made}
+use Rattle.lease.proofs.NoFailures.{none_failed_nowhere}
 use Rattle.lease.proofs.Sessions.{session_from-last}
-use Rattle.lease.specs.Calls.{GoesOn}
-use Rattle.lease.specs.Discipline.{Session, outside, session_from, session_of}
-use Rattle.lease.specs.Standing.{IsHeld, StandsIn}
+use Rattle.lease.specs.Discipline.{Session, outside, session_of}
+use Rattle.lease.specs.Standing.{IsHeld}
+use Rattle.lease.specs.Work.{NoneFailed}
 use Rattle.lease.specs.declared.lease.Lease.{Lease}
 use Rattle.licences.proofs.Told.{calls_from-append}
-use Rattle.licences.specs.Deeds.{Deed, Makes, changes_in, events_of}
+use Rattle.licences.specs.Deeds.{Makes, changes_in, events_of}
 use Rattle.licences.specs.Licences.{AreWork, Each}
 use Rattle.licences.specs.Trails.{calls_from, session_calls}
 use Rattle.licences.specs.Views.{Shown, Working, stage_after, view_from}
-use Rattle.local_store.specs.Changing.{after, after_all}
-use Rattle.table_keeper.specs.Keepers.{KeeperNow, Kept, IsOfKept, changed}
+use Rattle.local_store.specs.Changing.{after_all}
+use Rattle.table_keeper.specs.Keepers.{Kept, IsOfKept, changed}
 use Rattle.local_store.specs.Sound.{IsAllowed, IsSound}
 use Rattle.local_store.specs.declared.change.Change.{Change}
 use Rattle.local_store.specs.declared.tables.Tables.{Tables}
 use Rattle.session_steps.proofs.Leased.{kept-same, tables-same}
 use Rattle.session_steps.proofs.Agreeing.{agrees_made}
-use Rattle.session_steps.specs.Doing.{IsTold, KeeperFails, DoesTo, Stops, Went}
-use Rattle.session_steps.specs.Parts.{Any, Changes, but_locks}
+use Rattle.session_steps.specs.Doing.{KeeperFails, DoesTo, Starves, Went}
+use Rattle.session_steps.specs.Parts.{Changes, but_locks}
 use Rattle.session_steps.specs.Reported.{reported}
 use Rattle.session_steps.specs.Steps.{IsStep, works_by}
 use Rattle.session_steps.specs.Making.{MayMakeBy}
 use Rattle.session_steps.specs.Saving.{blobs_got, kept_after, saved_all}
-use Rattle.session_steps.specs.Work.{WorkNow, view_of, work_by}
+use Rattle.session_steps.specs.Work.{work_by}
 
 -- ---- the line
 
@@ -217,12 +218,40 @@ fails_unmade sort old new lease r h rose later tidy held =
       rose = rose;
     }
 
-pub went_either : (known : Option Shown) (sort : Call → Bool) (old new : DeskNow) (lease : Lease)
-    (r : SyncReport) (change : Change)
-    → IsUnmade old new ⊎ IsMade change old new → old.keeper.faults ≤ new.keeper.faults
+unfailed_made : (old new : LineNow) (n : ℕ) → new ≡ record old { trail = old.trail ++ Made n ∷ [] }
+    → NoneFailed old.trail new.trail
+unfolding has_failed
+unfailed_made old new n is =
+    record { more = Made n ∷ []; trail = ap (λ (l : LineNow). l.trail) is; heard = refl }
+
+pub unfailed_same : (old new : LineNow) → new ≡ old → NoneFailed old.trail new.trail
+unfailed_same old new is =
+    subst (λ (l : LineNow). NoneFailed old.trail l.trail) (sym is) (none_failed_nowhere old.trail)
+
+-- memory ran out before anything was done
+pub starves_nowhere : {known : Option Shown} (sort : Call → Bool) (old new : DeskNow)
+    (lease : Lease) (r : SyncReport)
+    → IsUnmade old new → new.keeper.faults ≡ old.keeper.faults → IsHeld lease old.line.trail
+    → Starves sort (work_by known old lease r) (work_by known new lease r)
+starves_nowhere sort old new lease r h well held = record {
+  went = went_nowhere sort old new lease r r h (omega (arith, well)) held;
+  heard = unfailed_same old.line new.line h.line;
+  well = well;
+}
+
+-- before the change was made, or behind it
+pub starves_either : (known : Option Shown) (sort : Call → Bool) (old new : DeskNow)
+    (lease : Lease) (r : SyncReport) (change : Change)
+    → IsUnmade old new ⊎ IsMade change old new → new.keeper.faults ≡ old.keeper.faults
     → IsAllowed change → MayMakeBy known old change → IsHeld lease old.line.trail
-    → Went sort (work_by known old lease r) (work_by known new lease r)
-went_either known sort old new lease r change h later allowed may held = elim h [
-  | inl none ↦ went_nowhere sort old new lease r r none later held
-  | inr made ↦ went_made known sort old new lease r r change made later allowed may held
-]
+    → Starves sort (work_by known old lease r) (work_by known new lease r)
+starves_either known sort old new lease r change h well allowed may held =
+    elim h [
+      | inl none ↦ starves_nowhere sort old new lease r none well held
+      | inr made ↦ record {
+        went = went_made known sort old new lease r r change made (omega (arith, well)) allowed may
+            held;
+        heard = unfailed_made old.line new.line (length old.made) made.line;
+        well = well;
+      }
+    ]

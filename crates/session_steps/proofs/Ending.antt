@@ -1,17 +1,18 @@
 -- How a part of a session comes to an end behind another one.
-use Rattle.std.specs.Prelude.{ℕ, ◌≤◌, ◌≡◌, List, [], Bool, Option, Result, Ok, Err, refl}
-use Rattle.std.proofs.Common.{sym, ap, subst, arith, append-nil}
+use Rattle.std.specs.Prelude.{ℕ, ◌≤◌, ◌≡◌, List, [], length, Bool, Option, Result, Ok, Err, refl}
+use Rattle.std.proofs.Common.{sym, subst, arith, append-nil, ◌∙◌}
 use Rattle.conflicts.specs.declared.error.StepErr.{StepErr}
 use Rattle.conflicts.specs.declared.report.SyncReport.{SyncReport}
 use Rattle.desk.specs.Desks.{DeskNow}
 use Rattle.conflicts.specs.declared.error.StepErr.TheVariants.{Lost, TargetFault, KeeperFault, FailSafe, NoMemory}
-use Rattle.jop_outside.specs.Outside.{HasRisen}
 use Rattle.jop_target.proofs.Runs.{continues_same}
 use Rattle.jop_target.specs.Runs.{has_failed}
 use Rattle.jop_target.specs.declared.call.Call.{Call}
 use Rattle.jop_target.specs.Trail.{LineNow}
+use Rattle.lease.proofs.NoFailures.{none_failed_on}
 use Rattle.lease.specs.Calls.{EndsFailed, Fails}
 use Rattle.lease.specs.Standing.{IsSameBut}
+use Rattle.lease.specs.Work.{NoneFailed}
 use Rattle.lease.specs.declared.error.Seen.{Seen}
 use Rattle.lease.specs.declared.lease.Lease.{Lease}
 use Rattle.licences.specs.Deeds.{Deed, changes_in, events_of}
@@ -19,7 +20,7 @@ use Rattle.licences.specs.Licences.{AreWork, Each}
 use Rattle.licences.specs.Views.{Shown, Stage, view_from}
 use Rattle.local_store.specs.Changing.{after_all}
 use Rattle.session_steps.proofs.Joins.{client_is, does_then, told_on, went_on}
-use Rattle.session_steps.specs.Doing.{Does, DoesTo, Ends, EndsAt, GivesUp, HasLapsed, Stops, Went}
+use Rattle.session_steps.specs.Doing.{Does, DoesTo, Ends, EndsAt, GivesUp, HasLapsed, Starves, Stops, Went}
 use Rattle.session_steps.proofs.Leased.{kept-same}
 use Rattle.session_steps.specs.Parts.{Nothing, Part, Then, but_locks}
 use Rattle.session_steps.specs.Reported.{reported}
@@ -47,6 +48,31 @@ fails_on client other a b c same later h = record {
   rose = let r = h.rose in omega arith;
 }
 
+-- no call of a part that was done has failed
+pub does_unfailed : {there : Stage} {left : List Told} {P : Part} {sort : Call → Bool}
+    {a b : WorkNow} → DoesTo there left P sort a b
+    → NoneFailed a.desk.line.trail b.desk.line.trail
+does_unfailed {there} {left} {P} {sort} {a} {b} h = record {
+  more = events_of (length a.desk.made) h.went.deeds;
+  trail = h.went.trail;
+  heard = h.heard;
+}
+
+-- memory may run out behind it
+pub does_starves : {there : Stage} {left : List Told} {P : Part} {sort : Call → Bool}
+    {a b : WorkNow} → DoesTo there left P sort a b → Starves sort a b
+does_starves {there} {left} {P} {sort} {a} {b} h =
+    record { went = h.went; heard = does_unfailed h; well = h.well }
+
+starves_on : (P : Part) (sort : Call → Bool) (a b c : WorkNow) → Does P sort a b
+    → Starves sort b c → Starves sort a c
+starves_on P sort a b c h k = record {
+  went = went_on P sort a b c h k.went;
+  heard = none_failed_on a.desk.line.trail b.desk.line.trail c.desk.line.trail (does_unfailed h)
+      k.heard;
+  well = k.well ∙ h.well;
+}
+
 -- behind a part that was done
 pub gives_up_behind : (P : Part) (sort : Call → Bool) (a b c : WorkNow) (e : StepErr)
     → Does P sort a b → GivesUp sort b e c → GivesUp sort a e c
@@ -63,7 +89,7 @@ gives_up_behind P sort a b c KeeperFault h k = record {
   rose = let r = k.rose in let w = h.well in omega arith;
 }
 gives_up_behind P sort a b c (FailSafe count) h k = absurd k
-gives_up_behind P sort a b c NoMemory h k = went_on P sort a b c h k
+gives_up_behind P sort a b c NoMemory h k = starves_on P sort a b c h k
 
 -- the answer of one part and then another, by that of the second
 pub ends_then : {R : Type 0} (P Q : Part) (sort : Call → Bool) (a b c : WorkNow)
@@ -141,7 +167,7 @@ does_nothing sort a ready = record {
 }
 
 -- what was done is the same, whatever is said of the report
-pub went_report : (sort : Call → Bool) (a : WorkNow) (d : DeskNow) (l : Lease) (r s : SyncReport)
+went_report : (sort : Call → Bool) (a : WorkNow) (d : DeskNow) (l : Lease) (r s : SyncReport)
     → Went sort a (work d l r) → Went sort a (work d l s)
 went_report sort a d l r s h = record {
   deeds = h.deeds;
@@ -158,6 +184,11 @@ went_report sort a d l r s h = record {
   later = h.later;
   same = h.same;
 }
+
+pub starves_report : (sort : Call → Bool) (a : WorkNow) (d : DeskNow) (l : Lease)
+    (r s : SyncReport) → Starves sort a (work d l r) → Starves sort a (work d l s)
+starves_report sort a d l r s h =
+    record { went = went_report sort a d l r s h.went; heard = h.heard; well = h.well }
 
 -- a session that stands there stands here, if that is the same
 pub does_there : {there here : Stage} {left : List Told} {P : Part} {sort : Call → Bool}

@@ -1,5 +1,5 @@
 -- The notes of a folder that may go may be moved, one after the other, and then it still may go.
-use Rattle.std.specs.Prelude.{ℕ, ◌≡◌, ◌⊎◌, List, [], ◌∷◌, map, filter, All, Bool, true, false, bytes_eq, if◌then◌else◌, Option, Some, None, option_and_then, refl}
+use Rattle.std.specs.Prelude.{ℕ, ◌≡◌, List, [], ◌∷◌, map, filter, All, Bool, true, false, bytes_eq, if◌then◌else◌, Option, Some, None, option_and_then, refl}
 use Rattle.std.proofs.Common.{sym, ap, subst, ◌∙◌, inl, inr, arith}
 use Rattle.std.proofs.lemmas.Bool.{and_parts, eqb-true}
 use Rattle.std.proofs.lemmas.List.Elements.{All-cons, All-nil}
@@ -18,7 +18,6 @@ use Rattle.local_store.specs.Changing.{after, after_all, conflicted}
 use Rattle.local_store.specs.Rows.{is_number, item_of, row_id}
 use Rattle.local_store.specs.Sound.{IsAllowed}
 use Rattle.local_store.specs.Tables.{row_at}
-use Rattle.local_store.specs.declared.change.Change.{Change}
 use Rattle.local_store.specs.declared.change.Change.TheVariants.{Moved}
 use Rattle.local_store.specs.declared.content.Content.{Content}
 use Rattle.local_store.specs.declared.content.Content.TheVariants.{Plain, Sealed}

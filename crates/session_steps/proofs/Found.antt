@@ -13,7 +13,7 @@ use Rattle.local_store.specs.declared.content.Content.{Content}
 use Rattle.session_steps.specs.Findings.{absent_of, finding_of, is_base, is_unreadable, other_of}
 use Rattle.session_steps.specs.Reported.{is_bad}
 use Rattle.session_steps.specs.declared.finding.Finding.{Finding}
-use Rattle.session_steps.specs.declared.finding.Finding.TheVariants.{Same, Other, Missing, Unreadable}
+use Rattle.session_steps.specs.declared.finding.Finding.TheVariants.{Same, Other, Missing}
 
 -- ---- the report
 

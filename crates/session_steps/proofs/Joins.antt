@@ -1,5 +1,5 @@
 -- How parts of a session join.
-use Rattle.std.specs.Prelude.{ℕ, ◌+◌, ◌≤◌, ◌≡◌, List, [], ◌∷◌, ◌++◌, length, option_map, Bool, true, false, ◌||◌, Option, Some, None, refl}
+use Rattle.std.specs.Prelude.{ℕ, ◌+◌, ◌≡◌, List, [], ◌++◌, length, option_map, Bool, true, false, ◌||◌, Option, Some, None, refl}
 use Rattle.std.proofs.Common.{sym, ap, subst, ◌∙◌, arith}
 use Rattle.std.proofs.lemmas.List.{append_assoc}
 use Rattle.std.proofs.Math.ListN.{length-append}
@@ -17,8 +17,8 @@ use Rattle.licences.proofs.Joins.{Each-append, view_from-append}
 use Rattle.licences.proofs.Told.{AreWork-append, calls-view_from, calls_from-append, changes_in-append, events_of-append, tables-view_from}
 use Rattle.licences.specs.Deeds.{Deed, changes_in, events_of}
 use Rattle.licences.specs.Licences.{Each, MayDo}
-use Rattle.licences.specs.Trails.{calls_from, session_calls}
-use Rattle.licences.specs.Views.{Heard, Shown, Stage, View, Working, view_from}
+use Rattle.licences.specs.Trails.{session_calls}
+use Rattle.licences.specs.Views.{Shown, Stage, View, Working, view_from}
 use Rattle.local_store.proofs.Telling.{after_all-append}
 use Rattle.local_store.specs.Changing.{after_all}
 use Rattle.table_keeper.specs.Keepers.{Kept}

@@ -1,5 +1,5 @@
 -- Parts of a session of which it is known what it was shown.
-use Rattle.std.specs.Prelude.{◌≡◌, List, [], ◌∷◌, Bool, Option, Some, None, Result, Ok, Err, refl}
+use Rattle.std.specs.Prelude.{◌≡◌, List, [], Bool, Option, Some, None, refl}
 use Rattle.std.proofs.Common.{sym, ap, subst, ◌∙◌}
 use Rattle.conflicts.specs.declared.error.StepErr.{StepErr}
 use Rattle.conflicts.specs.declared.error.StepErr.TheVariants.{Lost, TargetFault, KeeperFault, FailSafe, NoMemory}
@@ -12,13 +12,13 @@ use Rattle.jop_target.specs.declared.reply.Listing.{Listing}
 use Rattle.jop_target.specs.declared.reply.Reply.{Reply}
 use Rattle.jop_target.specs.declared.reply.Reply.TheVariants.{Listed}
 use Rattle.lease.specs.declared.lease.Lease.{Lease}
-use Rattle.licences.specs.Deeds.{Deed, Asks}
+use Rattle.licences.specs.Deeds.{Deed}
 use Rattle.licences.specs.Views.{Shown, Stage, View, shown_after, synced_ids, view_from}
 use Rattle.session_steps.proofs.Seen.{view_from-but_locks}
-use Rattle.session_steps.specs.Doing.{Does, DoesTo, GivesUp, IsTold, KeeperFails, Stops, Went}
+use Rattle.session_steps.specs.Doing.{Does, DoesTo, GivesUp, IsTold, Starves, Stops, Went}
 use Rattle.session_steps.specs.Parts.{Hears, but_locks}
 use Rattle.session_steps.specs.Saving.{Told}
-use Rattle.session_steps.specs.Work.{Fits, WorkNow, view_of, work, work_by}
+use Rattle.session_steps.specs.Work.{Fits, view_of, work, work_by}
 
 -- what was done whatever the session was shown was done if it was shown this
 pub went_known : (sort : Call → Bool) (known then : Option Shown) (old new : DeskNow)
@@ -58,6 +58,16 @@ stops_known sort known then old new before after r s h = record {
   told = told_known known then old new before after r s h.went.deeds h.told;
 }
 
+pub starves_known : (sort : Call → Bool) (known then : Option Shown) (old new : DeskNow)
+    (before after : Lease) (r s : SyncReport)
+    → Starves sort (work old before r) (work new after s)
+    → Starves sort (work_by known old before r) (work_by then new after s)
+starves_known sort known then old new before after r s h = record {
+  went = went_known sort known then old new before after r s h.went;
+  heard = h.heard;
+  well = h.well;
+}
+
 pub gives_up_known : (sort : Call → Bool) (known then : Option Shown) (old new : DeskNow)
     (before after : Lease) (r s : SyncReport) (e : StepErr)
     → GivesUp sort (work old before r) e (work new after s)
@@ -73,7 +83,7 @@ gives_up_known sort known then old new before after r s KeeperFault h = record {
 }
 gives_up_known sort known then old new before after r s (FailSafe count) h = absurd h
 gives_up_known sort known then old new before after r s NoMemory h =
-    went_known sort known then old new before after r s h
+    starves_known sort known then old new before after r s h
 
 -- what it was shown behind a call that it heard
 shown_behind : (v : View) (call : Call) (reply : Reply) (ds : List Deed)

@@ -2,7 +2,6 @@ pub mod Sorted
 pub mod Seen
 pub mod Joins
 pub mod LockDeeds
-pub mod NoFailed
 pub mod Saves
 pub mod Agreeing
 pub mod Leased

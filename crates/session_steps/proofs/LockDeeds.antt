@@ -1,16 +1,17 @@
 -- A lease's own calls as deeds: they are licensed, seen by nobody, and no work.
-use Rattle.std.specs.Prelude.{ℕ, ◌≡◌, List, [], ◌∷◌, ◌++◌, All, Bool, true, false, ◌&&◌, ◌||◌, not, if◌then◌else◌, Option, Some, None, refl}
+use Rattle.std.specs.Prelude.{ℕ, ◌≡◌, List, [], ◌∷◌, ◌++◌, All, Bool, true, false, ◌&&◌, not, if◌then◌else◌, Option, Some, None, refl}
 use Rattle.std.proofs.Common.{sym, ap, subst, ◌∙◌}
 use Rattle.std.proofs.lemmas.Bool.{or_left}
-use Rattle.std.proofs.lemmas.List.Elements.{All-head, All-tail}
+use Rattle.std.proofs.lemmas.List.Elements.{All-cons, All-head, All-nil, All-tail}
 use Rattle.conflicts.specs.declared.report.SyncReport.{SyncReport}
 use Rattle.jop_base.specs.declared.dir.Dir.TheVariants.{Locks}
 use Rattle.jop_base.specs.declared.path.Path.{Path}
 use Rattle.jop_target.specs.declared.call.Call.{Call}
-use Rattle.jop_target.specs.declared.call.Call.TheVariants.{List as ListDir, Get, Put, Delete, MakeDir, GetBlob, PutBlob}
+use Rattle.jop_target.specs.declared.call.Call.TheVariants.{List as ListDir, Put, Delete, MakeDir}
 use Rattle.jop_target.specs.declared.event.Event.{Event}
 use Rattle.jop_target.specs.declared.event.Event.TheVariants.{Began, Sent, Called, Made, Ended}
 use Rattle.jop_target.specs.declared.reply.Reply.{Reply}
+use Rattle.lease.proofs.NoFailures.{NoneBegins, begins}
 use Rattle.lease.specs.Calls.{IsLeaseCall, IsLeaseEvent}
 use Rattle.lease.specs.Discipline.{Session, session_after}
 use Rattle.lease.specs.Idle.{is_idle_event, is_idle_from, is_work}
@@ -39,6 +40,23 @@ AreWork-calls (Makes c ∷ ds) h = absurd h
 AreWork-calls (MakesUntold ∷ ds) h = absurd h
 AreWork-calls (Ends ∷ ds) h = absurd h
 AreWork-calls (Stops ∷ ds) h = absurd h
+
+abbrev IsNoBegin : Event → Type 0
+IsNoBegin e = begins e ≡ false
+
+-- no session begins there
+pub none_begins : (n : ℕ) (ds : List Deed) → AreCalls ds → NoneBegins (events_of n ds)
+unfolding events_of AreCalls
+none_begins n [] h = All-nil IsNoBegin
+none_begins n (Asks call None ∷ ds) h =
+    All-cons IsNoBegin (Sent call) (events_of n ds) refl (none_begins n ds h)
+none_begins n (Asks call (Some reply) ∷ ds) h =
+    All-cons IsNoBegin (Called call reply) (events_of n ds) refl (none_begins n ds h)
+none_begins n (Begins ∷ ds) h = absurd h
+none_begins n (Makes c ∷ ds) h = absurd h
+none_begins n (MakesUntold ∷ ds) h = absurd h
+none_begins n (Ends ∷ ds) h = absurd h
+none_begins n (Stops ∷ ds) h = absurd h
 
 pub changes_in-calls : (ds : List Deed) → AreCalls ds → changes_in ds ≡ []
 unfolding AreCalls changes_in

@@ -8,7 +8,7 @@ use Rattle.conflicts.specs.declared.report.SyncReport.{SyncReport}
 use Rattle.desk.specs.Desks.{DeskNow, IsTidy, IsUnmade}
 use Rattle.jop_target.specs.Trail.{LineNow}
 use Rattle.jop_target.specs.declared.call.Call.{Call}
-use Rattle.jop_target.specs.declared.event.Event.{Event}
+use Rattle.lease.proofs.NoFailures.{none_failed_on}
 use Rattle.lease.specs.Calls.{GoesOn}
 use Rattle.lease.specs.Standing.{IsHeld}
 use Rattle.lease.specs.declared.lease.Lease.{Lease}
@@ -18,17 +18,18 @@ use Rattle.local_store.specs.Changing.{after_all}
 use Rattle.table_keeper.specs.Keepers.{Kept, with_blob}
 use Rattle.table_keeper.specs.declared.blob.Blob.{Blob}
 use Rattle.local_store.specs.declared.change.Change.{Change}
-use Rattle.session_steps.proofs.Committed.{tidy_unmade}
+use Rattle.session_steps.proofs.Committed.{tidy_unmade, unfailed_same}
+use Rattle.session_steps.proofs.Ending.{does_unfailed}
 use Rattle.session_steps.proofs.Agreeing.{agrees_saved}
 use Rattle.jop_target.specs.Replies.{IsBlobOf, contents_in}
 use Rattle.jop_target.specs.declared.call.Call.TheVariants.{GetBlob}
 use Rattle.session_steps.proofs.Joins.{kept_after-append}
-use Rattle.session_steps.specs.Doing.{Does, DoesTo, Ends, IsTold, KeeperFails, Stops, Went}
+use Rattle.session_steps.specs.Doing.{Does, DoesTo, Ends, KeeperFails, Went}
 use Rattle.session_steps.specs.Kept.{IsSaved, IsUnsaved, Saves}
 use Rattle.session_steps.specs.Parts.{Part}
-use Rattle.session_steps.specs.Saving.{Told, blobs_got, kept_after, saved_all, tale_of}
+use Rattle.session_steps.specs.Saving.{Told, kept_after, saved_all, tale_of}
 use Rattle.session_steps.specs.Steps.{IsStep}
-use Rattle.session_steps.specs.Work.{IsReady, WorkNow, work_by}
+use Rattle.session_steps.specs.Work.{WorkNow, work_by}
 
 abbrev blob_of : List ℕ → List ℕ → Blob
 blob_of id bytes = record { id = id; bytes = bytes }
@@ -166,7 +167,12 @@ ends_saved P sort known a mid new lease r id bytes len (Err KeeperFault) d is st
     fails_unpaid P sort known ((id, len) ∷ []) a mid new lease r d h
 ends_saved P sort known a mid new lease r id bytes len (Err NoMemory) d is stored tidy h =
     let e = h.1 in
-    went_unpaid sort known a mid new lease r d.went h.0 (omega (arith, e))
+    record {
+      went = went_unpaid sort known a mid new lease r d.went h.0 (omega (arith, e));
+      heard = none_failed_on a.desk.line.trail mid.line.trail new.line.trail (does_unfailed d)
+          (unfailed_same mid.line new.line h.0.line);
+      well = e ∙ d.well;
+    }
 ends_saved P sort known a mid new lease r id bytes len (Err (Lost seen)) d is stored tidy h = absurd h
 ends_saved P sort known a mid new lease r id bytes len (Err TargetFault) d is stored tidy h = absurd h
 ends_saved P sort known a mid new lease r id bytes len (Err (FailSafe n)) d is stored tidy h = absurd h

@@ -1,6 +1,6 @@
 -- A part for each of a list.
-use Rattle.std.specs.Prelude.{ℕ, ◌+◌, ◌<◌, ◌≤◌, ◌≡◌, List, [], ◌∷◌, ◌++◌, length, take, drop, Bool, Option, refl}
-use Rattle.std.proofs.Common.{sym, ap, subst, ◌∙◌, arith, append-nil, get_or}
+use Rattle.std.specs.Prelude.{ℕ, ◌+◌, ◌<◌, ◌≤◌, ◌≡◌, List, [], ◌∷◌, ◌++◌, length, take, drop, Bool, refl}
+use Rattle.std.proofs.Common.{sym, ap, subst, ◌∙◌, append-nil, get_or}
 use Rattle.std.proofs.lemmas.List.{append_assoc, drop_more, take_all, take_more}
 use Rattle.jop_target.specs.declared.call.Call.{Call}
 use Rattle.licences.proofs.Joins.{view_from-append}

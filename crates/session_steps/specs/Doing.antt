@@ -11,6 +11,7 @@ use Rattle.lease.specs.Discipline.{session_of}
 use Rattle.lease.specs.Outcomes.{HasMissed}
 use Rattle.lease.specs.Phase.{Renewing}
 use Rattle.lease.specs.Standing.{IsSameBut}
+use Rattle.lease.specs.Work.{NoneFailed}
 use Rattle.lease.specs.declared.error.Seen.{Seen}
 use Rattle.lease.specs.declared.lease.Lease.{Lease}
 use Rattle.licences.specs.Deeds.{Deed, changes_in, events_of}
@@ -99,14 +100,21 @@ pub record KeeperFails (sort : Call → Bool) (old new : WorkNow) : Type 0 where
   pub ready : IsReady new.desk new.lease
   pub rose : HasRisen old.desk.keeper.faults new.desk.keeper.faults
 
--- Why it gave nothing, by each error. Out of memory tables and report may lag behind what was done.
+-- Memory ran out: no call was answered `Failed`, and the keeper didn't fail. Tables and report may
+-- lag behind what was done.
+pub record Starves (sort : Call → Bool) (old new : WorkNow) : Type 0 where
+  pub went : Went sort old new
+  pub heard : NoneFailed old.desk.line.trail new.desk.line.trail
+  pub well : new.desk.keeper.faults ≡ old.desk.keeper.faults
+
+-- why it gave nothing, by each error
 abbrev pub GivesUp : (Call → Bool) → WorkNow → StepErr → WorkNow → Type 0
 GivesUp sort old (Lost seen) new = Stops sort old new × HasLapsed old.lease new seen
 GivesUp sort old TargetFault new =
     Stops sort old new × Fails old.lease.client old.desk.line new.desk.line
 GivesUp sort old KeeperFault new = KeeperFails sort old new
 GivesUp sort old (FailSafe count) new = ⊥
-GivesUp sort old NoMemory new = Went sort old new
+GivesUp sort old NoMemory new = Starves sort old new
 
 -- it was this part of a session, behind which the session stands there, or it gave nothing
 abbrev pub EndsAt : {R : Type 0} → Stage → Part → (Call → Bool) → WorkNow → Result R StepErr →

@@ -1,5 +1,5 @@
 -- Parts of a session, and how they are put together: a session is a sentence over a few words.
-use Rattle.std.specs.Prelude.{◌≡◌, List, [], ◌∷◌, ◌++◌, Option, Some, if◌then◌else◌}
+use Rattle.std.specs.Prelude.{◌≡◌, List, [], ◌∷◌, ◌++◌, Some, if◌then◌else◌}
 use Rattle.jop_target.specs.declared.call.Call.{Call}
 use Rattle.jop_target.specs.declared.reply.Reply.{Reply}
 use Rattle.licences.specs.Deeds.{Deed, Asks, Makes}

@@ -2,7 +2,7 @@
 use Rattle.std.specs.Prelude.{ℕ, ◌≡◌, ◌⊎◌, List, [], ◌∷◌, Bool, true, false, ◌&&◌, ◌||◌, not}
 use Rattle.jop_target.specs.declared.call.Call.{Call}
 use Rattle.jop_target.specs.declared.event.Event.{Event}
-use Rattle.jop_target.specs.declared.event.Event.TheVariants.{Began, Sent, Called, Made, Ended}
+use Rattle.jop_target.specs.declared.event.Event.TheVariants.{Sent, Called, Made}
 use Rattle.lease.specs.Calls.{IsLeaseCall}
 use Rattle.lease.specs.Discipline.{Session, session_after}
 use Rattle.lease.specs.Idle.{is_work}

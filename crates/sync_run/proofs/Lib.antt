@@ -1,2 +1,3 @@
 mod Held
+pub mod Starved
 pub mod Whole

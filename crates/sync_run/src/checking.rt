@@ -5,6 +5,7 @@ ghost use Rattle.jop_target.specs.declared.event.Event.{Event};
 ghost use Rattle.lease.specs.Blocked.{NamesALiveLock};
 ghost use Rattle.lease.specs.Calls.{IsLeaseEvent, LeaseGoesOn};
 ghost use Rattle.lease.specs.Exclusion.{KeepsApart};
+ghost use Rattle.lease.specs.Work.{NoneFailed};
 ghost use Rattle.lease.specs.declared.lock.Lock.{Lock};
 ghost use Rattle.target_upgrade.specs.Course.{ObeysLease};
 ghost use Rattle.sync_run.specs.Checks.{AddsCheck, IsCheckReleased};
@@ -84,6 +85,8 @@ fn hold<T: Target>(
 ) -> Result<(), SessionErr>
     requires { HasBegun client.now diary.old.events }
     ensures released { IsCheckReleased client.now diary.new.events result }
+    ensures heard { result ≡ Err SessionErr.NoMemory →
+        NoneFailed diary.old.events diary.new.events }
     ensures goes { LeaseGoesOn client.now
         (record { trail = diary.old.events; target = T.state target.old })
         (record { trail = diary.new.events; target = T.state target.new }) }
@@ -99,6 +102,8 @@ fn take_and_release<L: Line>(
 ) -> Result<(), SessionErr>
     requires { HasBegun client.now (L.state line.old).trail }
     ensures released { IsCheckReleased client.now (L.state line.new).trail result }
+    ensures heard { result ≡ Err SessionErr.NoMemory →
+        NoneFailed (L.state line.old).trail (L.state line.new).trail }
     ensures goes { LeaseGoesOn client.now (L.state line.old) (L.state line.new) }
     ensures keeps { L.keeps line.old line.new }
 {

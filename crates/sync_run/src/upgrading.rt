@@ -4,6 +4,7 @@ ghost use Rattle.jop_target.specs.Runs.{Continues};
 ghost use Rattle.jop_target.specs.declared.event.Event.{Event};
 ghost use Rattle.lease.specs.Blocked.{NamesALiveLock};
 ghost use Rattle.lease.specs.Exclusion.{KeepsApart};
+ghost use Rattle.lease.specs.Work.{NoneFailed};
 ghost use Rattle.lease.specs.declared.lock.Lock.{Lock};
 ghost use Rattle.target_upgrade.specs.Answers.{IsCall, StandsAt, WorkGoesOn};
 ghost use Rattle.target_upgrade.specs.Course.{ObeysLease};
@@ -99,6 +100,8 @@ fn hold<T: Target>(
 ) -> Result<u64, SessionErr>
     requires { HasBegun client.now diary.old.events }
     ensures released { IsUpgradeReleased client.now diary.new.events result }
+    ensures heard { result ≡ Err SessionErr.NoMemory →
+        NoneFailed diary.old.events diary.new.events }
     ensures goes { WorkGoesOn client.now
         (record { trail = diary.old.events; target = T.state target.old })
         (record { trail = diary.new.events; target = T.state target.new }) }
@@ -114,6 +117,8 @@ fn take_and_upgrade<L: Line>(
 ) -> Result<u64, SessionErr>
     requires { HasBegun client.now (L.state line.old).trail }
     ensures released { IsUpgradeReleased client.now (L.state line.new).trail result }
+    ensures heard { result ≡ Err SessionErr.NoMemory →
+        NoneFailed (L.state line.old).trail (L.state line.new).trail }
     ensures goes { WorkGoesOn client.now (L.state line.old) (L.state line.new) }
     ensures keeps { L.keeps line.old line.new }
 {
@@ -169,6 +174,8 @@ fn leave<L: Line>(
 ) -> Result<u64, SessionErr>
     requires { StandsFor lease (L.state line.old).trail outcome }
     ensures released { IsUpgradeReleased lease.client (L.state line.new).trail result }
+    ensures heard { result ≡ Err SessionErr.NoMemory →
+        NoneFailed (L.state line.old).trail (L.state line.new).trail }
     ensures goes { WorkGoesOn lease.client (L.state line.old) (L.state line.new) }
     ensures keeps { L.keeps line.old line.new }
 {

@@ -2,9 +2,7 @@
 use Rattle.std.specs.Prelude.{ℕ, ◌≤◌, ◌≡◌, List, [], ◌∷◌, ◌++◌, Bool, true, false, None, Result, Ok, Err, refl}
 use Rattle.std.proofs.Common.{sym, ◌∙◌, ap, arith, subst, inl, inr}
 use Rattle.conflicts.specs.Reports.{new_report}
-use Rattle.conflicts.specs.declared.report.SyncReport.{SyncReport}
 use Rattle.desk.specs.Desks.{DeskNow, IsSameDesk}
-use Rattle.jop_outside.specs.Outside.{HasRisen}
 use Rattle.jop_base.specs.declared.lock_name.LockKind.{LockKind}
 use Rattle.jop_base.specs.declared.lock_name.LockKind.TheVariants.{Sync}
 use Rattle.jop_base.specs.declared.path.Path.TheVariants.{Lock as LockFile}
@@ -13,13 +11,14 @@ use Rattle.jop_target.specs.declared.call.Call.TheVariants.{Delete}
 use Rattle.jop_target.specs.declared.event.Event.{Event}
 use Rattle.jop_target.specs.declared.event.Event.TheVariants.{Called}
 use Rattle.jop_target.specs.declared.reply.Reply.{Reply}
-use Rattle.jop_target.specs.declared.reply.Reply.TheVariants.{Failed}
 use Rattle.jop_target.proofs.Runs.{continues_same}
 use Rattle.lease.proofs.Sessions.{goes_leased, goes_on}
+use Rattle.lease.proofs.Works.{none_failed}
+use Rattle.lease.specs.Added.{Makes, acquire_calls}
 use Rattle.lease.specs.Calls.{EndsFailed, Fails, LeaseGoesOn}
 use Rattle.lease.specs.Discipline.{ends_released, phase_of, session_of}
 use Rattle.lease.specs.Locks.{own_name}
-use Rattle.lease.specs.Outcomes.{Acquires, HasAcquired, HasMissed, IsBlocked, Releases}
+use Rattle.lease.specs.Outcomes.{Acquires, HasAcquired, HasMissed, IsBlocked}
 use Rattle.lease.specs.Phase.{Asked, Over, Renewing}
 use Rattle.lease.specs.Standing.{IsSameBut, StandsIn}
 use Rattle.lease.specs.declared.error.LeaseErr.{LeaseErr}
@@ -29,7 +28,6 @@ use Rattle.lease.specs.declared.lease.Lease.{Lease}
 use Rattle.lease.specs.declared.lock.Lock.{Lock}
 use Rattle.licences.specs.Licences.{IsInside}
 use Rattle.licences.specs.Views.{View}
-use Rattle.table_keeper.specs.Keepers.{KeeperNow}
 use Rattle.opening.specs.Opening.{IsLawful, MergesBetween}
 use Rattle.session_steps.proofs.Asked.{calls_locks}
 use Rattle.session_steps.proofs.Leased.{step_of}
@@ -42,8 +40,8 @@ use Rattle.target_upgrade.specs.Course.{Course, course_of}
 use Rattle.sync_session.proofs.Telling.{tells_had, tells_left, tells_went}
 use Rattle.sync_session.specs.Errors.{of_lease}
 use Rattle.sync_session.specs.Telling.{TellsWork}
-use Rattle.sync_session.specs.Leaving.{Leaves, LeavesIf, answer_of, holds_lease}
-use Rattle.sync_session.specs.Syncing.{EndsWork, HasBegunSync, HasLeft, IsSyncReleased, SyncGoesOn, begun_view}
+use Rattle.sync_session.specs.Leaving.{Leaves, LeavesIf, holds_lease}
+use Rattle.sync_session.specs.Syncing.{HasBegunSync, HasLeft, IsSyncReleased, SyncGoesOn, begun_view}
 use Rattle.sync_session.specs.Working.{Works, is_sync}
 use Rattle.sync_session.specs.declared.sync_err.SyncErr.{SyncErr}
 use Rattle.sync_session.specs.declared.sync_err.SyncErr.TheVariants.{Busy, LeaseLost, TargetOlder, TargetNewer, BadInfo, FailSafe, NoKey, TargetFault, KeeperFault, NoMemory}
@@ -61,7 +59,7 @@ went_worked a b (Err (FailSafe count)) h = h.listed.went
 went_worked a b (Err (NoKey key)) h = h.opened.went
 went_worked a b (Err TargetFault) h = h.0.went
 went_worked a b (Err KeeperFault) h = h.stops.went
-went_worked a b (Err NoMemory) h = h
+went_worked a b (Err NoMemory) h = h.went
 went_worked a b (Err (Busy lock now)) h = absurd h
 
 -- it is held still, but when it was lost, the target failed, or memory ran out
@@ -163,7 +161,7 @@ lawful_begun client trail h = ap (λ (c : Course). c.lawful) h.begun.course
 
 -- ---- there is no lease
 
-over_released : (client : List ℕ) (trail : List Event) → StandsIn client trail Over
+pub over_released : (client : List ℕ) (trail : List Event) → StandsIn client trail Over
     → ends_released (phase_of client trail) ≡ true
 over_released client trail over = ap ends_released over.phase
 
@@ -174,14 +172,16 @@ blocked_released client trail lock now (inr after) = over_released client trail 
 
 pub released_none : (client : List ℕ) (old new : DeskNow) (e : LeaseErr) → IsSameDesk old new
     → Acquires Sync client old.line new.line (Err e)
+    → Makes {T = Lease} (acquire_calls Sync client) old.line.trail new.line.trail (Err e)
     → IsSyncReleased client old (Err (of_lease e)) new
-released_none client old new (lease_errors.Busy lock now) same h =
+released_none client old new (lease_errors.Busy lock now) same h made =
     ((h, same), blocked_released client new.line.trail lock now h)
-released_none client old new (lease_errors.Lost seen) same h =
+released_none client old new (lease_errors.Lost seen) same h made =
     ((Asked Sync, h), over_released client new.line.trail h.left.over)
-released_none client old new lease_errors.TargetFault same h =
+released_none client old new lease_errors.TargetFault same h made =
     (h, over_released client new.line.trail h.failed.over)
-released_none client old new lease_errors.NoMemory same h = tt
+released_none client old new lease_errors.NoMemory same h made =
+    none_failed (acquire_calls Sync client) made.0 old.line.trail new.line.trail made.1
 
 -- ---- or none any more
 
@@ -191,11 +191,11 @@ pub record HasTaken (client : List ℕ) (lease : Lease) (old held : DeskNow) : T
   pub same : IsSameDesk old held
   pub goes : LeaseGoesOn client old.line held.line
 
-own_client : (client : List ℕ) (lease : Lease) (old held : DeskNow)
+pub own_client : (client : List ℕ) (lease : Lease) (old held : DeskNow)
     → HasTaken client lease old held → lease.client ≡ client
 own_client client lease old held h = ap (λ (l : Lease). l.client) h.had.whole
 
-own_kind : (client : List ℕ) (lease : Lease) (old held : DeskNow)
+pub own_kind : (client : List ℕ) (lease : Lease) (old held : DeskNow)
     → HasTaken client lease old held → lease.kind ≡ Sync
 own_kind client lease old held h = ap (λ (l : Lease). l.kind) h.had.whole
 
@@ -229,7 +229,7 @@ tells_taken client lease old held new begun h k =
 kind_is : (a b : Lease) → IsSameBut a b → b.kind ≡ a.kind
 kind_is a b same = ap (λ (l : Lease). l.kind) same
 
-missed_as : (client : List ℕ) (lease : Lease) (old held : DeskNow) (trail : List Event)
+pub missed_as : (client : List ℕ) (lease : Lease) (old held : DeskNow) (trail : List Event)
     (stamp : ℕ) (seen : Seen) → HasTaken client lease old held
     → HasMissed lease.kind lease.client (Renewing lease.kind stamp) trail seen
     → HasMissed Sync client (Renewing Sync stamp) trail seen
@@ -239,7 +239,7 @@ missed_as client lease old held trail stamp seen taken h =
     (subst (λ (c : List ℕ). HasMissed lease.kind c (Renewing lease.kind stamp) trail seen)
     (own_client client lease old held taken) h)
 
-fails_as : (client other : List ℕ) (a b c : LineNow) → other ≡ client
+pub fails_as : (client other : List ℕ) (a b c : LineNow) → other ≡ client
     → a.target.faults ≤ b.target.faults → Fails other b c → Fails client a c
 fails_as client other a b c same later h = record {
   failed = subst (λ (x : List ℕ). EndsFailed x c.trail) same h.failed;
@@ -291,149 +291,3 @@ over_late client lease old held late new worked taken works over =
     over_released client new.line.trail
     (subst (λ (c : List ℕ). StandsIn c new.line.trail Over)
     (client_is lease late.lease went.same ∙ own_client client lease old held taken) over)
-
--- what a session answers that ended so, whatever else is known
-refused_as : (client : List ℕ) (old : DeskNow) (late : WorkNow) (new : DeskNow) (e f : SyncErr)
-    (worked result : Result (Unit {0}) SyncErr) → worked ≡ Err f → result ≡ Err e
-    → (result ≡ worked) × (new ≡ late.desk) → IsSyncReleased client old (Err f) late.desk
-    → IsSyncReleased client old (Err e) new
-refused_as client old late new e f worked result is ended h k =
-    let as_worked = h.0 in
-    let same : f ≡ e = cc in
-    subst (λ (d : DeskNow). IsSyncReleased client old (Err e) d) (sym h.1)
-    (subst (λ (x : SyncErr). IsSyncReleased client old (Err x) late.desk) same k)
-
--- its work was refused while the lease was held, which was then given up
-given_up : (client : List ℕ) (lease : Lease) (old held : DeskNow) (late : WorkNow) (new : DeskNow)
-    (e f : SyncErr) (released : Result (Unit {0}) LeaseErr) → HasTaken client lease old held
-    → Works (work held lease new_report) (Err f) late
-    → Releases late.lease late.desk.line new.line released → IsSameDesk late.desk new
-    → (result : Result (Unit {0}) SyncErr) → result ≡ Err e
-    → result ≡ answer_of released (Err f)
-    → (HasLeft client (Err f) old new → ends_released (phase_of client new.line.trail) ≡ true
-    → IsSyncReleased client old (Err f) new)
-    → IsSyncReleased client old (Err e) new
-given_up client lease old held late new e f (Ok done) taken works gives same result ended is left =
-    let it : f ≡ e = cc in
-    subst (λ (x : SyncErr). IsSyncReleased client old (Err x) new) it
-    (left
-    (has_left client lease (Err f) old held late new gives.reply taken works same gives.trail)
-    (over_late client lease old held late new (Err f) taken works gives.over))
-given_up client lease old held late new e f (Err lease_errors.TargetFault) taken works gives same
-    result ended is left =
-    let it : f ≡ e = cc in
-    subst (λ (x : SyncErr). IsSyncReleased client old (Err x) new) it
-    (left (has_left client lease (Err f) old held late new Failed taken works same gives.trail)
-    (over_late client lease old held late new (Err f) taken works gives.fails.failed.over))
-given_up client lease old held late new e f (Err lease_errors.NoMemory) taken works gives same
-    result ended is left =
-    let it : NoMemory ≡ e = cc in
-    subst (λ (x : SyncErr). IsSyncReleased client old (Err x) new) it tt
-given_up client lease old held late new e f (Err (lease_errors.Busy lock now)) taken works gives
-    same result ended is left =
-    absurd gives
-given_up client lease old held late new e f (Err (lease_errors.Lost seen)) taken works gives same
-    result ended is left =
-    absurd gives
-
--- only a release that failed is a fault then
-done_then_failed : (client : List ℕ) (lease : Lease) (old held : DeskNow) (late : WorkNow)
-    (new : DeskNow) (e : SyncErr) (released : Result (Unit {0}) LeaseErr)
-    → HasTaken client lease old held → Works (work held lease new_report) (Ok tt) late
-    → Releases late.lease late.desk.line new.line released
-    → (result : Result (Unit {0}) SyncErr) → result ≡ Err e
-    → result ≡ answer_of released (Ok tt)
-    → IsSyncReleased client old (Err e) new
-done_then_failed client lease old held late new e (Ok done) taken works gives result ended is =
-    absurd cc
-done_then_failed client lease old held late new e (Err lease_errors.TargetFault) taken works gives
-    result ended is =
-    let it : TargetFault ≡ e = cc in
-    let went = works.0.went in
-    let fails = fails_as client late.lease.client old.line late.desk.line new.line
-    (client_is lease late.lease went.same ∙ own_client client lease old held taken)
-    (omega (arith, taken.goes.line.later, went.goes.line.later)) gives.fails in
-    subst (λ (x : SyncErr). IsSyncReleased client old (Err x) new) it
-    (fails, over_released client new.line.trail fails.failed.over)
-done_then_failed client lease old held late new e (Err lease_errors.NoMemory) taken works gives
-    result ended is =
-    let it : NoMemory ≡ e = cc in
-    subst (λ (x : SyncErr). IsSyncReleased client old (Err x) new) it tt
-done_then_failed client lease old held late new e (Err (lease_errors.Busy lock now)) taken works
-    gives result ended is =
-    absurd gives
-done_then_failed client lease old held late new e (Err (lease_errors.Lost seen)) taken works gives
-    result ended is =
-    absurd gives
-
-keeper_rose : (client : List ℕ) (lease : Lease) (old held : DeskNow) (late : WorkNow)
-    (new : DeskNow) → HasTaken client lease old held
-    → Works (work held lease new_report) (Err KeeperFault) late → IsSameDesk late.desk new
-    → HasRisen old.keeper.faults new.keeper.faults
-keeper_rose client lease old held late new taken works same =
-    subst (λ (k : KeeperNow). HasRisen old.keeper.faults k.faults) (sym same.keeper)
-    (subst (λ (k : KeeperNow). HasRisen k.faults late.desk.keeper.faults) taken.same.keeper
-    works.rose)
-
--- by what the work came to
-released_by : (client : List ℕ) (lease : Lease) (old held : DeskNow) (late : WorkNow)
-    (new : DeskNow) (e : SyncErr) (worked result : Result (Unit {0}) SyncErr)
-    → result ≡ Err e → HasTaken client lease old held
-    → Works (work held lease new_report) worked late
-    → Leaves late.lease worked late.desk result new
-    → IsSyncReleased client old (Err e) new
-released_by client lease old held late new e (Ok done) result ended taken works leaves =
-    done_then_failed client lease old held late new e leaves.released taken works leaves.gives
-    result ended leaves.is
-released_by client lease old held late new e (Err (Busy lock now)) result ended taken works leaves =
-    absurd works
-released_by client lease old held late new e (Err (LeaseLost seen)) result ended taken works leaves
-    =
-    let missed = missed_as client lease old held late.desk.line.trail works.1.0 seen taken works.1.1
-    in
-    refused_as client old late new e (LeaseLost seen) (Err (LeaseLost seen)) result refl ended leaves
-    ((Renewing Sync works.1.0, missed), over_released client late.desk.line.trail missed.left.over)
-released_by client lease old held late new e (Err TargetFault) result ended taken works leaves =
-    let fails = fails_as client lease.client old.line held.line late.desk.line
-    (own_client client lease old held taken) taken.goes.line.later works.1 in
-    refused_as client old late new e TargetFault (Err TargetFault) result refl ended leaves
-    (fails, over_released client late.desk.line.trail fails.failed.over)
-released_by client lease old held late new e (Err NoMemory) result ended taken works leaves =
-    refused_as client old late new e NoMemory (Err NoMemory) result refl ended leaves tt
-released_by client lease old held late new e (Err KeeperFault) result ended taken works leaves =
-    given_up client lease old held late new e KeeperFault leaves.released taken works leaves.gives
-    leaves.same result ended leaves.is
-    (λ left released.
-    ((left, keeper_rose client lease old held late new taken works leaves.same), released))
-released_by client lease old held late new e (Err (TargetOlder version)) result ended taken works
-    leaves =
-    given_up client lease old held late new e (TargetOlder version) leaves.released taken works
-    leaves.gives leaves.same result ended leaves.is (λ left released. (left, released))
-released_by client lease old held late new e (Err (TargetNewer version)) result ended taken works
-    leaves =
-    given_up client lease old held late new e (TargetNewer version) leaves.released taken works
-    leaves.gives leaves.same result ended leaves.is (λ left released. (left, released))
-released_by client lease old held late new e (Err BadInfo) result ended taken works leaves =
-    given_up client lease old held late new e BadInfo leaves.released taken works
-    leaves.gives leaves.same result ended leaves.is (λ left released. (left, released))
-released_by client lease old held late new e (Err (FailSafe count)) result ended taken works leaves
-    =
-    given_up client lease old held late new e (FailSafe count) leaves.released taken works
-    leaves.gives leaves.same result ended leaves.is (λ left released. (left, released))
-released_by client lease old held late new e (Err (NoKey key)) result ended taken works leaves =
-    given_up client lease old held late new e (NoKey key) leaves.released taken works
-    leaves.gives leaves.same result ended leaves.is (λ left released. (left, released))
-
--- a report that is new
-pub ends_from : (lease : Lease) (old : DeskNow) (report other : SyncReport)
-    (result : Result (Unit {0}) SyncErr) (new : DeskNow) (after : SyncReport) → report ≡ other
-    → EndsWork lease old report result new after → EndsWork lease old other result new after
-ends_from lease old report other result new after same h =
-    subst (λ (r : SyncReport). EndsWork lease old r result new after) same h
-
-pub released_work : (client : List ℕ) (lease : Lease) (old held new : DeskNow) (e : SyncErr)
-    (after : SyncReport) (result : Result (Unit {0}) SyncErr) → result ≡ Err e
-    → HasTaken client lease old held → EndsWork lease held new_report result new after
-    → IsSyncReleased client old (Err e) new
-released_work client lease old held new e after result ended taken h =
-    released_by client lease old held h.late new e h.worked result ended taken h.works h.leaves

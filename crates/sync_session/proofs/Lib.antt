@@ -5,6 +5,7 @@ pub mod Settled
 pub mod Exchanged
 pub mod Worked
 pub mod Left
+pub mod Refused
 pub mod Done
 pub mod Whole
 pub mod Promised

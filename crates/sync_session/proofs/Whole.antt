@@ -1,6 +1,6 @@
 -- A sync from its begin to its end.
 use Rattle.std.specs.Prelude.{ℕ, ◌≡◌, ◌+◌, List, [], ◌∷◌, ◌++◌, length, true, false, Some, None, option_map, Result, Ok, Err, refl}
-use Rattle.std.proofs.Common.{sym, ◌∙◌, ap, subst, append-nil, append_assoc}
+use Rattle.std.proofs.Common.{sym, ◌∙◌, ap, subst, append-nil, append_assoc, inl, inr}
 use Rattle.std.proofs.lemmas.List.{append_cancel_left}
 use Rattle.conflicts.specs.declared.report.SyncReport.{SyncReport}
 use Rattle.desk.specs.Desks.{DeskNow}
@@ -165,6 +165,21 @@ whole_sync client t u old mid result ended released goes tells =
       answers = done.0;
     }
 
+-- whatever it came to
+answered : (client : List ℕ) (a b : DeskNow) (result : Result SyncReport SyncErr)
+    → IsSyncReleased client a result b → SyncAnswers client a result b
+answered client a b (Ok report) h = h.0
+answered client a b (Err (Busy lock now)) h = h.0
+answered client a b (Err (LeaseLost seen)) h = h.0
+answered client a b (Err (TargetOlder version)) h = h.0
+answered client a b (Err (TargetNewer version)) h = h.0
+answered client a b (Err BadInfo) h = h.0
+answered client a b (Err (FailSafe count)) h = h.0
+answered client a b (Err (NoKey key)) h = h.0
+answered client a b (Err TargetFault) h = h.0
+answered client a b (Err KeeperFault) h = h.0
+answered client a b (Err NoMemory) h = h
+
 -- ---- it hasn't
 
 -- which tables are at hand in the end doesn't matter
@@ -185,10 +200,12 @@ told_at t u old v mid h = record {
 }
 
 pub open_sync : (client : List ℕ) (t u : Tables) (old mid : SyncNow)
+    (result : Result SyncReport SyncErr)
+    → IsSyncReleased client (begun_at t old) result (desk_at u mid)
     → SyncGoesOn client (begun_at t old).line mid.line
     → TellsWork (begun_view t) (begun_at t old) (desk_at u mid)
     → IsOpenSync client t old mid
-open_sync client t u old mid goes tells =
+open_sync client t u old mid result released goes tells =
     let P = IsStep is_sync client in
     let start = (begun_at t old).line in
     let adds = adds_begun P client old.line.trail mid.line.trail start mid.line
@@ -203,6 +220,12 @@ open_sync client t u old mid goes tells =
           (keeps_begun client old.line.trail more
           (λ i d lt. inner_step client _ (goes.goes.line.each i d lt))
           (ap (λ (es : List Event). (course_of client es).lawful) (sym at) ∙ goes.work));
+      why = inr (record {
+        answer = result;
+        last = desk_at u mid;
+        stands = refl;
+        answers = answered client (begun_at t old) (desk_at u mid) result released;
+      });
     }
 
 pub none_open : (client : List ℕ) (t : Tables) (old new : SyncNow)
@@ -217,6 +240,7 @@ none_open client t old new trail made kept =
           (append_cancel_left old.line.trail [] adds.more
           (append-nil old.line.trail ∙ (sym trail ∙ adds.trail)))
           (keeps_none client);
+      why = inl trail;
     }
 
 -- ---- with the begin as it was written down
@@ -237,13 +261,16 @@ abbrev pub started : SyncNow → List Event → SyncNow
 started s trail = record s { line = record s.line { trail = trail } }
 
 pub open_after : (client : List ℕ) (t u : Tables) (old mid : SyncNow) (begun trail : List Event)
-    → begun ≡ old.line.trail ++ Began ∷ []
+    (result : Result SyncReport SyncErr) → begun ≡ old.line.trail ++ Began ∷ []
+    → IsSyncReleased client (desk_at t (started old begun)) result (desk_at u mid)
     → SyncGoesOn client (started old begun).line mid.line
     → TellsWork (begun_view t) (desk_at t (started old begun)) (desk_at u mid)
     → trail ≡ mid.line.trail → IsOpenSync client t old (started mid trail)
-open_after client t u old mid begun trail is goes tells same =
+open_after client t u old mid begun trail result is released goes tells same =
     subst (λ (es : List Event). IsOpenSync client t old (started mid es)) (sym same)
-    (open_sync client t u old mid
+    (open_sync client t u old mid result
+    (subst (λ (es : List Event).
+    IsSyncReleased client (desk_at t (started old es)) result (desk_at u mid)) is released)
     (subst (λ (es : List Event). SyncGoesOn client (started old es).line mid.line) is goes)
     (subst (λ (es : List Event).
     TellsWork (begun_view t) (desk_at t (started old es)) (desk_at u mid)) is tells))

@@ -127,7 +127,8 @@ gives_up_within sort wide a b KeeperFault within h = record {
   rose = h.rose;
 }
 gives_up_within sort wide a b (FailSafe count) within h = absurd h
-gives_up_within sort wide a b NoMemory within h = went_within sort wide a b within h
+gives_up_within sort wide a b NoMemory within h =
+    record { went = went_within sort wide a b within h.went; heard = h.heard; well = h.well }
 
 pub ends_within : {R : Type 0} (P : Part) (sort wide : Call → Bool) (a b : WorkNow)
     (result : Result R StepErr) → IsWithin sort wide → Ends P sort a result b

@@ -159,7 +159,7 @@ went_stopped a b (FailSafe count) h = h.listed.went
 went_stopped a b (Lost seen) h = h.0.went
 went_stopped a b TargetFault h = h.0.went
 went_stopped a b KeeperFault h = h.stops.went
-went_stopped a b NoMemory h = h
+went_stopped a b NoMemory h = h.went
 
 -- a client that was told the version may do all that comes behind the opening
 exchange_keeps : (call : Call) → is_exchange call ≡ true → keeps_version true call ≡ true

@@ -1,6 +1,7 @@
 -- How a sync gives its lease up.
 use Rattle.std.specs.Prelude.{◌≡◌, Bool, true, false, Result, Ok, Err}
 use Rattle.desk.specs.Desks.{DeskNow, IsSameDesk}
+use Rattle.lease.specs.Added.{Makes, leave_calls}
 use Rattle.lease.specs.Calls.{LeaseGoesOn}
 use Rattle.lease.specs.Outcomes.{Releases}
 use Rattle.lease.specs.declared.error.LeaseErr.{LeaseErr}
@@ -34,6 +35,7 @@ pub record GivesUpLease (lease : Lease) (worked : Result (Unit {0}) SyncErr) (ol
     (result : Result (Unit {0}) SyncErr) (new : DeskNow) : Type 0 where
   pub released : Result (Unit {0}) LeaseErr
   pub gives : Releases lease old.line new.line released
+  pub calls : Makes (leave_calls lease.kind lease.client) old.line.trail new.line.trail released
   pub goes : LeaseGoesOn lease.client old.line new.line
   pub same : IsSameDesk old new
   pub is : result ≡ answer_of released worked

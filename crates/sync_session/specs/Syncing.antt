@@ -1,5 +1,5 @@
 -- A whole sync, from its begin to its end, and why it answers as it does.
-use Rattle.std.specs.Prelude.{ℕ, ◌≡◌, List, [], ◌∷◌, ◌++◌, Bool, true, false, None, Result, Ok, Err}
+use Rattle.std.specs.Prelude.{ℕ, ◌≡◌, ◌⊎◌, List, [], ◌∷◌, ◌++◌, Bool, true, false, None, Result, Ok, Err}
 use Rattle.conflicts.specs.Reports.{new_report}
 use Rattle.conflicts.specs.declared.report.SyncReport.{SyncReport}
 use Rattle.desk.specs.Desks.{DeskNow, IsSameDesk}
@@ -19,6 +19,7 @@ use Rattle.lease.specs.Locks.{own_name}
 use Rattle.lease.specs.Outcomes.{HasAcquired, HasMissed, IsBlocked}
 use Rattle.lease.specs.Phase.{Phase}
 use Rattle.lease.specs.WholeSession.{AddsBegun, AddsWhole}
+use Rattle.lease.specs.Work.{NoneFailed}
 use Rattle.lease.specs.declared.lease.Lease.{Lease}
 use Rattle.licences.specs.Trails.{session_calls}
 use Rattle.licences.specs.Views.{View, Working, at_rest}
@@ -74,7 +75,7 @@ pub record HasSynced (client : List ℕ) (report : SyncReport) (old new : DeskNo
   pub reports : report ≡ with_locked left.late.desk.tables left.late.report
   pub agrees : AgreeBut [] new
 
--- each answer, by what its calls came to
+-- Each answer, by what its calls came to. Out of memory none of them was answered `Failed`.
 abbrev pub SyncAnswers : List ℕ → DeskNow → Result SyncReport SyncErr → DeskNow → Type 0
 SyncAnswers client old (Ok report) new = HasSynced client report old new
 SyncAnswers client old (Err (Busy lock now)) new =
@@ -84,12 +85,13 @@ SyncAnswers client old (Err (LeaseLost seen)) new =
 SyncAnswers client old (Err TargetFault) new = Fails client old.line new.line
 SyncAnswers client old (Err KeeperFault) new =
     HasLeft client (Err KeeperFault) old new × HasRisen old.keeper.faults new.keeper.faults
-SyncAnswers client old (Err NoMemory) new = Unit {0}
+SyncAnswers client old (Err NoMemory) new = NoneFailed old.line.trail new.line.trail
 SyncAnswers client old (Err e) new = HasLeft client (Err e) old new
 
--- the calls have come to this, and the lock is released as far as can be known; or memory ran out
+-- the calls have come to this, and the lock is released as far as can be known, but for want of
+-- memory
 abbrev pub IsSyncReleased : List ℕ → DeskNow → Result SyncReport SyncErr → DeskNow → Type 0
-IsSyncReleased client old (Err NoMemory) new = Unit {0}
+IsSyncReleased client old (Err NoMemory) new = SyncAnswers client old (Err NoMemory) new
 IsSyncReleased client old result new =
     SyncAnswers client old result new × (ends_released (phase_of client new.line.trail) ≡ true)
 
@@ -159,11 +161,24 @@ pub record IsWholeSync (client : List ℕ) (t : Tables) (old : SyncNow)
   pub ended : new ≡ ended_at last
   pub answers : SyncAnswers client (begun_at t old) result last
 
--- nothing was added, or such a session that hasn't ended
+-- what is seen of the client in the end
+abbrev pub seen_at : DeskNow → SyncNow
+seen_at d = record { line = d.line; keeper = d.keeper; made = d.made }
+
+-- the session came to this answer, but its end isn't written down
+pub record HasNoEnd (client : List ℕ) (t : Tables) (old new : SyncNow) : Type 0 where
+  pub answer : Result SyncReport SyncErr
+  pub last : DeskNow
+  pub stands : new ≡ seen_at last
+  pub answers : SyncAnswers client (begun_at t old) answer last
+
+-- Nothing was added, or such a session that hasn't ended: memory ran out before its end, when no
+-- call had failed, or only for the writing down of its end.
 pub record IsOpenSync (client : List ℕ) (t : Tables) (old new : SyncNow) : Type 0 where
   pub tells : Tells (at_rest t) (desk_at t old) (desk_at t new)
   pub begun : AddsBegun (IsStep is_sync client) client old.line.trail new.line.trail
   pub versions : KeepsVersions client begun.more
+  pub why : (new.line.trail ≡ old.line.trail) ⊎ HasNoEnd client t old new
 
 -- what a sync from these tables adds, by its answer
 abbrev pub AddsFrom : List ℕ → Tables → SyncNow → Result SyncReport SyncErr → SyncNow → Type 0

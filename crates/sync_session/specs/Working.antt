@@ -16,7 +16,7 @@ use Rattle.licences.specs.Views.{synced_ids}
 use Rattle.table_keeper.specs.Keepers.{Kept}
 use Rattle.opening.specs.Opening.{Opens, ReadsBadInfo, ReadsVersion, is_opening}
 use Rattle.session_steps.specs.Agreeing.{AgreeBut}
-use Rattle.session_steps.specs.Doing.{Does, Finishes, GivesUp, HasLapsed, KeeperFails, Stops, Went}
+use Rattle.session_steps.specs.Doing.{Does, Finishes, GivesUp, HasLapsed, KeeperFails, Starves, Stops}
 use Rattle.session_steps.specs.Parts.{Hears, Part, Then}
 use Rattle.session_steps.specs.Work.{WorkNow}
 use Rattle.target_upgrade.specs.Steps.{SUPPORTED}
@@ -102,5 +102,5 @@ Works old (Err (NoKey key)) new = LacksKey old key new
 Works old (Err TargetFault) new =
     Stops is_sync old new × Fails old.lease.client old.desk.line new.desk.line
 Works old (Err KeeperFault) new = KeeperFails is_sync old new
-Works old (Err NoMemory) new = Went is_sync old new
+Works old (Err NoMemory) new = Starves is_sync old new
 Works old (Err (Busy lock now)) new = ⊥

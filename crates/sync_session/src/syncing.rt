@@ -5,6 +5,7 @@ ghost use Rattle.jop_base.specs.declared.lock_name.LockKind.{LockKind};
 ghost use Rattle.jop_target.specs.Runs.{Continues};
 ghost use Rattle.jop_target.specs.declared.event.Event.{Event};
 ghost use Rattle.kept_tables.specs.Trails.{KeepsNotes};
+ghost use Rattle.lease.specs.Added.{Makes, acquire_calls};
 ghost use Rattle.lease.specs.Blocked.{NamesALiveLock};
 ghost use Rattle.lease.specs.Calls.{LeaseGoesOn};
 ghost use Rattle.lease.specs.Exclusion.{KeepsApart};
@@ -198,6 +199,8 @@ fn take<S: Desk>(alloc: Global, site: &mut S, client: &ClientId) -> Result<Lease
     requires { HasBegunSync client.now (S.desk site.old).line.trail }
     ensures gives { Acquires LockKind.Sync client.now (S.desk site.old).line
         (S.desk site.new).line result }
+    ensures calls { let acquiring = acquire_calls LockKind.Sync client.now in
+        Makes acquiring (S.desk site.old).line.trail (S.desk site.new).line.trail result }
     ensures goes { LeaseGoesOn client.now (S.desk site.old).line (S.desk site.new).line }
     ensures same { IsSameDesk (S.desk site.old) (S.desk site.new) }
     ensures stays { S.stays site.old site.new }

@@ -25,7 +25,7 @@ use Rattle.target_upgrade.specs.declared.step.Step.TheVariants.{PutsInfo, ListsR
 use Rattle.jop_target.proofs.Files.{file_at-other_put, file_at-put}
 use Rattle.target_upgrade.proofs.Infos.{at_version-valid}
 use Rattle.target_upgrade.proofs.Files.{HasSameItems, same_with, upgraded_info-same, has_dir-with, info_no_item, old_no_item, old_apart_info, info_apart_old, info_apart, old_apart}
-use Rattle.target_upgrade.proofs.InTune.{as_is, last_info, final_at, final, final_is, final_same, HasSameRest, ComesToSame, IsEarly, IsNew, IsAtStep, IsGetting, IsOnItsWay}
+use Rattle.target_upgrade.proofs.InTune.{as_is, last_info, final_at, final_is, final_same, HasSameRest, ComesToSame, IsEarly, IsNew, IsAtStep, IsGetting, IsOnItsWay}
 
 -- ---- folders
 

@@ -1,7 +1,6 @@
 mod KeyFacts
 mod Infos
 pub mod Courses
-mod NoFailures
 pub mod Made
 mod Standing
 pub mod Files

@@ -1,5 +1,5 @@
 -- What a call under an exclusive lease leaves of the session, and several of them.
-use Rattle.std.proofs.Common.{◌≡◌, ◌∙◌, refl, sym, ap, subst, inl, inr, arith, ℕ, List, true, Some, Err}
+use Rattle.std.proofs.Common.{◌≡◌, ◌∙◌, refl, sym, ap, subst, inl, inr, arith, ℕ, List, true, false, Some, Err}
 use Rattle.jop_base.specs.declared.lock_name.LockKind.{LockKind}
 use Rattle.jop_base.specs.declared.lock_name.LockKind.TheVariants.{Exclusive}
 use Rattle.jop_base.specs.declared.dir.Dir.TheVariants.{Locks}
@@ -21,13 +21,13 @@ use Rattle.lease.specs.declared.error.LeaseErr.{LeaseErr}
 use Rattle.lease.specs.declared.error.LeaseErr.TheVariants.{Busy, Lost, TargetFault, NoMemory}
 use Rattle.lease.specs.declared.error.Seen.{Seen}
 use Rattle.lease.specs.declared.lease.Lease.{Lease}
+use Rattle.lease.proofs.NoFailures.{begins, none_failed_held, none_failed_on}
 use Rattle.lease.proofs.Sessions.{goes_answered, goes_leased, goes_nowhere as line_nowhere, goes_on as line_on, goes_unheard as line_unheard}
 use Rattle.lease.proofs.Works.{may_work as lease_may}
 use Rattle.target_upgrade.specs.Answers.{HasCome, HasLapsed, HasMade, IsCall, MayCall, StandsAt, Stops, WorkGoesOn, leaves_items, stage_of}
 use Rattle.target_upgrade.specs.Course.{course_of, puts_text}
 use Rattle.target_upgrade.specs.Steps.{Stage, awaited, stage_after}
 use Rattle.target_upgrade.proofs.Courses.{IsReady, idle_work, awaited_works, awaited_callable, awaited_leaves, lawful_called, lawful_sent, stage_called}
-use Rattle.target_upgrade.proofs.NoFailures.{none_failed_held, none_failed_on}
 
 -- ---- leases
 
@@ -227,24 +227,29 @@ pub goes_held : (lease now : Lease) (old new : LineNow) (call : Call) (before af
     (e : LeaseErr) → IsSameBut lease now → MayCall lease old.trail call →
     Works lease now call before old new after (Err e) → WorkGoesOn lease.client old new
 goes_held lease now old new call before after (Lost seen) same may h =
-    goes_lease lease.client old new may.stands.lawful h.0
+    goes_lease lease.client old new may.stands.lawful h.0.goes
 goes_held lease now old new call before after TargetFault same may h = elim h.1 [
-  | inl renewal ↦ goes_lease lease.client old new may.stands.lawful renewal
+  | inl renewal ↦ goes_lease lease.client old new may.stands.lawful renewal.goes
   | inr called ↦ goes_called lease now old new call before after Failed same may called
 ]
 goes_held lease now old new call before after NoMemory same may h = elim h.1 [
-  | inl renewal ↦ goes_lease lease.client old new may.stands.lawful renewal
+  | inl renewal ↦ goes_lease lease.client old new may.stands.lawful renewal.goes
   | inr called ↦ goes_unheard lease now old new call before after same may called
 ]
 goes_held lease now old new call before after (Busy lock moment) same may h = absurd h
 
 -- ---- several calls
 
+-- no call begins a session
+begins_none : (e : Event) → IsCall e → begins e ≡ false
+begins_none Began h = absurd h
+begins_none e h = refl
+
 -- as long as the lease is held, no call has failed
-none_failed_come : (a b : Lease) (at : Stage) (old mid : LineNow) → HasCome a b at mid →
+pub none_failed_come : (a b : Lease) (at : Stage) (old mid : LineNow) → HasCome a b at mid →
     WorkGoesOn a.client old mid → NoneFailed old.trail mid.trail
 none_failed_come a b at old mid come h =
-    none_failed_held b old mid
+    none_failed_held IsCall b old mid begins_none
     (subst (λ (c : List ℕ). GoesOn IsCall c old mid) (sym (client_same a b come.same)) h.goes)
     come.stands.held
 

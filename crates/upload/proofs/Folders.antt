@@ -1,5 +1,5 @@
 -- A folder whose file was found to be gone, and what its clearing comes to.
-use Rattle.std.specs.Prelude.{ℕ, ◌≡◌, List, filter, Bool, true, false, Option, Some, None, refl}
+use Rattle.std.specs.Prelude.{ℕ, ◌≡◌, List, filter, Bool, true, false, Option, None, refl}
 use Rattle.std.proofs.Common.{ap, subst, ◌∙◌, inr}
 use Rattle.conflicts.specs.Rules.{folder_gone_changes}
 use Rattle.desk.specs.Desks.{DeskNow}

@@ -27,9 +27,9 @@ use Rattle.local_store.specs.declared.content.Content.{Content}
 use Rattle.local_store.specs.declared.content.Content.TheVariants.{Plain, Sealed}
 use Rattle.local_store.specs.declared.row.Row.{Row}
 use Rattle.local_store.specs.declared.tables.Tables.{Tables}
-use Rattle.session_steps.proofs.Ending.{does_as, does_nothing, went_report}
+use Rattle.session_steps.proofs.Ending.{does_as, does_nothing, does_starves, starves_report}
 use Rattle.session_steps.specs.Asking.{IsAnswered, IsHeardBy}
-use Rattle.session_steps.specs.Doing.{Does, Went}
+use Rattle.session_steps.specs.Doing.{Does, Starves}
 use Rattle.session_steps.specs.Findings.{finding_of, is_unreadable}
 use Rattle.session_steps.specs.Parts.{Hears}
 use Rattle.session_steps.specs.Reported.{after_call, is_bad}
@@ -73,15 +73,15 @@ checked row old new before after r s finding a heard at found is = record {
       (bad_is_unreadable row.id row.base a.reply a.shape a.heard) at found is);
 }
 
--- the file was got, whatever the report says of it
-pub went_get : (id : List ℕ) (old new : DeskNow) (before after : Lease) (r s : SyncReport)
+-- memory ran out once the file was got, whatever the report says of it
+pub starves_got : (id : List ℕ) (old new : DeskNow) (before after : Lease) (r s : SyncReport)
     → IsAnswered (Get (Item id)) old new
     → IsHeardBy is_upload (Get (Item id)) old before new after
-    → Went is_upload (work old before r) (work new after s)
-went_get id old new before after r s a heard =
+    → Starves is_upload (work old before r) (work new after s)
+starves_got id old new before after r s a heard =
     let q = after_call (view_of None old) r (Get (Item id)) (Some a.reply) in
-    went_report is_upload (work old before r) new after q s
-    (heard a.reply r q a.ends (λ shown. refl)).went
+    starves_report is_upload (work old before r) new after q s
+    (does_starves (heard a.reply r q a.ends (λ shown. refl)))
 
 -- ---- what was found
 

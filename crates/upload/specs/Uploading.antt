@@ -1,5 +1,5 @@
 -- Items that wait are uploaded, or give way to the work of other clients.
-use Rattle.std.specs.Prelude.{ℕ, ◌≡◌, ◌⊎◌, List, length, map, filter, Bool, true, false, ◌&&◌, is_none, if◌then◌else◌, Option, Some, None, option_map}
+use Rattle.std.specs.Prelude.{ℕ, ◌⊎◌, List, length, map, filter, Bool, true, false, ◌&&◌, is_none, Option, Some, None, option_map}
 use Rattle.conflicts.specs.Rules.{conflict_change, folder_gone_changes}
 use Rattle.item_text.specs.Grammar.{written}
 use Rattle.jop_base.specs.Keyed.{at}

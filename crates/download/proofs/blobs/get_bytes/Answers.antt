@@ -1,11 +1,10 @@
-use Rattle.std.specs.Prelude.{◌≡◌, Bool, true, false, Ok, refl}
+use Rattle.std.specs.Prelude.{◌≡◌, Ok, refl}
 use Rattle.std.proofs.Common.{◌∙◌, ap, subst, sym}
 use Rattle.std.proofs.lemmas.Result.{err_from_is_err_and}
 use Rattle.licences.specs.Checks.{last_on}
 use Rattle.licences.specs.Trails.{session_calls}
 use Rattle.jop_target.specs.Trail.{EndsWith, LineNow}
 use Rattle.jop_target.specs.declared.call.Call.TheVariants.{GetBlob}
-use Rattle.jop_target.specs.declared.reply.Reply.{Reply}
 use Rattle.session_steps.proofs.Known.{gives_up_known}
 use Rattle.download.proofs.Fetched.{asked_none, asked_some, asked_unsaved, same_last}
 use Rattle.download.specs.Downloading.{is_download}

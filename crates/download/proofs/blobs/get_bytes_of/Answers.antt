@@ -1,5 +1,4 @@
-use Rattle.std.proofs.Common.{◌∙◌, ap, sym}
-use Rattle.std.proofs.lemmas.Result.{err_from_is_err_and}
+use Rattle.std.proofs.Common.{◌∙◌, sym}
 use Rattle.std.specs.Prelude.{false, true}
 use Rattle.session_steps.specs.Work.{work_by}
 use Rattle.download.proofs.Fetched.{gets_if, gets_none}

@@ -1,5 +1,5 @@
 use Rattle.std.specs.Prelude.{◌≡◌, refl}
-use Rattle.std.proofs.Common.{◌∙◌, ap, subst, sym}
+use Rattle.std.proofs.Common.{◌∙◌, ap, subst}
 use Rattle.std.proofs.lemmas.Result.{err_from_is_err_and}
 use Rattle.jop_base.specs.declared.path.Path.TheVariants.{Item}
 use Rattle.jop_target.specs.Trail.{EndsWith, LineNow}
@@ -9,7 +9,7 @@ use Rattle.local_store.specs.Tables.{base_of, row_at}
 use Rattle.local_store.specs.declared.tables.Tables.{Tables}
 use Rattle.session_steps.proofs.Known.{gives_up_known}
 use Rattle.session_steps.specs.Findings.{finding_of}
-use Rattle.download.proofs.Checked.{checked, found_now, went_get}
+use Rattle.download.proofs.Checked.{checked, found_now, starves_got}
 use Rattle.download.specs.Downloading.{is_download}
 use Rattle.download.proofs.checking.check.Goals as goal
 
@@ -64,6 +64,6 @@ pub returns-in_err-finding-clause-checks : goal.returns-in_err-finding-clause-ch
 returns-in_err-finding-clause-checks g c = λ known.
     let p = err_from_is_err_and c.from_residual-in_err-finding.result
     c.from_residual-in_err-finding.ensures.1 in
-    rw (p.1, p.2) (went_get c.args.id.now known (g.S.Desk.desk c.args.site.now)
+    rw (p.1, p.2) (starves_got c.args.id.now known (g.S.Desk.desk c.args.site.now)
     (g.S.Desk.desk c.ask.new.site) c.args.lease.now c.ask.new.lease c.args.report.now _
     c.in_ok-ask.ensures.answered (c.in_ok-ask.ensures.asks is_download refl))

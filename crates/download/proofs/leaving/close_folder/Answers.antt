@@ -4,7 +4,7 @@ use Rattle.std.proofs.lemmas.Result.{err_from_is_err_and}
 use Rattle.conflicts.specs.Rules.{folder_gone_changes}
 use Rattle.local_store.specs.declared.change.Change.TheVariants.{Gone}
 use Rattle.local_store.specs.declared.tables.Tables.{Tables}
-use Rattle.session_steps.proofs.Ending.{does_nothing, gives_up_behind}
+use Rattle.session_steps.proofs.Ending.{does_nothing, does_starves, gives_up_behind}
 use Rattle.session_steps.proofs.Joins.{does_then}
 use Rattle.session_steps.specs.Parts.{Changes, ForEach}
 use Rattle.session_steps.specs.Work.{work_by}
@@ -14,7 +14,8 @@ use Rattle.download.proofs.leaving.close_folder.Goals as goal
 pub returns-in_err-moves-clause-closes : goal.returns-in_err-moves-clause-closes
 returns-in_err-moves-clause-closes g c = λ known sort lease lacks held.
     let p = err_from_is_err_and c.from_residual.result c.from_residual.ensures.1 in
-    rw (p.1, p.2) (does_nothing sort _ (record { tidy = c.requires.tidy; held = held })).went
+    rw (p.1, p.2)
+    (does_starves (does_nothing sort _ (record { tidy = c.requires.tidy; held = held })))
 
 pub make_each-requires-clause-allowed : goal.make_each-requires-clause-allowed
 make_each-requires-clause-allowed g c =

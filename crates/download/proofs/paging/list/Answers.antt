@@ -4,7 +4,6 @@ use Rattle.std.proofs.lemmas.Result.{err_from_is_err_and}
 use Rattle.jop_base.specs.declared.dir.Dir.TheVariants.{Root}
 use Rattle.jop_target.specs.Trail.{EndsWith, LineNow}
 use Rattle.jop_target.specs.declared.call.Call.TheVariants.{List as ListDir}
-use Rattle.jop_target.specs.declared.reply.Reply.{Reply}
 use Rattle.download.proofs.Paged.{listed_by, lists, lists_none, page_at, refuses}
 use Rattle.download.specs.Downloading.{is_download}
 use Rattle.download.proofs.paging.list.Goals as goal

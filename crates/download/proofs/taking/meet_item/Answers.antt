@@ -1,6 +1,4 @@
-use Rattle.std.specs.Prelude.{Ok}
 use Rattle.std.proofs.Common.{◌∙◌, sym}
-use Rattle.std.proofs.lemmas.Result.{err_from_is_err_and}
 use Rattle.local_store.specs.Rows.{item_of}
 use Rattle.download.proofs.Taken.{item_met, key_passed}
 use Rattle.download.specs.Downloading.{is_key}

@@ -1,4 +1,4 @@
-use Rattle.std.specs.Prelude.{Some, refl}
+use Rattle.std.specs.Prelude.{refl}
 use Rattle.std.proofs.Common.{arith, subst, sym}
 use Rattle.std.proofs.lemmas.List.Elements.{All-get_or}
 use Rattle.std.proofs.lemmas.Result.{err_from_is_err_and}

@@ -10,12 +10,16 @@ pub returns-in_err-renew_if_due-clause-gives : goal.returns-in_err-renew_if_due-
 returns-in_err-renew_if_due-clause-gives g c =
     let p = err_from_is_err_and c.from_residual.result c.from_residual.ensures.1 in
     let before = c.args.lease.now in
-    rw (p.1, p.2) (works_none before c.renew_if_due.new.lease
-    (renew_calls before.kind before.client) c.args.call
+    let gives = c.in_err-renew_if_due.ensures.gives in
+    rw (p.1, p.2) (works_none before c.renew_if_due.new.lease c.args.call
     c.args.blob.now c.args.blob.now (g.L.Line.state c.args.line.now)
     (g.L.Line.state c.renew_if_due.new.line) _
-    c.renew_if_due.ensures.goes c.in_err-renew_if_due.ensures.calls
-    c.in_err-renew_if_due.ensures.gives)
+    (record {
+      due = gives.0;
+      goes = c.renew_if_due.ensures.goes;
+      calls = c.in_err-renew_if_due.ensures.calls;
+    })
+    gives.1)
 
 pub returns-in_err-call-clause-gives : goal.returns-in_err-call-clause-gives
 returns-in_err-call-clause-gives g c =
@@ -32,7 +36,7 @@ returns-in_err-call-clause-gives g c =
       inr (record {
         mid = mid;
         ready =
-            is_ready before c.renew_if_due.new.lease old mid _ c.renew_if_due.ensures.goes
+            is_ready before c.renew_if_due.new.lease old mid c.renew_if_due.ensures.goes made
             c.in_ok-renew_if_due.ensures.gives;
         error = _;
         unheard = c.in_err-call.ensures.asks;
@@ -50,8 +54,8 @@ returns-in-Failed-clause-gives g c =
     let failed = sym (c.last.ensures _ _ (_, asks.1.trail)) ∙ c.in-Failed.is in
     let answered = answered_as mid new c.args.call c.args.blob.now c.call.new.blob asks.0 Failed
     asks.1 failed in
-    let ready = is_ready before after old mid _ c.renew_if_due.ensures.goes
-    c.in_ok-renew_if_due.ensures.gives in
+    let ready = is_ready before after old mid c.renew_if_due.ensures.goes
+    c.in_ok-renew_if_due.ensures.calls c.in_ok-renew_if_due.ensures.gives in
     let now : Lease = record before { stamp = after.stamp } in (
       work_failed now old mid new c.args.call c.args.blob.now c.call.new.blob
           c.renew_if_due.ensures.goes.line.later
@@ -70,8 +74,8 @@ returns-in_default g c =
     let asks = c.in_ok-call.ensures.asks in
     let heard : ¬ (asks.0 ≡ Failed) = λ e. c.in_default.not-Failed
     (c.last.ensures _ _ (_, asks.1.trail) ∙ e) in
-    let ready = is_ready before after old mid _ c.renew_if_due.ensures.goes
-    c.in_ok-renew_if_due.ensures.gives in
+    let ready = is_ready before after old mid c.renew_if_due.ensures.goes
+    c.in_ok-renew_if_due.ensures.calls c.in_ok-renew_if_due.ensures.gives in
     let now : Lease = record before { stamp = after.stamp } in
     let fresh = fresh_same before after mid.trail c.renew_if_due.ensures.same ready.fresh in
     record {

@@ -6,7 +6,7 @@ use Rattle.licences.specs.Views.{Heard}
 use Rattle.local_store.specs.declared.tables.Tables.{Tables}
 use Rattle.opening.proofs.Joined.{joins, joins_merging, may_set, puts_none_merging}
 use Rattle.opening.specs.Opening.{PutsInfo, is_opening}
-use Rattle.session_steps.proofs.Ending.{does_nothing, gives_up_behind}
+use Rattle.session_steps.proofs.Ending.{does_nothing, does_starves, gives_up_behind}
 use Rattle.session_steps.specs.Work.{work}
 use Rattle.sync_info.specs.Info.{IsInfo}
 use Rattle.sync_info.specs.Merge.{merged}
@@ -38,9 +38,9 @@ set_info-requires-clause-may g c = λ other shown.
 pub returns-in_err-info-clause-joins : goal.returns-in_err-info-clause-joins
 returns-in_err-info-clause-joins g c =
     let p = err_from_is_err_and c.from_residual.result c.from_residual.ensures.1 in
-    rw (p.1, p.2) (does_nothing is_opening
+    rw (p.1, p.2) (does_starves (does_nothing is_opening
     (work (g.S.Desk.desk c.args.site.now) c.args.lease.now c.args.report.now)
-    c.requires.ready).went
+    c.requires.ready))
 
 pub returns-in_err-info-clause-merges : goal.returns-in_err-info-clause-merges
 returns-in_err-info-clause-merges g c =

@@ -7,7 +7,7 @@ use Rattle.opening.proofs.Informed.{current}
 use Rattle.opening.proofs.Joined.{heard_merging, put_read, put_unput, puts_it, puts_none_merging, puts_nothing, stopped_merging}
 use Rattle.opening.proofs.Merging.{puts_text}
 use Rattle.opening.specs.Opening.{is_opening}
-use Rattle.session_steps.proofs.Ending.{does_nothing}
+use Rattle.session_steps.proofs.Ending.{does_nothing, does_starves}
 use Rattle.session_steps.specs.Work.{work}
 use Rattle.opening.proofs.joining.put_info.Goals as goal
 
@@ -25,8 +25,8 @@ returns-then-is_same-clause-merges g c =
 pub returns-in_err-text-clause-puts : goal.returns-in_err-text-clause-puts
 returns-in_err-text-clause-puts g c = λ r.
     let p = err_from_is_err_and c.from_residual.result c.from_residual.ensures.1 in
-    rw (p.1, p.2) (does_nothing is_opening
-    (work (g.S.Desk.desk c.args.site.now) c.args.lease.now r) c.requires.ready).went
+    rw (p.1, p.2) (does_starves (does_nothing is_opening
+    (work (g.S.Desk.desk c.args.site.now) c.args.lease.now r) c.requires.ready))
 
 pub returns-in_err-text-clause-merges : goal.returns-in_err-text-clause-merges
 returns-in_err-text-clause-merges g c =

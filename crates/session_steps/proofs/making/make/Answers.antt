@@ -1,4 +1,4 @@
-use Rattle.std.specs.Prelude.{None, refl}
+use Rattle.std.specs.Prelude.{None}
 use Rattle.std.proofs.lemmas.Result.{err_from_is_err_and}
 use Rattle.session_steps.proofs.Ending.{does_there}
 use Rattle.session_steps.proofs.making.make.Goals as goal

@@ -5,7 +5,7 @@ use Rattle.desk.specs.Desks.{Commits}
 use Rattle.jop_target.specs.Trail.{LineNow}
 use Rattle.table_keeper.specs.Keepers.{HasCause}
 use Rattle.table_keeper.specs.declared.keeper_err.KeeperErr.{KeeperErr}
-use Rattle.session_steps.proofs.Committed.{calls_made, does_made, fails_unmade, held_made, went_either}
+use Rattle.session_steps.proofs.Committed.{calls_made, does_made, fails_unmade, held_made, starves_either}
 use Rattle.session_steps.proofs.making.make_shown.Goals as goal
 
 pub returns-in-Ok-clause-calls : goal.returns-in-Ok-clause-calls
@@ -49,6 +49,10 @@ returns-in-Err-NoMemory-clause-makes g c =
     let new = g.S.Desk.desk c.commit.new.self in
     let either = subst (λ (e : KeeperErr). Commits c.args.change old (Err e) new)
     c.in-Err-NoMemory.field-0-is c.in-Err-NoMemory.ensures.commits in
+    let cause = subst
+    (λ (e : KeeperErr). HasCause {T = Unit {0}} old.keeper.faults (Err e) new.keeper.faults)
+    c.in-Err-NoMemory.field-0-is c.in-Err-NoMemory.ensures.cause in
+    let well = cause.stays (λ e. cc) in
     λ known sort lease may held.
-    went_either known sort old new lease c.args.report.now c.args.change either
-    c.in-Err-NoMemory.ensures.cause.later c.requires.allowed may held
+    starves_either known sort old new lease c.args.report.now c.args.change either well
+    c.requires.allowed may held

@@ -6,7 +6,7 @@ use Rattle.target_upgrade.specs.Answers.{IsCall}
 use Rattle.sync_run.specs.Sessions.{IsMarkOr}
 use Rattle.sync_run.specs.Upgrades.{UpgradeAnswers}
 use Rattle.sync_run.proofs.Held.{has_begun}
-use Rattle.sync_run.proofs.Whole.{adds_ended, adds_nothing, adds_open, adds_unended, as_marked, calls_inner, runs_work}
+use Rattle.sync_run.proofs.Whole.{adds_ended, adds_nothing, adds_endless, adds_unended, as_marked, calls_inner, runs_work}
 use Rattle.sync_run.proofs.upgrading.make_session.Goals as goal
 
 pub hold-outcome-requires : goal.hold-outcome-requires
@@ -15,7 +15,8 @@ hold-outcome-requires g c = has_begun _ _ _ c.in_ok-begin.ensures.ok
 pub returns-in_err-begin-clause-session : goal.returns-in_err-begin-clause-session
 returns-in_err-begin-clause-session g c =
     let p = err_from_is_err_and c.from_residual.result c.from_residual.ensures.1 in
-    rw (p.1, p.2) (adds_nothing IsCall _ _ _ c.in_err-begin.ensures.err)
+    rw (p.1, p.2)
+    (adds_nothing IsCall (UpgradeAnswers c.args.client.now) _ _ _ c.in_err-begin.ensures.err)
 
 pub returns-in_err-begin-clause-line : goal.returns-in_err-begin-clause-line
 returns-in_err-begin-clause-line g c =
@@ -26,8 +27,11 @@ returns-in_err-end-clause-session g c =
     let p = err_from_is_err_and c.from_residual-in_err-end.result
     c.from_residual-in_err-end.ensures.1 in
     rw (p.1, p.2)
-    (adds_open IsCall _ _ _ _ _ calls_inner c.in_ok-begin.ensures.ok
-    (runs_work _ _ _ c.hold-outcome.ensures.goes) c.in_err-end.ensures.err)
+    (adds_endless IsCall (UpgradeAnswers c.args.client.now) _ _ _ _ _ _ calls_inner
+    c.in_ok-begin.ensures.ok
+    (runs_work _ _ _ c.hold-outcome.ensures.goes)
+    c.hold-outcome.ensures.released (sym c.has_ended.ensures ∙ c.if-has_ended.true)
+    c.in_err-end.ensures.err)
 
 pub returns-in_ok-end-clause-session : goal.returns-in_ok-end-clause-session
 returns-in_ok-end-clause-session g c =
@@ -56,7 +60,7 @@ pub returns-else-has_ended-clause-session : goal.returns-else-has_ended-clause-s
 returns-else-has_ended-clause-session g c =
     adds_unended IsCall (UpgradeAnswers c.args.client.now) _ _ _ _ _ _ calls_inner
     c.in_ok-begin.ensures.ok (runs_work _ _ _ c.hold-outcome.ensures.goes)
-    (sym c.has_ended.ensures ∙ c.if-has_ended.false) refl
+    c.hold-outcome.ensures.heard (sym c.has_ended.ensures ∙ c.if-has_ended.false) refl
 
 pub returns-else-has_ended-clause-line : goal.returns-else-has_ended-clause-line
 returns-else-has_ended-clause-line g c =

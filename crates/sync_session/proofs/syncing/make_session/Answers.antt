@@ -27,8 +27,8 @@ returns-in_err-end-clause-session g c =
     let p = err_from_is_err_and c.from_residual-in_err-end.result
     c.from_residual-in_err-end.ensures.1 in
     rw (p.1, p.2)
-    (open_after _ _ _ _ _ _ _ c.in_ok-begin.ensures.ok c.hold-outcome.ensures.goes
-    c.hold-outcome.ensures.tells c.in_err-end.ensures.err)
+    (open_after _ _ _ _ _ _ _ _ c.in_ok-begin.ensures.ok c.hold-outcome.ensures.released
+    c.hold-outcome.ensures.goes c.hold-outcome.ensures.tells c.in_err-end.ensures.err)
 
 pub returns-in_err-end-clause-line : goal.returns-in_err-end-clause-line
 returns-in_err-end-clause-line g c =
@@ -56,8 +56,8 @@ returns-in_ok-end-clause-line g c =
 pub returns-else-has_ended-clause-session : goal.returns-else-has_ended-clause-session
 returns-else-has_ended-clause-session g c =
     adds_open_from _ _ _ _ _ (sym c.has_ended.ensures ∙ c.if-has_ended.false)
-    (open_after _ _ _ _ _ _ _ c.in_ok-begin.ensures.ok c.hold-outcome.ensures.goes
-    c.hold-outcome.ensures.tells refl)
+    (open_after _ _ _ _ _ _ _ _ c.in_ok-begin.ensures.ok c.hold-outcome.ensures.released
+    c.hold-outcome.ensures.goes c.hold-outcome.ensures.tells refl)
 
 pub returns-else-has_ended-clause-line : goal.returns-else-has_ended-clause-line
 returns-else-has_ended-clause-line g c =

@@ -3,7 +3,8 @@ use Rattle.std.proofs.lemmas.Result.{err_from_is_err_and}
 use Rattle.std.specs.Prelude.{Ok}
 use Rattle.session_steps.proofs.Asked.{calls_locks}
 use Rattle.sync_session.proofs.Done.{counted_locked, released_done}
-use Rattle.sync_session.proofs.Left.{HasTaken, ends_from, goes_idle, goes_taken, lawful_begun, lawful_taken, released_none, released_work, tells_taken}
+use Rattle.sync_session.proofs.Left.{HasTaken, goes_idle, goes_taken, lawful_begun, lawful_taken, released_none, tells_taken}
+use Rattle.sync_session.proofs.Refused.{ends_from, released_work}
 use Rattle.sync_session.proofs.Telling.{tells_locks}
 use Rattle.sync_session.specs.Syncing.{begun_view}
 use Rattle.sync_session.proofs.syncing.take_and_sync.Goals as goal
@@ -11,7 +12,8 @@ use Rattle.sync_session.proofs.syncing.take_and_sync.Goals as goal
 pub returns-in_err-lease-clause-released : goal.returns-in_err-lease-clause-released
 returns-in_err-lease-clause-released g c =
     let p = err_from_is_err_and c.from_residual.result c.from_residual.ensures.1 in
-    rw (p.1, p.2) (released_none _ _ _ _ c.take.ensures.same c.in_err-lease.ensures.gives)
+    rw (p.1, p.2) (released_none _ _ _ _ c.take.ensures.same c.in_err-lease.ensures.gives
+    c.in_err-lease.ensures.calls)
 
 pub returns-in_err-lease-clause-goes : goal.returns-in_err-lease-clause-goes
 returns-in_err-lease-clause-goes g c =

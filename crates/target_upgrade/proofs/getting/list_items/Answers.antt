@@ -2,7 +2,7 @@ use Rattle.std.proofs.Common.{sym, ap, subst, List, ℕ, Some}
 use Rattle.std.proofs.lemmas.Result.{err_from_is_err_and}
 use Rattle.target_upgrade.specs.Answers.{HasCome}
 use Rattle.target_upgrade.specs.Steps.{At, Gets, at_version}
-use Rattle.target_upgrade.proofs.NoFailures.{none_failed_nowhere}
+use Rattle.lease.proofs.NoFailures.{none_failed_nowhere}
 use Rattle.target_upgrade.proofs.Made.{goes_nowhere, may_call, none_failed_made}
 use Rattle.target_upgrade.proofs.Standing.{list_done, listed_as}
 use Rattle.target_upgrade.proofs.getting.list_items.Goals as goal

@@ -4,7 +4,7 @@ use Rattle.jop_base.specs.declared.path.Path.TheVariants.{Info as InfoFile}
 use Rattle.jop_target.specs.declared.call.Call.TheVariants.{Put}
 use Rattle.target_upgrade.specs.Steps.{Gets}
 use Rattle.target_upgrade.proofs.Infos.{text_of}
-use Rattle.target_upgrade.proofs.NoFailures.{none_failed_nowhere}
+use Rattle.lease.proofs.NoFailures.{none_failed_nowhere}
 use Rattle.target_upgrade.proofs.Made.{goes_nowhere, may_call}
 use Rattle.target_upgrade.proofs.Standing.{last_done}
 use Rattle.target_upgrade.proofs.getting.put_info.Goals as goal

@@ -1,7 +1,7 @@
 use Rattle.std.proofs.Common.{sym, ap, Some}
 use Rattle.std.proofs.lemmas.Result.{err_from_is_err_and}
 use Rattle.target_upgrade.specs.Steps.{At}
-use Rattle.target_upgrade.proofs.NoFailures.{none_failed_nowhere}
+use Rattle.lease.proofs.NoFailures.{none_failed_nowhere}
 use Rattle.target_upgrade.proofs.Made.{goes_nowhere, may_call}
 use Rattle.target_upgrade.proofs.Standing.{step_done}
 use Rattle.target_upgrade.proofs.steps.make.Goals as goal

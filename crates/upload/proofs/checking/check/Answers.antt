@@ -6,7 +6,7 @@ use Rattle.jop_target.specs.Trail.{EndsWith, LineNow}
 use Rattle.jop_target.specs.declared.call.Call.TheVariants.{Get}
 use Rattle.jop_target.specs.declared.reply.Reply.{Reply}
 use Rattle.session_steps.specs.Findings.{finding_of}
-use Rattle.upload.proofs.Licensed.{checked, went_get}
+use Rattle.upload.proofs.Licensed.{checked, starves_got}
 use Rattle.upload.specs.Uploading.{is_upload}
 use Rattle.upload.proofs.checking.check.Goals as goal
 
@@ -45,6 +45,6 @@ pub returns-in_err-finding-clause-checks : goal.returns-in_err-finding-clause-ch
 returns-in_err-finding-clause-checks g c =
     let p = err_from_is_err_and c.from_residual-in_err-finding.result
     c.from_residual-in_err-finding.ensures.1 in
-    rw (p.1, p.2) (went_get c.args.row.now.id (g.S.Desk.desk c.args.site.now)
+    rw (p.1, p.2) (starves_got c.args.row.now.id (g.S.Desk.desk c.args.site.now)
     (g.S.Desk.desk c.ask.new.site) c.args.lease.now c.ask.new.lease c.args.report.now _
     c.in_ok-ask.ensures.answered (c.in_ok-ask.ensures.asks is_upload refl))

@@ -3,7 +3,7 @@ use Rattle.std.proofs.Common.{subst, sym}
 use Rattle.desk.specs.Desks.{DeskNow}
 use Rattle.table_keeper.specs.Keepers.{HasCause}
 use Rattle.table_keeper.specs.declared.keeper_err.KeeperErr.{KeeperErr}
-use Rattle.session_steps.proofs.Committed.{fails_unmade, went_nowhere}
+use Rattle.session_steps.proofs.Committed.{fails_unmade, starves_nowhere}
 use Rattle.session_steps.proofs.Ending.{does_nothing}
 use Rattle.session_steps.specs.Doing.{Does}
 use Rattle.session_steps.specs.Parts.{Nothing}
@@ -38,5 +38,8 @@ pub returns-in-Err-NoMemory-clause-fails : goal.returns-in-Err-NoMemory-clause-f
 returns-in-Err-NoMemory-clause-fails g c =
     let old = g.S.Desk.desk c.args.site.now in
     let new = g.S.Desk.desk c.load_blob.new.self in
+    let cause = subst
+    (λ (e : KeeperErr). HasCause {T = Option (List ℕ)} old.keeper.faults (Err e) new.keeper.faults)
+    c.in-Err-NoMemory.field-0-is c.in-Err-NoMemory.ensures.cause in
     λ sort lease r held.
-    went_nowhere sort old new lease r r c.load_blob.ensures.same c.load_blob.ensures.cause.later held
+    starves_nowhere sort old new lease r c.load_blob.ensures.same (cause.stays (λ e. cc)) held

@@ -5,7 +5,7 @@ use Rattle.conflicts.specs.Rules.{folder_gone_changes}
 use Rattle.licences.specs.Items.{is_note_in}
 use Rattle.local_store.specs.declared.change.Change.{Change}
 use Rattle.local_store.specs.declared.tables.Tables.{Tables}
-use Rattle.session_steps.proofs.Ending.{does_nothing}
+use Rattle.session_steps.proofs.Ending.{does_nothing, does_starves}
 use Rattle.session_steps.specs.Work.{view_of, work}
 use Rattle.session_steps.proofs.Folders.{moves_allowed, moves_may}
 use Rattle.session_steps.specs.Making.{MayMakeAll}
@@ -16,7 +16,8 @@ use Rattle.upload.proofs.moving.move_notes.Goals as goal
 pub returns-in_err-moves-clause-makes : goal.returns-in_err-moves-clause-makes
 returns-in_err-moves-clause-makes g c = λ sort lease held.
     let p = err_from_is_err_and c.from_residual.result c.from_residual.ensures.1 in
-    rw (p.1, p.2) (does_nothing sort _ (record { tidy = c.requires.tidy; held = held })).went
+    rw (p.1, p.2)
+    (does_starves (does_nothing sort _ (record { tidy = c.requires.tidy; held = held })))
 
 -- what is made are the moves out of the folder
 pub make_each-requires-clause-allowed : goal.make_each-requires-clause-allowed

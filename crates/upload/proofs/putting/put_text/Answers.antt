@@ -5,7 +5,7 @@ use Rattle.item_text.specs.Grammar.{written}
 use Rattle.item_text.specs.Valid.{IsItem}
 use Rattle.item_text.specs.declared.item.Item.{Item}
 use Rattle.licences.specs.Puts.{MayUpload}
-use Rattle.session_steps.proofs.Ending.{does_nothing}
+use Rattle.session_steps.proofs.Ending.{does_nothing, does_starves}
 use Rattle.session_steps.specs.Doing.{Does}
 use Rattle.session_steps.specs.Work.{view_of, work}
 use Rattle.upload.proofs.Licensed.{may_put, may_upload, puts_text, valid_item}
@@ -21,15 +21,15 @@ write_item-requires g c =
 pub returns-in_err-text-clause-puts : goal.returns-in_err-text-clause-puts
 returns-in_err-text-clause-puts g c = λ r.
     let p = err_from_is_err_and c.from_residual.result c.from_residual.ensures.1 in
-    rw (p.1, p.2) (does_nothing is_upload
-    (work (g.S.Desk.desk c.args.site.now) c.args.lease.now r) c.requires.ready).went
+    rw (p.1, p.2) (does_starves (does_nothing is_upload
+    (work (g.S.Desk.desk c.args.site.now) c.args.lease.now r) c.requires.ready))
 
 pub returns-in_err-copy-clause-puts : goal.returns-in_err-copy-clause-puts
 returns-in_err-copy-clause-puts g c = λ r.
     let p = err_from_is_err_and c.from_residual-in_err-copy.result
     c.from_residual-in_err-copy.ensures.1 in
-    rw (p.1, p.2) (does_nothing is_upload
-    (work (g.S.Desk.desk c.args.site.now) c.args.lease.now r) c.requires.ready).went
+    rw (p.1, p.2) (does_starves (does_nothing is_upload
+    (work (g.S.Desk.desk c.args.site.now) c.args.lease.now r) c.requires.ready))
 
 pub ask-requires-clause-may : goal.ask-requires-clause-may
 ask-requires-clause-may g c = λ shown.

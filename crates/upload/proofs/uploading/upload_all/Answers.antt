@@ -2,7 +2,7 @@ use Rattle.std.specs.Prelude.{List, ℕ}
 use Rattle.std.proofs.Common.{◌∙◌, ap, subst, sym}
 use Rattle.std.proofs.lemmas.Result.{err_from_is_err_and}
 use Rattle.local_store.specs.declared.tables.Tables.{Tables}
-use Rattle.session_steps.proofs.Ending.{does_nothing}
+use Rattle.session_steps.proofs.Ending.{does_nothing, does_starves}
 use Rattle.session_steps.specs.Work.{work}
 use Rattle.upload.proofs.Left.{all_of_them, left_first}
 use Rattle.upload.specs.Conditions.{CanPut}
@@ -13,7 +13,7 @@ use Rattle.upload.proofs.uploading.upload_all.Goals as goal
 pub returns-in_err-ids-clause-ends : goal.returns-in_err-ids-clause-ends
 returns-in_err-ids-clause-ends g c =
     let p = err_from_is_err_and c.from_residual.result c.from_residual.ensures.1 in
-    rw (p.1, p.2) (does_nothing is_upload _ c.requires.ready).went
+    rw (p.1, p.2) (does_starves (does_nothing is_upload _ c.requires.ready))
 
 pub upload_each-requires-clause-readable : goal.upload_each-requires-clause-readable
 upload_each-requires-clause-readable g c =

@@ -3,7 +3,7 @@ use Rattle.std.proofs.Common.{◌∙◌, ap, sym}
 use Rattle.std.proofs.lemmas.Result.{err_from_is_err_and}
 use Rattle.local_store.specs.Tables.{row_at}
 use Rattle.local_store.specs.declared.tables.Tables.{Tables}
-use Rattle.session_steps.proofs.Ending.{does_nothing}
+use Rattle.session_steps.proofs.Ending.{does_nothing, does_starves}
 use Rattle.session_steps.specs.Work.{work}
 use Rattle.upload.proofs.Uploaded.{unput_at, uploads_found, waits}
 use Rattle.session_steps.specs.Findings.{waiting}
@@ -13,7 +13,7 @@ use Rattle.upload.proofs.uploading.upload_one.Goals as goal
 pub returns-in_err-waiting-clause-uploads : goal.returns-in_err-waiting-clause-uploads
 returns-in_err-waiting-clause-uploads g c =
     let p = err_from_is_err_and c.from_residual.result c.from_residual.ensures.1 in
-    rw (p.1, p.2) (does_nothing is_upload _ c.requires.ready).went
+    rw (p.1, p.2) (does_starves (does_nothing is_upload _ c.requires.ready))
 
 pub upload_row-requires-clause-at : goal.upload_row-requires-clause-at
 upload_row-requires-clause-at g c =

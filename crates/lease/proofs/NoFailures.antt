@@ -16,9 +16,8 @@ use Rattle.lease.specs.Standing.{IsHeld}
 use Rattle.lease.specs.Work.{NoneFailed}
 use Rattle.lease.specs.declared.lease.Lease.{Lease}
 use Rattle.lease.proofs.Sessions.{session_from-append}
-use Rattle.target_upgrade.specs.Answers.{IsCall}
 
--- ---- nothing brings a lease back
+-- ---- nothing brings a lease back but a new session
 
 abbrev is_dead : Phase → Bool
 is_dead Over = true
@@ -43,56 +42,74 @@ dead_unheard : (client : List ℕ) (p : Phase) (call : Call) →
     is_dead (phase_unheard client p call) ≡ true
 dead_unheard client p call = dead_if (allows client p (role_of client call))
 
-stays_dead : (client : List ℕ) (s : Session) (es : List Event) → All IsCall es →
+-- whether a session begins there
+abbrev pub begins : Event → Bool
+begins Began = true
+begins event = false
+
+abbrev pub NoneBegins : List Event → Type 0
+NoneBegins es = All (λ (e : Event). begins e ≡ false) es
+
+stays_dead : (client : List ℕ) (s : Session) (es : List Event) → NoneBegins es →
     is_dead s.phase ≡ true → is_dead (session_from client s es).phase ≡ true
 unfolding session_from
-stays_dead client s [] each dead = dead
-stays_dead client s (Sent call ∷ es) each dead =
+stays_dead client s [] none dead = dead
+stays_dead client s (Sent call ∷ es) none dead =
     stays_dead client (session_after client s (Sent call)) es
-    (λ i d lt. each (suc i) d (omega arith)) (dead_unheard client s.phase call)
-stays_dead client s (Called call reply ∷ es) each dead =
+    (λ i d lt. none (suc i) d (omega arith)) (dead_unheard client s.phase call)
+stays_dead client s (Called call reply ∷ es) none dead =
     stays_dead client (session_after client s (Called call reply)) es
-    (λ i d lt. each (suc i) d (omega arith)) (dead_after client s.phase call reply dead)
-stays_dead client s (Began ∷ es) each dead = absurd (each 0 Began (omega arith))
-stays_dead client s (Made number ∷ es) each dead = absurd (each 0 Began (omega arith))
-stays_dead client s (Ended ∷ es) each dead = absurd (each 0 Began (omega arith))
+    (λ i d lt. none (suc i) d (omega arith)) (dead_after client s.phase call reply dead)
+stays_dead client s (Made number ∷ es) none dead =
+    stays_dead client s es (λ i d lt. none (suc i) d (omega arith)) dead
+stays_dead client s (Ended ∷ es) none dead =
+    stays_dead client (session_after client s Ended) es
+    (λ i d lt. none (suc i) d (omega arith)) dead
+stays_dead client s (Began ∷ es) none dead = let b = none 0 Began (omega arith) in absurd cc
 
 not_both : (p : Phase) → is_dead p ≡ true → is_held p ≡ true → ⊥
 not_both Over h k = cc
 not_both Broken h k = cc
 not_both p h k = cc
 
-none_failed_from : (client : List ℕ) (s : Session) (es : List Event) → All IsCall es →
+pub none_failed_from : (client : List ℕ) (s : Session) (es : List Event) → NoneBegins es →
     is_held (session_from client s es).phase ≡ true → has_failed es ≡ false
 unfolding session_from has_failed
-none_failed_from client s [] each held = refl
-none_failed_from client s (Sent call ∷ es) each held =
+none_failed_from client s [] none held = refl
+none_failed_from client s (Sent call ∷ es) none held =
     none_failed_from client (session_after client s (Sent call)) es
-    (λ i d lt. each (suc i) d (omega arith)) held
-none_failed_from client s (Called call Failed ∷ es) each held =
+    (λ i d lt. none (suc i) d (omega arith)) held
+none_failed_from client s (Called call Failed ∷ es) none held =
     absurd (not_both _ (stays_dead client (session_after client s (Called call Failed)) es
-    (λ i d lt. each (suc i) d (omega arith)) (dead_failed client s.phase call)) held)
-none_failed_from client s (Called call reply ∷ es) each held =
+    (λ i d lt. none (suc i) d (omega arith)) (dead_failed client s.phase call)) held)
+none_failed_from client s (Called call reply ∷ es) none held =
     none_failed_from client (session_after client s (Called call reply)) es
-    (λ i d lt. each (suc i) d (omega arith)) held
-none_failed_from client s (Began ∷ es) each held = absurd (each 0 Began (omega arith))
-none_failed_from client s (Made number ∷ es) each held = absurd (each 0 Began (omega arith))
-none_failed_from client s (Ended ∷ es) each held = absurd (each 0 Began (omega arith))
+    (λ i d lt. none (suc i) d (omega arith)) held
+none_failed_from client s (Made number ∷ es) none held =
+    none_failed_from client s es (λ i d lt. none (suc i) d (omega arith)) held
+none_failed_from client s (Ended ∷ es) none held =
+    none_failed_from client (session_after client s Ended) es
+    (λ i d lt. none (suc i) d (omega arith)) held
+none_failed_from client s (Began ∷ es) none held =
+    let b = none 0 Began (omega arith) in absurd cc
 
 -- ---- trails
 
-pub none_failed_held : (lease : Lease) (old new : LineNow) → GoesOn IsCall lease.client old new →
+pub none_failed_held : (P : Event → Type 0) (lease : Lease) (old new : LineNow) →
+    ((e : Event) → P e → begins e ≡ false) → GoesOn P lease.client old new →
     IsHeld lease new.trail → NoneFailed old.trail new.trail
-none_failed_held lease old new goes held =
+none_failed_held P lease old new never goes held =
     let client = lease.client in
+    let more = goes.line.more in
     let whole : session_of client new.trail
-    ≡ session_from client (session_of client old.trail) goes.line.more =
+    ≡ session_from client (session_of client old.trail) more =
     ap (session_of client) goes.line.trail
-    ∙ session_from-append client outside old.trail goes.line.more in
+    ∙ session_from-append client outside old.trail more in
     record {
-      more = goes.line.more;
+      more = more;
       trail = goes.line.trail;
-      heard = none_failed_from client (session_of client old.trail) goes.line.more goes.line.each
+      heard = none_failed_from client (session_of client old.trail) more
+          (λ i d lt. never _ (goes.line.each i d lt))
           (ap (λ (s : Session). is_held s.phase) (sym whole) ∙ ap is_held held.stands.phase);
     }
 

@@ -1,0 +1,251 @@
+-- Why a sync gave nothing, by what its work and the release came to.
+use Rattle.std.specs.Prelude.{ℕ, ◌≡◌, List, Bool, true, false, Result, Ok, Err, refl}
+use Rattle.std.proofs.Common.{sym, ◌∙◌, arith, subst}
+use Rattle.conflicts.specs.Reports.{new_report}
+use Rattle.conflicts.specs.declared.report.SyncReport.{SyncReport}
+use Rattle.desk.specs.Desks.{DeskNow, IsSameDesk}
+use Rattle.jop_outside.specs.Outside.{HasRisen}
+use Rattle.jop_base.specs.declared.lock_name.LockKind.TheVariants.{Sync}
+use Rattle.jop_target.specs.declared.call.Call.{Call}
+use Rattle.jop_target.specs.declared.event.Event.{Event}
+use Rattle.jop_target.specs.declared.event.Event.TheVariants.{Began, Called, Ended, Made, Sent}
+use Rattle.jop_target.specs.declared.reply.Reply.TheVariants.{Failed}
+use Rattle.lease.proofs.NoFailures.{begins, none_failed_held, none_failed_on}
+use Rattle.lease.proofs.Works.{none_failed}
+use Rattle.lease.specs.Added.{Makes, leave_calls}
+use Rattle.lease.specs.Calls.{GoesOn, IsLeaseEvent}
+use Rattle.lease.specs.Discipline.{ends_released, phase_of}
+use Rattle.lease.specs.Outcomes.{Releases}
+use Rattle.lease.specs.Phase.{Renewing}
+use Rattle.lease.specs.Work.{NoneFailed}
+use Rattle.lease.specs.declared.error.LeaseErr.{LeaseErr}
+use Rattle.lease.specs.declared.error.LeaseErr.TheVariants as lease_errors
+use Rattle.lease.specs.declared.lease.Lease.{Lease}
+use Rattle.table_keeper.specs.Keepers.{KeeperNow}
+use Rattle.session_steps.proofs.Joins.{client_is}
+use Rattle.session_steps.specs.Doing.{Went}
+use Rattle.session_steps.specs.Steps.{IsStep}
+use Rattle.session_steps.specs.Work.{IsReady, WorkNow, work}
+use Rattle.sync_session.specs.Leaving.{Leaves, answer_of, holds_lease}
+use Rattle.sync_session.specs.Syncing.{EndsWork, HasLeft, IsSyncReleased}
+use Rattle.sync_session.specs.Working.{Works, is_sync}
+use Rattle.sync_session.specs.declared.sync_err.SyncErr.{SyncErr}
+use Rattle.sync_session.specs.declared.sync_err.SyncErr.TheVariants.{Busy, LeaseLost, TargetOlder, TargetNewer, BadInfo, FailSafe, NoKey, TargetFault, KeeperFault, NoMemory}
+use Rattle.sync_session.proofs.Left.{HasTaken, fails_as, has_left, held_worked, missed_as, over_late, over_released, own_client, went_worked}
+
+-- ---- no call has failed
+
+lease_begins : (client : List ℕ) (e : Event) → IsLeaseEvent client e → begins e ≡ false
+lease_begins client (Sent call) h = refl
+lease_begins client (Called call reply) h = refl
+lease_begins client (Made number) h = absurd h
+lease_begins client Began h = absurd h
+lease_begins client Ended h = absurd h
+
+step_begins : (sort : Call → Bool) (client : List ℕ) (e : Event) → IsStep sort client e
+    → begins e ≡ false
+step_begins sort client (Sent call) h = refl
+step_begins sort client (Called call reply) h = refl
+step_begins sort client (Made number) h = refl
+step_begins sort client Began h = absurd h
+step_begins sort client Ended h = absurd h
+
+-- until the lease was had
+unfailed_taken : (client : List ℕ) (lease : Lease) (old held : DeskNow)
+    → HasTaken client lease old held → NoneFailed old.line.trail held.line.trail
+unfailed_taken client lease old held h =
+    none_failed_held (IsLeaseEvent client) lease old.line held.line (lease_begins client)
+    (subst (λ (c : List ℕ). GoesOn (IsLeaseEvent client) c old.line held.line)
+    (sym (own_client client lease old held h))
+    (record { running = h.goes.running; lawful = h.goes.lawful; line = h.goes.line }))
+    h.had.fresh.held
+
+-- nor under it, as long as it is held
+unfailed_held : (a b : WorkNow) → Went is_sync a b → IsReady b.desk b.lease
+    → NoneFailed a.desk.line.trail b.desk.line.trail
+unfailed_held a b went ready =
+    let client = a.lease.client in
+    none_failed_held (IsStep is_sync client) b.lease a.desk.line b.desk.line
+    (step_begins is_sync client)
+    (subst (λ (c : List ℕ). GoesOn (IsStep is_sync client) c a.desk.line b.desk.line)
+    (sym (client_is a.lease b.lease went.same)) went.goes)
+    ready.held
+
+-- memory ran out when the lease was given up, which was held still
+unfailed_given : (client : List ℕ) (lease : Lease) (old held : DeskNow) (late : WorkNow)
+    (new : DeskNow) (worked : Result (Unit {0}) SyncErr) → HasTaken client lease old held
+    → Works (work held lease new_report) worked late → holds_lease worked ≡ true
+    → Makes {T = Unit {0}} (leave_calls late.lease.kind late.lease.client)
+    late.desk.line.trail new.line.trail (Err lease_errors.NoMemory)
+    → NoneFailed old.line.trail new.line.trail
+unfailed_given client lease old held late new worked taken works holds made =
+    let a = work held lease new_report in
+    none_failed_on old.line.trail late.desk.line.trail new.line.trail
+    (none_failed_on old.line.trail held.line.trail late.desk.line.trail
+    (unfailed_taken client lease old held taken)
+    (unfailed_held a late (went_worked a late worked works)
+    (held_worked a late worked works holds)))
+    (none_failed (leave_calls late.lease.kind late.lease.client) made.0 late.desk.line.trail
+    new.line.trail made.1)
+
+-- what a session answers that ended so, whatever else is known
+refused_as : (client : List ℕ) (old : DeskNow) (late : WorkNow) (new : DeskNow) (e f : SyncErr)
+    (worked result : Result (Unit {0}) SyncErr) → worked ≡ Err f → result ≡ Err e
+    → (result ≡ worked) × (new ≡ late.desk) → IsSyncReleased client old (Err f) late.desk
+    → IsSyncReleased client old (Err e) new
+refused_as client old late new e f worked result is ended h k =
+    let as_worked = h.0 in
+    let same : f ≡ e = cc in
+    subst (λ (d : DeskNow). IsSyncReleased client old (Err e) d) (sym h.1)
+    (subst (λ (x : SyncErr). IsSyncReleased client old (Err x) late.desk) same k)
+
+-- its work was refused while the lease was held, which was then given up
+given_up : (client : List ℕ) (lease : Lease) (old held : DeskNow) (late : WorkNow) (new : DeskNow)
+    (e f : SyncErr) (released : Result (Unit {0}) LeaseErr) → HasTaken client lease old held
+    → Works (work held lease new_report) (Err f) late
+    → Releases late.lease late.desk.line new.line released → IsSameDesk late.desk new
+    → Makes (leave_calls late.lease.kind late.lease.client) late.desk.line.trail new.line.trail
+    released
+    → holds_lease (Err f) ≡ true
+    → (result : Result (Unit {0}) SyncErr) → result ≡ Err e
+    → result ≡ answer_of released (Err f)
+    → (HasLeft client (Err f) old new → ends_released (phase_of client new.line.trail) ≡ true
+    → IsSyncReleased client old (Err f) new)
+    → IsSyncReleased client old (Err e) new
+given_up client lease old held late new e f (Ok done) taken works gives same made holds
+    result ended is left =
+    let it : f ≡ e = cc in
+    subst (λ (x : SyncErr). IsSyncReleased client old (Err x) new) it
+    (left
+    (has_left client lease (Err f) old held late new gives.reply taken works same gives.trail)
+    (over_late client lease old held late new (Err f) taken works gives.over))
+given_up client lease old held late new e f (Err lease_errors.TargetFault) taken works gives same
+    made holds result ended is left =
+    let it : f ≡ e = cc in
+    subst (λ (x : SyncErr). IsSyncReleased client old (Err x) new) it
+    (left (has_left client lease (Err f) old held late new Failed taken works same gives.trail)
+    (over_late client lease old held late new (Err f) taken works gives.fails.failed.over))
+given_up client lease old held late new e f (Err lease_errors.NoMemory) taken works gives same
+    made holds result ended is left =
+    let it : NoMemory ≡ e = cc in
+    subst (λ (x : SyncErr). IsSyncReleased client old (Err x) new) it
+    (unfailed_given client lease old held late new (Err f) taken works holds made)
+given_up client lease old held late new e f (Err (lease_errors.Busy lock now)) taken works gives
+    same made holds result ended is left =
+    absurd gives
+given_up client lease old held late new e f (Err (lease_errors.Lost seen)) taken works gives same
+    made holds result ended is left =
+    absurd gives
+
+-- only a release that failed is a fault then
+done_then_failed : (client : List ℕ) (lease : Lease) (old held : DeskNow) (late : WorkNow)
+    (new : DeskNow) (e : SyncErr) (released : Result (Unit {0}) LeaseErr)
+    → HasTaken client lease old held → Works (work held lease new_report) (Ok tt) late
+    → Releases late.lease late.desk.line new.line released
+    → Makes (leave_calls late.lease.kind late.lease.client) late.desk.line.trail new.line.trail
+    released
+    → (result : Result (Unit {0}) SyncErr) → result ≡ Err e
+    → result ≡ answer_of released (Ok tt)
+    → IsSyncReleased client old (Err e) new
+done_then_failed client lease old held late new e (Ok done) taken works gives made result
+    ended is =
+    absurd cc
+done_then_failed client lease old held late new e (Err lease_errors.TargetFault) taken works gives
+    made result ended is =
+    let it : TargetFault ≡ e = cc in
+    let went = works.0.went in
+    let fails = fails_as client late.lease.client old.line late.desk.line new.line
+    (client_is lease late.lease went.same ∙ own_client client lease old held taken)
+    (omega (arith, taken.goes.line.later, went.goes.line.later)) gives.fails in
+    subst (λ (x : SyncErr). IsSyncReleased client old (Err x) new) it
+    (fails, over_released client new.line.trail fails.failed.over)
+done_then_failed client lease old held late new e (Err lease_errors.NoMemory) taken works gives
+    made result ended is =
+    let it : NoMemory ≡ e = cc in
+    subst (λ (x : SyncErr). IsSyncReleased client old (Err x) new) it
+    (unfailed_given client lease old held late new (Ok tt) taken works refl made)
+done_then_failed client lease old held late new e (Err (lease_errors.Busy lock now)) taken works
+    gives made result ended is =
+    absurd gives
+done_then_failed client lease old held late new e (Err (lease_errors.Lost seen)) taken works gives
+    made result ended is =
+    absurd gives
+
+keeper_rose : (client : List ℕ) (lease : Lease) (old held : DeskNow) (late : WorkNow)
+    (new : DeskNow) → HasTaken client lease old held
+    → Works (work held lease new_report) (Err KeeperFault) late → IsSameDesk late.desk new
+    → HasRisen old.keeper.faults new.keeper.faults
+keeper_rose client lease old held late new taken works same =
+    subst (λ (k : KeeperNow). HasRisen old.keeper.faults k.faults) (sym same.keeper)
+    (subst (λ (k : KeeperNow). HasRisen k.faults late.desk.keeper.faults) taken.same.keeper
+    works.rose)
+
+-- by what the work came to
+released_by : (client : List ℕ) (lease : Lease) (old held : DeskNow) (late : WorkNow)
+    (new : DeskNow) (e : SyncErr) (worked result : Result (Unit {0}) SyncErr)
+    → result ≡ Err e → HasTaken client lease old held
+    → Works (work held lease new_report) worked late
+    → Leaves late.lease worked late.desk result new
+    → IsSyncReleased client old (Err e) new
+released_by client lease old held late new e (Ok done) result ended taken works leaves =
+    done_then_failed client lease old held late new e leaves.released taken works leaves.gives
+    leaves.calls result ended leaves.is
+released_by client lease old held late new e (Err (Busy lock now)) result ended taken works leaves =
+    absurd works
+released_by client lease old held late new e (Err (LeaseLost seen)) result ended taken works leaves
+    =
+    let missed = missed_as client lease old held late.desk.line.trail works.1.0 seen taken works.1.1
+    in
+    refused_as client old late new e (LeaseLost seen) (Err (LeaseLost seen)) result refl ended leaves
+    ((Renewing Sync works.1.0, missed), over_released client late.desk.line.trail missed.left.over)
+released_by client lease old held late new e (Err TargetFault) result ended taken works leaves =
+    let fails = fails_as client lease.client old.line held.line late.desk.line
+    (own_client client lease old held taken) taken.goes.line.later works.1 in
+    refused_as client old late new e TargetFault (Err TargetFault) result refl ended leaves
+    (fails, over_released client late.desk.line.trail fails.failed.over)
+released_by client lease old held late new e (Err NoMemory) result ended taken works leaves =
+    refused_as client old late new e NoMemory (Err NoMemory) result refl ended leaves
+    (none_failed_on old.line.trail held.line.trail late.desk.line.trail
+    (unfailed_taken client lease old held taken) works.heard)
+released_by client lease old held late new e (Err KeeperFault) result ended taken works leaves =
+    given_up client lease old held late new e KeeperFault leaves.released taken works leaves.gives
+    leaves.same leaves.calls refl result ended leaves.is
+    (λ left released.
+    ((left, keeper_rose client lease old held late new taken works leaves.same), released))
+released_by client lease old held late new e (Err (TargetOlder version)) result ended taken works
+    leaves =
+    given_up client lease old held late new e (TargetOlder version) leaves.released taken works
+    leaves.gives leaves.same leaves.calls refl result ended leaves.is
+    (λ left released. (left, released))
+released_by client lease old held late new e (Err (TargetNewer version)) result ended taken works
+    leaves =
+    given_up client lease old held late new e (TargetNewer version) leaves.released taken works
+    leaves.gives leaves.same leaves.calls refl result ended leaves.is
+    (λ left released. (left, released))
+released_by client lease old held late new e (Err BadInfo) result ended taken works leaves =
+    given_up client lease old held late new e BadInfo leaves.released taken works
+    leaves.gives leaves.same leaves.calls refl result ended leaves.is
+    (λ left released. (left, released))
+released_by client lease old held late new e (Err (FailSafe count)) result ended taken works leaves
+    =
+    given_up client lease old held late new e (FailSafe count) leaves.released taken works
+    leaves.gives leaves.same leaves.calls refl result ended leaves.is
+    (λ left released. (left, released))
+released_by client lease old held late new e (Err (NoKey key)) result ended taken works leaves =
+    given_up client lease old held late new e (NoKey key) leaves.released taken works
+    leaves.gives leaves.same leaves.calls refl result ended leaves.is
+    (λ left released. (left, released))
+
+-- a report that is new
+pub ends_from : (lease : Lease) (old : DeskNow) (report other : SyncReport)
+    (result : Result (Unit {0}) SyncErr) (new : DeskNow) (after : SyncReport) → report ≡ other
+    → EndsWork lease old report result new after → EndsWork lease old other result new after
+ends_from lease old report other result new after same h =
+    subst (λ (r : SyncReport). EndsWork lease old r result new after) same h
+
+pub released_work : (client : List ℕ) (lease : Lease) (old held new : DeskNow) (e : SyncErr)
+    (after : SyncReport) (result : Result (Unit {0}) SyncErr) → result ≡ Err e
+    → HasTaken client lease old held → EndsWork lease held new_report result new after
+    → IsSyncReleased client old (Err e) new
+released_work client lease old held new e after result ended taken h =
+    released_by client lease old held h.late new e h.worked result ended taken h.works h.leaves
