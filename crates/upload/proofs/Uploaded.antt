@@ -1,5 +1,5 @@
 -- How an upload's parts are told of one row.
-use Rattle.std.specs.Prelude.{ℕ, ◌≡◌, List, Bool, true, false, ◌&&◌, is_none, if◌then◌else◌, Option, Some, None, Result, refl}
+use Rattle.std.specs.Prelude.{ℕ, ◌≡◌, List, Bool, true, false, ◌&&◌, is_none, if◌then◌else◌, Option, Some, None, Result, Ok, Err, refl}
 use Rattle.std.proofs.Common.{sym, ap, subst, ◌∙◌}
 use Rattle.conflicts.specs.declared.error.StepErr.{StepErr}
 use Rattle.desk.specs.Desks.{DeskNow}
@@ -101,3 +101,11 @@ uploads_found blobs id row a b is h =
     does_as (UploadsFound blobs row) (UploadsOne blobs id) is_upload a b
     (λ shown ds. subst (λ (r : Option Row). UploadsFound blobs r (view_of shown a.desk) ds) is)
     h
+
+-- whatever became of it
+pub ends_found : (blobs : Option (List Blob)) (id : List ℕ) (row : Option Row) (a b : WorkNow)
+    (result : Result (Unit {0}) StepErr) → row ≡ waiting (row_at a.desk.tables id)
+    → Ends (UploadsFound blobs row) is_upload a result b
+    → Ends (UploadsOne blobs id) is_upload a result b
+ends_found blobs id row a b (Ok done) is h = uploads_found blobs id row a b is h
+ends_found blobs id row a b (Err e) is h = h

@@ -103,8 +103,9 @@ fn upload_one<S: Desk>(
     let waiting = waiting_row(alloc, site.tables(), id)?;
     match waiting {
         Some(row) => {
-            upload_row(alloc, site, lease, report, &row)?;
-            Ok(())
+            let uploaded = upload_row(alloc, site, lease, report, &row);
+            local_store::let_go(row);
+            uploaded
         }
         None => Ok(()),
     }
