@@ -2,6 +2,7 @@ pub mod History
 pub mod Memory
 pub mod Pages
 pub mod Replies
+pub mod Running
 pub mod Runs
 pub mod Store
 pub mod Texts

@@ -48,7 +48,7 @@ pub record IsListing (dir : Dir) (listing : Listing) : Type 0 where
   pub stamps : All (λ (e : Entry). e.stamp ≤ last_time) listing.entries
   pub rising : IsRising listing.entries
 
--- `Failed` fits every call. `TooLarge` comes exactly for a file that is longer than its limit.
+-- `Failed` fits every call. `TooLarge` comes only for a file that is longer than its limit.
 abbrev pub IsReplyTo : Call → Reply → Type 0
 IsReplyTo call Failed = Unit {0}
 IsReplyTo (ListDir dir) (Listed listing) = IsListing dir listing

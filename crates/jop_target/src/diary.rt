@@ -1,4 +1,6 @@
-ghost use Rattle.std.specs.Prelude.{◌≡◌, ◌++◌, ◌∷◌, [], ◌≤◌, List, OnOk, OnErr, IsOk};
+ghost use Rattle.std.specs.Prelude.{◌≡◌, ◌+◌, ◌++◌, ◌∷◌, [], ◌≤◌, List, OnOk, OnErr, IsOk, true};
+ghost use Rattle.std.specs.Prelude.{vec_capacity, vec_len};
+ghost use Rattle.jop_target.specs.Running.{is_running};
 ghost use Rattle.jop_target.specs.Trail.{last_moment};
 ghost use Rattle.jop_target.specs.declared.event.Event.{Event};
 ghost use Rattle.jop_target.specs.declared.event.Event.TheVariants.{Began, Sent, Called, Made, Ended};
@@ -9,7 +11,7 @@ use crate::reply::Reply;
 use std::alloc::{AllocError, Global};
 use std::marker::Model;
 
-/// What a client did, event by event.
+/// What a client did, event by event. While a session goes on, there is room for its end.
 #[derive(Debug, Drop)]
 pub struct Diary {
     list: Vec<Event>,
@@ -18,23 +20,38 @@ pub struct Diary {
 }
 
 impl Model for Diary {
-    ghost use Rattle.std.specs.Prelude.{◌≡◌, ◌-◌, vec_len, vec_capacity};
+    ghost use Rattle.std.specs.Prelude.{◌+◌, ◌-◌, vec_len, vec_capacity};
     ghost use Rattle.jop_target.specs.Pages.{Pages};
-    ghost use Rattle.jop_target.specs.Trail.{last_moment};
+    ghost use Rattle.jop_target.specs.Running.{IsKept};
 
     ghost Value = { Pages };
 
     ghost view = { λ d. record {
       events = d.list.items;
-      room = vec_capacity d.list - vec_len d.list;
+      room = vec_capacity d.list - (vec_len d.list + 1);
     } };
 
-    ghost invariant = { λ d. d.heard ≡ last_moment d.list.items };
+    ghost invariant = { λ d.
+        IsKept d.list.items d.heard (vec_len d.list) (vec_capacity d.list) };
 }
 
-#[tactic(auto, using(crate::proofs::Moments::moment_from_last))]
+/// Writes an event down, and leaves room for one more.
+fn write(list: &mut Vec<Event>, event: Event) -> Result<(), AllocError>
+    ensures ok { OnOk result (list.new.items ≡ list.old.items ++ event ∷ []) }
+    ensures spare { OnOk result (vec_len list.new + 1 ≤ vec_capacity list.new) }
+    ensures err { OnErr result (list.new.items ≡ list.old.items) }
+    ensures len { OnErr result (vec_len list.new ≡ vec_len list.old) }
+    ensures capacity { vec_capacity list.old ≤ vec_capacity list.new }
+    ensures sure { vec_len list.old + 2 ≤ vec_capacity list.old → IsOk result }
+{
+    list.reserve(2)?;
+    list.push(event)?;
+    Ok(())
+}
+
+#[tactic(auto, using(crate::proofs::Moments::moment_from_last, crate::proofs::Running::runs_from_last))]
 impl Diary {
-    #[tactic(auto, unfolding(crate::specs::Trail::moment_from))]
+    #[tactic(auto, unfolding(crate::specs::Trail::moment_from, crate::specs::Running::runs_from))]
     pub fn new(alloc: Global) -> Diary
         ensures { result.events ≡ [] }
     {
@@ -50,15 +67,16 @@ impl Diary {
         ensures err { OnErr result (self.new.events ≡ self.old.events) }
         ensures sure { 1 ≤ self.old.room → IsOk result }
     {
-        self.list.push(Event::Began)?;
+        write(&mut self.list, Event::Began)?;
         self.heard = 0;
         Ok(())
     }
 
-    /// The session ends.
+    /// The session ends. There is room for that, if one goes on.
     pub fn end(&mut self) -> Result<(), AllocError>
         ensures ok { OnOk result (self.new.events ≡ self.old.events ++ Ended ∷ []) }
         ensures err { OnErr result (self.new.events ≡ self.old.events) }
+        ensures ends { is_running self.old.events ≡ true → IsOk result }
         ensures sure { 1 ≤ self.old.room → IsOk result }
     {
         self.list.push(Event::Ended)?;
@@ -71,16 +89,17 @@ impl Diary {
         ensures err { OnErr result (self.new.events ≡ self.old.events) }
         ensures sure { 1 ≤ self.old.room → IsOk result }
     {
-        self.list.push(Event::Made(number))?;
+        write(&mut self.list, Event::Made(number))?;
         Ok(())
     }
 
-    /// Makes room for one event more, so that the next one can't be refused.
+    /// Makes room for one event more, beside the end of a session, so that the next one can't be
+    /// refused.
     pub fn reserve(&mut self) -> Result<(), AllocError>
         ensures same { self.new.events ≡ self.old.events }
         ensures room { OnOk result (1 ≤ self.new.room) }
     {
-        self.list.reserve(1)?;
+        self.list.reserve(2)?;
         Ok(())
     }
 
@@ -103,7 +122,7 @@ impl Diary {
         ensures ok { OnOk result (self.new.events ≡ self.old.events ++ Sent call ∷ []) }
         ensures err { OnErr result (self.new.events ≡ self.old.events) }
     {
-        self.list.push(Event::Sent(call))?;
+        write(&mut self.list, Event::Sent(call))?;
         Ok(())
     }
 

@@ -15,7 +15,7 @@ use std::alloc::{AllocError, Global};
 use std::marker::Model;
 
 /// A target in memory, which tells what it holds: a store, a clock that goes on at each call, and
-/// calls that are to fail. Out of memory, it is as before the call.
+/// calls that are to fail.
 #[derive(Debug, Drop)]
 pub struct MemTarget {
     store: MemStore,

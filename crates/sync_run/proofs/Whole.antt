@@ -1,5 +1,5 @@
 -- A session from its begin to its end.
-use Rattle.std.proofs.Common.{◌≡◌, ◌⊎◌, ◌∙◌, refl, sym, ap, subst, inl, inr, arith, ℕ, suc, List, [], ◌∷◌, ◌++◌, append_assoc, append-nil, true, false, Result, Ok, Err}
+use Rattle.std.proofs.Common.{◌≡◌, ◌∙◌, refl, sym, ap, subst, arith, ℕ, suc, List, [], ◌∷◌, ◌++◌, append_assoc, append-nil, true, false, Result, Ok, Err}
 use Rattle.std.specs.Prelude.{All}
 use Rattle.std.proofs.lemmas.List.{append_cancel_left, append_cancel_right}
 use Rattle.jop_base.specs.declared.lock_name.LockKind.{LockKind}
@@ -24,7 +24,7 @@ use Rattle.target_upgrade.proofs.Courses.{course_from-last}
 use Rattle.target_upgrade.proofs.Whole.{course_of-begun, keeps_begun, keeps_none, keeps_whole, stage_left}
 use Rattle.sync_run.proofs.Held.{goes_acquired}
 use Rattle.sync_run.proofs.Starved.{none_failed_begun, none_failed_unbegun}
-use Rattle.sync_run.specs.Sessions.{AddsSession, HasBegun, HasNoEnd, IsMarkOr, IsOpen, IsReleased, IsWhole, has_ended}
+use Rattle.sync_run.specs.Sessions.{AddsSession, HasBegun, IsMarkOr, IsOpen, IsReleased, IsWhole, has_ended}
 use Rattle.sync_run.specs.Upgrades.{UpgradeAnswers}
 use Rattle.sync_run.specs.declared.session_err.SessionErr.{SessionErr}
 use Rattle.sync_run.specs.declared.session_err.SessionErr.TheVariants.{Busy, LeaseLost, TargetNewer, BadInfo, TargetFault, NoMemory}
@@ -106,13 +106,11 @@ adds_ended P B client old new start mid (Err BadInfo) inner begun runs released 
 adds_ended P B client old new start mid (Err TargetFault) inner begun runs released ended ends =
     whole P B client old new start mid (Err TargetFault) inner begun runs released.0 released.1 ends
 
-adds_open : {T : Type 0} (P : Event → Type 0) (B : List Event → Result T SessionErr → Type 0)
-    (client : List ℕ) (old new : List Event)
+adds_open : (P : Event → Type 0) (client : List ℕ) (old new : List Event)
     (start mid : LineNow) → Calls P → start.trail ≡ old ++ Began ∷ [] →
-    RunsOn P client start mid →
-    NoneFailed start.trail mid.trail ⊎ HasNoEnd B mid.trail →
-    new ≡ mid.trail → IsOpen P B client old new
-adds_open P B client old new start mid inner begun runs why same =
+    RunsOn P client start mid → NoneFailed start.trail mid.trail → new ≡ mid.trail →
+    IsOpen P client old new
+adds_open P client old new start mid inner begun runs none same =
     let more = runs.goes.line.more in
     let at = at_seam old more start.trail mid.trail begun runs.goes.line.trail in
     let adds = adds_begun P client old new start mid inner begun runs.goes same in
@@ -122,25 +120,20 @@ adds_open P B client old new start mid inner begun runs why same =
       begun = adds;
       work = subst (KeepsVersions client)
           (append_cancel_left old (Began ∷ more) adds.more (sym (same ∙ at) ∙ adds.trail)) kept;
-      why = elim why [
-        | inl none ↦ inl (none_failed_begun old start.trail mid.trail adds.more begun none
-            (sym same ∙ adds.trail))
-        | inr none ↦ inr (subst (λ (es : List Event). HasNoEnd B es) (sym same) none)
-      ];
+      heard = none_failed_begun old start.trail mid.trail adds.more begun none
+          (sym same ∙ adds.trail);
     }
 
-pub adds_nothing : {T : Type 0} (P : Event → Type 0)
-    (B : List Event → Result T SessionErr → Type 0) (client : List ℕ) (old new : List Event) →
-    new ≡ old →
-    IsOpen P B client old new
-adds_nothing P B client old new same =
+pub adds_nothing : (P : Event → Type 0) (client : List ℕ) (old new : List Event) → new ≡ old →
+    IsOpen P client old new
+adds_nothing P client old new same =
     let adds = adds_none P client old new same in
     record {
       begun = adds;
       work = subst (KeepsVersions client)
           (append_cancel_left old [] adds.more (append-nil old ∙ (sym same ∙ adds.trail)))
           (keeps_none client);
-      why = inl (none_failed_unbegun old new adds.more same adds.trail);
+      heard = none_failed_unbegun old new adds.more same adds.trail;
     }
 
 not_ended : {T : Type 0} (result : Result T SessionErr) → has_ended result ≡ false →
@@ -161,34 +154,7 @@ pub adds_unended : {T : Type 0} (P : Event → Type 0)
     new ≡ mid.trail → AddsSession P B client old new result
 adds_unended P B client old new start mid result inner begun runs heard ended same =
     let starved = not_ended result ended in
-    rw starved
-    (adds_open P B client old new start mid inner begun runs (inl (heard starved)) same)
-
-because_ended : {T : Type 0} (B : List Event → Result T SessionErr → Type 0) (client : List ℕ)
-    (trail : List Event) (result : Result T SessionErr) → has_ended result ≡ true →
-    IsReleased B client trail result → B trail result
-because_ended B client trail (Ok value) ended h = h.0
-because_ended B client trail (Err (Busy lock now)) ended h = h.0
-because_ended B client trail (Err (LeaseLost seen)) ended h = h.0
-because_ended B client trail (Err (TargetNewer version)) ended h = h.0
-because_ended B client trail (Err BadInfo) ended h = h.0
-because_ended B client trail (Err TargetFault) ended h = h.0
-because_ended B client trail (Err NoMemory) ended h = absurd cc
-
--- its end couldn't be written down
-pub adds_endless : {T : Type 0} (P : Event → Type 0)
-    (B : List Event → Result T SessionErr → Type 0) (client : List ℕ) (old new : List Event)
-    (start mid : LineNow) (result : Result T SessionErr) → Calls P →
-    start.trail ≡ old ++ Began ∷ [] → RunsOn P client start mid →
-    IsReleased B client mid.trail result → has_ended result ≡ true → new ≡ mid.trail →
-    AddsSession P B client old new (Err NoMemory)
-adds_endless P B client old new start mid result inner begun runs released ended same =
-    adds_open P B client old new start mid inner begun runs
-    (inr (record {
-      answer = result;
-      ended = ended;
-      because = because_ended B client mid.trail result ended released;
-    })) same
+    rw starved (adds_open P client old new start mid inner begun runs (heard starved) same)
 
 pub as_marked : (P : Event → Type 0) (old new : LineNow) → Continues P old new →
     Continues (IsMarkOr P) old new

@@ -1,5 +1,5 @@
 -- A session from its begin to its end.
-use Rattle.std.specs.Prelude.{◌≡◌, ◌⊎◌, ℕ, List, ◌∷◌, [], ◌++◌, Bool, true, false, Result, Err}
+use Rattle.std.specs.Prelude.{◌≡◌, ℕ, List, ◌∷◌, [], ◌++◌, Bool, true, false, Result, Err}
 use Rattle.jop_target.specs.declared.event.Event.{Event}
 use Rattle.jop_target.specs.declared.event.Event.TheVariants.{Began, Ended}
 use Rattle.jop_target.specs.Runs.{has_failed}
@@ -52,26 +52,17 @@ pub record IsWhole {T : Type 0} (P : Event → Type 0)
   pub work : KeepsVersions client (Began ∷ (whole.middle ++ Ended ∷ []))
   pub because : Because (old ++ Began ∷ whole.middle) result
 
--- the session came to this answer, but its end isn't written down
-pub record HasNoEnd {T : Type 0} (Because : List Event → Result T SessionErr → Type 0)
-    (trail : List Event) : Type 0 where
-  pub answer : Result T SessionErr
-  pub ended : has_ended answer ≡ true
-  pub because : Because trail answer
-
--- Nothing was added, or such a session that hasn't ended: memory ran out when no call had failed, or
--- the session came to another answer, and only its end couldn't be written down.
-pub record IsOpen {T : Type 0} (P : Event → Type 0)
-    (Because : List Event → Result T SessionErr → Type 0) (client : List ℕ) (old new : List Event)
-    : Type 0 where
+-- Out of memory nothing was added, or such a session that hasn't ended. No call of it was answered
+-- `Failed`: a failed call is never told as want of memory.
+pub record IsOpen (P : Event → Type 0) (client : List ℕ) (old new : List Event) : Type 0 where
   pub begun : AddsBegun P client old new
   pub work : KeepsVersions client begun.more
-  pub why : (has_failed begun.more ≡ false) ⊎ HasNoEnd Because new
+  pub heard : has_failed begun.more ≡ false
 
 abbrev pub AddsSession : {T : Type 0} → (Event → Type 0) →
     (List Event → Result T SessionErr → Type 0) → List ℕ → List Event → List Event →
     Result T SessionErr → Type 0
-AddsSession P Because client old new (Err NoMemory) = IsOpen P Because client old new
+AddsSession P Because client old new (Err NoMemory) = IsOpen P client old new
 AddsSession P Because client old new result = IsWhole P Because client old new result
 
 -- an event as `P` says, or an end of the session

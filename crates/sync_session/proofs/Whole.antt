@@ -1,6 +1,6 @@
 -- A sync from its begin to its end.
 use Rattle.std.specs.Prelude.{ℕ, ◌≡◌, ◌+◌, List, [], ◌∷◌, ◌++◌, length, true, false, Some, None, option_map, Result, Ok, Err, refl}
-use Rattle.std.proofs.Common.{sym, ◌∙◌, ap, subst, append-nil, append_assoc, inl, inr}
+use Rattle.std.proofs.Common.{sym, ◌∙◌, ap, subst, append-nil, append_assoc}
 use Rattle.std.proofs.lemmas.List.{append_cancel_left}
 use Rattle.conflicts.specs.declared.report.SyncReport.{SyncReport}
 use Rattle.desk.specs.Desks.{DeskNow}
@@ -9,6 +9,7 @@ use Rattle.jop_target.specs.declared.event.Event.TheVariants.{Began, Sent, Calle
 use Rattle.lease.proofs.WholeSessions.{adds_begun, adds_none, adds_whole, at_seam, begun_stands}
 use Rattle.lease.specs.Discipline.{ends_released, phase_of}
 use Rattle.lease.specs.WholeSession.{IsInner}
+use Rattle.lease.specs.Work.{NoneFailed}
 use Rattle.licences.proofs.Joins.{Each-append}
 use Rattle.licences.proofs.Told.{calls_from-append, changes_in-append, events_of-append}
 use Rattle.licences.specs.Trails.{calls_from, session_calls}
@@ -20,6 +21,7 @@ use Rattle.local_store.specs.declared.tables.Tables.{Tables}
 use Rattle.session_steps.proofs.Leased.{kept-same}
 use Rattle.session_steps.specs.Saving.{kept_after}
 use Rattle.session_steps.specs.Steps.{IsStep}
+use Rattle.sync_run.proofs.Starved.{none_failed_begun, none_failed_unbegun}
 use Rattle.sync_run.proofs.Whole.{before_end}
 use Rattle.target_upgrade.proofs.Courses.{course_from-last}
 use Rattle.target_upgrade.proofs.Whole.{keeps_begun, keeps_none, keeps_whole}
@@ -165,22 +167,28 @@ whole_sync client t u old mid result ended released goes tells =
       answers = done.0;
     }
 
--- whatever it came to
-answered : (client : List ℕ) (a b : DeskNow) (result : Result SyncReport SyncErr)
-    → IsSyncReleased client a result b → SyncAnswers client a result b
-answered client a b (Ok report) h = h.0
-answered client a b (Err (Busy lock now)) h = h.0
-answered client a b (Err (LeaseLost seen)) h = h.0
-answered client a b (Err (TargetOlder version)) h = h.0
-answered client a b (Err (TargetNewer version)) h = h.0
-answered client a b (Err BadInfo) h = h.0
-answered client a b (Err (FailSafe count)) h = h.0
-answered client a b (Err (NoKey key)) h = h.0
-answered client a b (Err TargetFault) h = h.0
-answered client a b (Err KeeperFault) h = h.0
-answered client a b (Err NoMemory) h = h
-
 -- ---- it hasn't
+
+not_ended : (result : Result SyncReport SyncErr) → has_ended result ≡ false
+    → result ≡ Err NoMemory
+not_ended (Ok report) h = cc
+not_ended (Err (Busy lock now)) h = cc
+not_ended (Err (LeaseLost seen)) h = cc
+not_ended (Err (TargetOlder version)) h = cc
+not_ended (Err (TargetNewer version)) h = cc
+not_ended (Err BadInfo) h = cc
+not_ended (Err (FailSafe count)) h = cc
+not_ended (Err (NoKey key)) h = cc
+not_ended (Err TargetFault) h = cc
+not_ended (Err KeeperFault) h = cc
+not_ended (Err NoMemory) h = refl
+
+-- no call of it has failed
+unfailed : (client : List ℕ) (a b : DeskNow) (result : Result SyncReport SyncErr)
+    → has_ended result ≡ false → IsSyncReleased client a result b
+    → NoneFailed a.line.trail b.line.trail
+unfailed client a b result ended h =
+    subst (λ (r : Result SyncReport SyncErr). IsSyncReleased client a r b) (not_ended result ended) h
 
 -- which tables are at hand in the end doesn't matter
 told_at : (t u : Tables) (old : DeskNow) (v : View) (mid : SyncNow) → TellsWork v old (desk_at u mid)
@@ -200,12 +208,12 @@ told_at t u old v mid h = record {
 }
 
 pub open_sync : (client : List ℕ) (t u : Tables) (old mid : SyncNow)
-    (result : Result SyncReport SyncErr)
+    (result : Result SyncReport SyncErr) → has_ended result ≡ false
     → IsSyncReleased client (begun_at t old) result (desk_at u mid)
     → SyncGoesOn client (begun_at t old).line mid.line
     → TellsWork (begun_view t) (begun_at t old) (desk_at u mid)
     → IsOpenSync client t old mid
-open_sync client t u old mid result released goes tells =
+open_sync client t u old mid result ended released goes tells =
     let P = IsStep is_sync client in
     let start = (begun_at t old).line in
     let adds = adds_begun P client old.line.trail mid.line.trail start mid.line
@@ -220,12 +228,8 @@ open_sync client t u old mid result released goes tells =
           (keeps_begun client old.line.trail more
           (λ i d lt. inner_step client _ (goes.goes.line.each i d lt))
           (ap (λ (es : List Event). (course_of client es).lawful) (sym at) ∙ goes.work));
-      why = inr (record {
-        answer = result;
-        last = desk_at u mid;
-        stands = refl;
-        answers = answered client (begun_at t old) (desk_at u mid) result released;
-      });
+      heard = none_failed_begun old.line.trail start.trail mid.line.trail adds.more refl
+          (unfailed client (begun_at t old) (desk_at u mid) result ended released) adds.trail;
     }
 
 pub none_open : (client : List ℕ) (t : Tables) (old new : SyncNow)
@@ -240,7 +244,7 @@ none_open client t old new trail made kept =
           (append_cancel_left old.line.trail [] adds.more
           (append-nil old.line.trail ∙ (sym trail ∙ adds.trail)))
           (keeps_none client);
-      why = inl trail;
+      heard = none_failed_unbegun old.line.trail new.line.trail adds.more trail adds.trail;
     }
 
 -- ---- with the begin as it was written down
@@ -261,14 +265,15 @@ abbrev pub started : SyncNow → List Event → SyncNow
 started s trail = record s { line = record s.line { trail = trail } }
 
 pub open_after : (client : List ℕ) (t u : Tables) (old mid : SyncNow) (begun trail : List Event)
-    (result : Result SyncReport SyncErr) → begun ≡ old.line.trail ++ Began ∷ []
+    (result : Result SyncReport SyncErr) → has_ended result ≡ false
+    → begun ≡ old.line.trail ++ Began ∷ []
     → IsSyncReleased client (desk_at t (started old begun)) result (desk_at u mid)
     → SyncGoesOn client (started old begun).line mid.line
     → TellsWork (begun_view t) (desk_at t (started old begun)) (desk_at u mid)
     → trail ≡ mid.line.trail → IsOpenSync client t old (started mid trail)
-open_after client t u old mid begun trail result is released goes tells same =
+open_after client t u old mid begun trail result ended is released goes tells same =
     subst (λ (es : List Event). IsOpenSync client t old (started mid es)) (sym same)
-    (open_sync client t u old mid result
+    (open_sync client t u old mid result ended
     (subst (λ (es : List Event).
     IsSyncReleased client (desk_at t (started old es)) result (desk_at u mid)) is released)
     (subst (λ (es : List Event). SyncGoesOn client (started old es).line mid.line) is goes)
@@ -307,20 +312,6 @@ adds_whole_from client t old new (Err (NoKey key)) ended h = h
 adds_whole_from client t old new (Err TargetFault) ended h = h
 adds_whole_from client t old new (Err KeeperFault) ended h = h
 adds_whole_from client t old new (Err NoMemory) ended h = absurd cc
-
-not_ended : (result : Result SyncReport SyncErr) → has_ended result ≡ false
-    → result ≡ Err NoMemory
-not_ended (Ok report) h = cc
-not_ended (Err (Busy lock now)) h = cc
-not_ended (Err (LeaseLost seen)) h = cc
-not_ended (Err (TargetOlder version)) h = cc
-not_ended (Err (TargetNewer version)) h = cc
-not_ended (Err BadInfo) h = cc
-not_ended (Err (FailSafe count)) h = cc
-not_ended (Err (NoKey key)) h = cc
-not_ended (Err TargetFault) h = cc
-not_ended (Err KeeperFault) h = cc
-not_ended (Err NoMemory) h = refl
 
 pub adds_open_from : (client : List ℕ) (t : Tables) (old new : SyncNow)
     (result : Result SyncReport SyncErr) → has_ended result ≡ false

@@ -1,5 +1,5 @@
 -- A whole sync, from its begin to its end, and why it answers as it does.
-use Rattle.std.specs.Prelude.{ℕ, ◌≡◌, ◌⊎◌, List, [], ◌∷◌, ◌++◌, Bool, true, false, None, Result, Ok, Err}
+use Rattle.std.specs.Prelude.{ℕ, ◌≡◌, List, [], ◌∷◌, ◌++◌, Bool, true, false, None, Result, Ok, Err}
 use Rattle.conflicts.specs.Reports.{new_report}
 use Rattle.conflicts.specs.declared.report.SyncReport.{SyncReport}
 use Rattle.desk.specs.Desks.{DeskNow, IsSameDesk}
@@ -7,6 +7,7 @@ use Rattle.jop_outside.specs.Outside.{HasRisen}
 use Rattle.jop_base.specs.declared.lock_name.LockKind.TheVariants.{Sync}
 use Rattle.jop_base.specs.declared.path.Path.TheVariants.{Lock as LockFile}
 use Rattle.jop_target.specs.Replies.{TargetNow}
+use Rattle.jop_target.specs.Runs.{has_failed}
 use Rattle.jop_target.specs.Trail.{LineNow}
 use Rattle.jop_target.specs.declared.call.Call.TheVariants.{Delete}
 use Rattle.jop_target.specs.declared.event.Event.{Event}
@@ -161,24 +162,13 @@ pub record IsWholeSync (client : List ℕ) (t : Tables) (old : SyncNow)
   pub ended : new ≡ ended_at last
   pub answers : SyncAnswers client (begun_at t old) result last
 
--- what is seen of the client in the end
-abbrev pub seen_at : DeskNow → SyncNow
-seen_at d = record { line = d.line; keeper = d.keeper; made = d.made }
-
--- the session came to this answer, but its end isn't written down
-pub record HasNoEnd (client : List ℕ) (t : Tables) (old new : SyncNow) : Type 0 where
-  pub answer : Result SyncReport SyncErr
-  pub last : DeskNow
-  pub stands : new ≡ seen_at last
-  pub answers : SyncAnswers client (begun_at t old) answer last
-
--- Nothing was added, or such a session that hasn't ended: memory ran out before its end, when no
--- call had failed, or only for the writing down of its end.
+-- Out of memory nothing was added, or such a session that hasn't ended. No call of it was answered
+-- `Failed`: a failed call is never told as want of memory.
 pub record IsOpenSync (client : List ℕ) (t : Tables) (old new : SyncNow) : Type 0 where
   pub tells : Tells (at_rest t) (desk_at t old) (desk_at t new)
   pub begun : AddsBegun (IsStep is_sync client) client old.line.trail new.line.trail
   pub versions : KeepsVersions client begun.more
-  pub why : (new.line.trail ≡ old.line.trail) ⊎ HasNoEnd client t old new
+  pub heard : has_failed begun.more ≡ false
 
 -- what a sync from these tables adds, by its answer
 abbrev pub AddsFrom : List ℕ → Tables → SyncNow → Result SyncReport SyncErr → SyncNow → Type 0

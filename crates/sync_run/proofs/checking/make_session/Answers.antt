@@ -1,4 +1,4 @@
-use Rattle.std.proofs.Common.{◌∙◌, refl, sym}
+use Rattle.std.proofs.Common.{◌≡◌, ◌∙◌, refl, sym, true, false}
 use Rattle.std.proofs.lemmas.Result.{err_from_is_err_and}
 use Rattle.jop_target.proofs.Runs.{continues_on}
 use Rattle.lease.proofs.WholeSessions.{continues_marked, continues_unmarked}
@@ -6,7 +6,8 @@ use Rattle.lease.specs.Calls.{IsLeaseEvent}
 use Rattle.sync_run.specs.Checks.{CheckAnswers}
 use Rattle.sync_run.specs.Sessions.{IsMarkOr}
 use Rattle.sync_run.proofs.Held.{has_begun}
-use Rattle.sync_run.proofs.Whole.{adds_ended, adds_nothing, adds_endless, adds_unended, as_marked, lease_inner, runs_lease}
+use Rattle.sync_run.proofs.Starved.{still_running}
+use Rattle.sync_run.proofs.Whole.{adds_ended, adds_nothing, adds_unended, as_marked, lease_inner, runs_lease}
 use Rattle.sync_run.proofs.checking.make_session.Goals as goal
 
 pub hold-outcome-requires : goal.hold-outcome-requires
@@ -15,24 +16,18 @@ hold-outcome-requires g c = has_begun _ _ _ c.in_ok-begin.ensures.ok
 pub returns-in_err-begin-clause-session : goal.returns-in_err-begin-clause-session
 returns-in_err-begin-clause-session g c =
     let p = err_from_is_err_and c.from_residual.result c.from_residual.ensures.1 in
-    rw (p.1, p.2)
-    (adds_nothing (IsLeaseEvent c.args.client.now) (CheckAnswers c.args.client.now) _ _ _
-    c.in_err-begin.ensures.err)
+    rw (p.1, p.2) (adds_nothing (IsLeaseEvent c.args.client.now) _ _ _ c.in_err-begin.ensures.err)
 
 pub returns-in_err-begin-clause-line : goal.returns-in_err-begin-clause-line
 returns-in_err-begin-clause-line g c =
     continues_unmarked (IsMarkOr (IsLeaseEvent c.args.client.now)) _ _ _ c.in_err-begin.ensures.err
 
+-- there was room for the end
 pub returns-in_err-end-clause-session : goal.returns-in_err-end-clause-session
 returns-in_err-end-clause-session g c =
-    let p = err_from_is_err_and c.from_residual-in_err-end.result
-    c.from_residual-in_err-end.ensures.1 in
-    rw (p.1, p.2)
-    (adds_endless (IsLeaseEvent c.args.client.now) (CheckAnswers c.args.client.now) _ _ _ _ _ _
-    (lease_inner _) c.in_ok-begin.ensures.ok
-    (runs_lease _ _ _ (has_begun _ _ _ c.in_ok-begin.ensures.ok) c.hold-outcome.ensures.goes)
-    c.hold-outcome.ensures.released (sym c.has_ended.ensures ∙ c.if-has_ended.true)
-    c.in_err-end.ensures.err)
+    let refused : false ≡ true =
+    c.in_err-end.ensures.ends (still_running _ _ c.hold-outcome.ensures.goes.running) in
+    absurd cc
 
 pub returns-in_ok-end-clause-session : goal.returns-in_ok-end-clause-session
 returns-in_ok-end-clause-session g c =
@@ -51,11 +46,9 @@ returns-in_ok-end-clause-line g c =
 
 pub returns-in_err-end-clause-line : goal.returns-in_err-end-clause-line
 returns-in_err-end-clause-line g c =
-    let P = IsMarkOr (IsLeaseEvent c.args.client.now) in
-    continues_on P _ _ _
-    (continues_on P _ _ _ (continues_marked P _ _ _ _ refl tt c.in_ok-begin.ensures.ok)
-    (as_marked (IsLeaseEvent c.args.client.now) _ _ c.hold-outcome.ensures.goes.line))
-    (continues_unmarked P _ _ _ c.in_err-end.ensures.err)
+    let refused : false ≡ true =
+    c.in_err-end.ensures.ends (still_running _ _ c.hold-outcome.ensures.goes.running) in
+    absurd cc
 
 pub returns-else-has_ended-clause-session : goal.returns-else-has_ended-clause-session
 returns-else-has_ended-clause-session g c =

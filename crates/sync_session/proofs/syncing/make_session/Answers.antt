@@ -1,8 +1,9 @@
-use Rattle.std.proofs.Common.{◌∙◌, refl, sym}
+use Rattle.std.proofs.Common.{◌≡◌, ◌∙◌, refl, sym, true, false}
 use Rattle.std.proofs.lemmas.Result.{err_from_is_err_and}
 use Rattle.jop_target.proofs.Runs.{continues_on}
 use Rattle.lease.proofs.WholeSessions.{continues_marked, continues_unmarked}
 use Rattle.session_steps.specs.Steps.{IsStep}
+use Rattle.sync_run.proofs.Starved.{still_running}
 use Rattle.sync_run.proofs.Whole.{as_marked}
 use Rattle.sync_run.specs.Sessions.{IsMarkOr}
 use Rattle.sync_session.proofs.Whole.{adds_open_from, adds_whole_from, has_begun_sync, none_open, open_after, whole_after}
@@ -22,21 +23,18 @@ returns-in_err-begin-clause-line g c =
     continues_unmarked (IsMarkOr (IsStep is_sync c.args.client.now)) _ _ _
     c.in_err-begin.ensures.err
 
+-- there was room for the end
 pub returns-in_err-end-clause-session : goal.returns-in_err-end-clause-session
 returns-in_err-end-clause-session g c =
-    let p = err_from_is_err_and c.from_residual-in_err-end.result
-    c.from_residual-in_err-end.ensures.1 in
-    rw (p.1, p.2)
-    (open_after _ _ _ _ _ _ _ _ c.in_ok-begin.ensures.ok c.hold-outcome.ensures.released
-    c.hold-outcome.ensures.goes c.hold-outcome.ensures.tells c.in_err-end.ensures.err)
+    let refused : false ≡ true =
+    c.in_err-end.ensures.ends (still_running _ _ c.hold-outcome.ensures.goes.goes.running) in
+    absurd cc
 
 pub returns-in_err-end-clause-line : goal.returns-in_err-end-clause-line
 returns-in_err-end-clause-line g c =
-    let P = IsMarkOr (IsStep is_sync c.args.client.now) in
-    continues_on P _ _ _
-    (continues_on P _ _ _ (continues_marked P _ _ _ _ refl tt c.in_ok-begin.ensures.ok)
-    (as_marked (IsStep is_sync c.args.client.now) _ _ c.hold-outcome.ensures.goes.goes.line))
-    (continues_unmarked P _ _ _ c.in_err-end.ensures.err)
+    let refused : false ≡ true =
+    c.in_err-end.ensures.ends (still_running _ _ c.hold-outcome.ensures.goes.goes.running) in
+    absurd cc
 
 pub returns-in_ok-end-clause-session : goal.returns-in_ok-end-clause-session
 returns-in_ok-end-clause-session g c =
@@ -55,8 +53,9 @@ returns-in_ok-end-clause-line g c =
 
 pub returns-else-has_ended-clause-session : goal.returns-else-has_ended-clause-session
 returns-else-has_ended-clause-session g c =
-    adds_open_from _ _ _ _ _ (sym c.has_ended.ensures ∙ c.if-has_ended.false)
-    (open_after _ _ _ _ _ _ _ _ c.in_ok-begin.ensures.ok c.hold-outcome.ensures.released
+    let unended = sym c.has_ended.ensures ∙ c.if-has_ended.false in
+    adds_open_from _ _ _ _ _ unended
+    (open_after _ _ _ _ _ _ _ _ unended c.in_ok-begin.ensures.ok c.hold-outcome.ensures.released
     c.hold-outcome.ensures.goes c.hold-outcome.ensures.tells refl)
 
 pub returns-else-has_ended-clause-line : goal.returns-else-has_ended-clause-line
