@@ -23,7 +23,7 @@ use Rattle.sync_run.specs.declared.session_err.SessionErr.{SessionErr}
 use Rattle.sync_run.specs.declared.session_err.SessionErr.TheVariants.{Busy, LeaseLost, TargetNewer, BadInfo, TargetFault, NoMemory}
 use Rattle.target_upgrade.specs.Course.{ObeysLease}
 use Rattle.jop_cli.proofs.Licensed.{check_licensed}
-use Rattle.jop_cli.proofs.Runs.{explained_emit, keeps_none, uses_behind}
+use Rattle.jop_cli.proofs.Runs.{explained_emit, keeps_none, unfailed_session, uses_behind}
 use Rattle.jop_cli.proofs.Sessions.{busy_result, failed_session}
 use Rattle.jop_cli.specs.Causes.{IsExplained}
 use Rattle.jop_cli.specs.Commands.Check.{free_line}
@@ -69,7 +69,8 @@ explained_refusal target client before after trail made BadInfo adds uses = absu
 explained_refusal target client before after trail made TargetFault adds uses =
     let failed = failed_session (IsLeaseEvent client) client [] trail adds.whole adds.because in
     (failed, uses.fault failed)
-explained_refusal target client before after trail made NoMemory adds uses = tt
+explained_refusal target client before after trail made NoMemory adds uses =
+    unfailed_session [] adds.begun.more trail adds.begun.trail (All-nil IsChange) adds.heard
 
 explained_check : (target : TargetName) (client : List ℕ) (before after : Outside)
     (trail : List Event) (made : List Change) (result : Result (Unit {0}) SessionErr)

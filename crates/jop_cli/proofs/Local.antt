@@ -10,6 +10,7 @@ use Rattle.exit_status.specs.declared.status.Status.{Status}
 use Rattle.jop_outside.specs.Outside.{HasRisen, SourceNow}
 use Rattle.jop_outside.specs.Random.{EntropyNow}
 use Rattle.jop_target.specs.Replies.{TargetNow}
+use Rattle.jop_target.specs.Runs.{has_failed}
 use Rattle.jop_target.specs.declared.event.Event.{Event}
 use Rattle.jop_target.specs.declared.event.Event.TheVariants.{Made}
 use Rattle.licences.specs.Deeds.{deeds_of}
@@ -33,7 +34,7 @@ use Rattle.table_keeper.specs.Keepers.{KeeperNow, Kept, changed}
 use Rattle.local_store.specs.declared.change.Change.{Change}
 use Rattle.jop_cli.proofs.Licensed.{AllLocal, local_licensed}
 use Rattle.jop_cli.proofs.LocalLicences.{makes_local}
-use Rattle.jop_cli.proofs.Runs.{explained_emit, uses_changes}
+use Rattle.jop_cli.proofs.Runs.{explained_emit, unfailed_uncalled, uses_changes}
 use Rattle.jop_cli.specs.Causes.{IsExplained}
 use Rattle.jop_cli.specs.Commands.Local.{RunsLocally, local_outcome, own_side}
 use Rattle.jop_cli.specs.Commands.Sessions.{IsChange, IsUncalled}
@@ -56,41 +57,41 @@ drawn_fault OneId old new fails = fails
 drawn_fault TwoIds old new fails = fails
 
 explained_refusal : (command : LocalCommand) (before after : Outside) (ran : Ran) (error : LocalErr) →
-    RunsLocally command before ran (Err error) after →
+    RunsLocally command before ran (Err error) after → has_failed ran.trail ≡ false →
     IsExplained (Some (Local command)) before ran (local_status error) after
-explained_refusal command before after ran KeeperFault (inl runs) = runs.failed.risen
-explained_refusal command before after ran KeeperFault (inr runs) = runs.1
-explained_refusal command before after ran SourceFault runs =
+explained_refusal command before after ran KeeperFault (inl runs) heard = runs.failed.risen
+explained_refusal command before after ran KeeperFault (inr runs) heard = runs.1
+explained_refusal command before after ran SourceFault runs heard =
     given_fault (plan_of command).intake before.input after.input runs.ends
-explained_refusal command before after ran ClockFault runs = runs.risen
-explained_refusal command before after ran EntropyFault runs =
+explained_refusal command before after ran ClockFault runs heard = runs.risen
+explained_refusal command before after ran EntropyFault runs heard =
     drawn_fault (plan_of command).draws before.entropy after.entropy runs.fails
-explained_refusal command before after ran (NotFound id) runs =
+explained_refusal command before after ran (NotFound id) runs heard =
     record { command = command; is = refl; runs = runs }
-explained_refusal command before after ran (Sealed id) runs =
+explained_refusal command before after ran (Sealed id) runs heard =
     record { command = command; is = refl; runs = runs }
-explained_refusal command before after ran (TimeEnd id) runs =
+explained_refusal command before after ran (TimeEnd id) runs heard =
     record { command = command; is = refl; runs = runs }
-explained_refusal command before after ran (NotEmpty id) runs =
+explained_refusal command before after ran (NotEmpty id) runs heard =
     record { command = command; is = refl; runs = runs }
-explained_refusal command before after ran (NoConflict number) runs =
+explained_refusal command before after ran (NoConflict number) runs heard =
     record { command = command; is = refl; runs = runs }
-explained_refusal command before after ran (TooLarge len) runs =
+explained_refusal command before after ran (TooLarge len) runs heard =
     inr (record { command = command; is = refl; runs = runs })
-explained_refusal command before after ran NotText runs =
+explained_refusal command before after ran NotText runs heard =
     record { command = command; is = refl; runs = runs }
-explained_refusal command before after ran NoMemory runs = tt
+explained_refusal command before after ran NoMemory runs heard = heard
 
 explained : (command : LocalCommand) (before after : Outside) (ran : Ran)
     (answer : Result (List ℕ) LocalErr) (status : Status) →
-    RunsLocally command before ran answer after →
+    RunsLocally command before ran answer after → has_failed ran.trail ≡ false →
     Emits (local_outcome answer) before.out status after.out →
     IsExplained (Some (Local command)) before ran status after
-explained command before after ran (Ok text) status runs emits =
+explained command before after ran (Ok text) status runs heard emits =
     explained_emit (Some (Local command)) before after ran status text emits
-explained command before after ran (Err error) status runs emits =
+explained command before after ran (Err error) status runs heard emits =
     subst (λ (s : Status). IsExplained (Some (Local command)) before ran s after) (sym emits.0)
-    (explained_refusal command before after ran error runs)
+    (explained_refusal command before after ran error runs heard)
 
 pub early_local : (error : LocalErr) → is_early (local_status error) ≡ true
 early_local KeeperFault = refl
@@ -197,7 +198,8 @@ acts_alone command before after trail made answer status runs spares same emits 
         comes = record { answer = answer; runs = runs; is = refl };
         emits = emits;
       });
-      explained = explained command before after (did trail made) answer status runs emits;
+      explained = explained command before after (did trail made) answer status runs
+          (unfailed_uncalled trail uncalled) emits;
       sessions = uncalled;
       tables = keeps command before after (did trail made) answer runs;
       target = subst (λ (t : TargetNow). UsesTarget before.target trail t) (sym same)

@@ -5,6 +5,7 @@ use Rattle.std.proofs.lemmas.List.Elements.{All-cons, All-nil}
 use Rattle.exit_status.specs.Refusals.{own_status}
 use Rattle.exit_status.specs.Statuses.{is_early}
 use Rattle.jop_outside.specs.Random.{EntropyNow}
+use Rattle.jop_target.specs.declared.event.Event.{Event}
 use Rattle.jop_target.specs.declared.event.Event.TheVariants.{Made}
 use Rattle.local_store.specs.Changing.{after_all}
 use Rattle.table_keeper.specs.Keepers.{KeeperNow, Kept, changed}
@@ -14,8 +15,11 @@ use Rattle.site.specs.Owning.{NamesClient, OwnNow, Owns, own}
 use Rattle.site.specs.Sites.{IsAsBefore, SiteNow}
 use Rattle.site.specs.declared.own_err.OwnErr.{OwnErr}
 use Rattle.site.specs.declared.own_err.OwnErr.TheVariants as own_errors
-use Rattle.jop_cli.proofs.Runs.{keeps_none}
+use Rattle.command_line.specs.declared.verb.Verb.{Verb}
+use Rattle.jop_cli.proofs.Runs.{keeps_none, unfailed_uncalled}
+use Rattle.jop_cli.specs.Causes.{IsExplained}
 use Rattle.jop_cli.specs.Commands.Sessions.{IsChange, IsUncalled}
+use Rattle.jop_cli.specs.Outside.{Outside, did}
 use Rattle.jop_cli.specs.Run.{KeepsChanges, with_changes}
 
 pub early_own : (error : OwnErr) → is_early (own_status error) ≡ true
@@ -69,3 +73,14 @@ unowned before after own_errors.EntropyFault h = record {
   made = ap (λ (s : SiteNow). s.made) h.1;
 }
 unowned before after own_errors.NoMemory h = h
+
+-- why the command ends then
+pub explained_unowned : (verb : Option Verb) (before after : Outside) (trail : List Event)
+    (made : List Change) (error : OwnErr) →
+    Owns (own before.keeper before.entropy [] []) (Err error)
+    (own after.keeper after.entropy trail made) → IsUncalled trail →
+    IsExplained verb before (did trail made) (own_status error) after
+explained_unowned verb before after trail made own_errors.KeeperFault h uncalled = h.0
+explained_unowned verb before after trail made own_errors.EntropyFault h uncalled = h.0
+explained_unowned verb before after trail made own_errors.NoMemory h uncalled =
+    unfailed_uncalled trail uncalled

@@ -51,6 +51,18 @@ unfailed (Ended ∷ old) more h = absurd (h 0 Began (omega arith))
 unfailed (Sent call ∷ old) more h = absurd (h 0 Began (omega arith))
 unfailed (Called call reply ∷ old) more h = absurd (h 0 Began (omega arith))
 
+-- no call has failed where nothing is called
+pub unfailed_uncalled : (trail : List Event) → IsUncalled trail → has_failed trail ≡ false
+unfolding has_failed
+unfailed_uncalled trail uncalled =
+    ap has_failed (sym (append-nil trail)) ∙ unfailed trail [] uncalled
+
+-- nor behind it, if none of the session's calls has
+pub unfailed_session : (old more trail : List Event) → trail ≡ old ++ more → IsUncalled old →
+    has_failed more ≡ false → has_failed trail ≡ false
+unfailed_session old more trail is uncalled heard =
+    ap has_failed is ∙ (unfailed old more uncalled ∙ heard)
+
 leads_behind : (old more : List Event) (s t : Store) → IsUncalled old → LeadsTo s more t →
     LeadsTo s (old ++ more) t
 unfolding LeadsTo
@@ -270,7 +282,8 @@ pub starved : (verb : Option Verb) (before : Outside) (trail : List Event) (made
     trail ≡ [] → made ≡ [] → Acts verb before (did trail made) statuses.NoMemory before
 starved verb before trail made uncalled unchanged =
     as_none verb before trail made statuses.NoMemory uncalled unchanged
-    (acts_none verb before statuses.NoMemory (no_memory verb before) tt)
+    (acts_none verb before statuses.NoMemory (no_memory verb before)
+    (unfailed_uncalled [] (All-nil IsChange)))
 
 pub misused : (verb : Option Verb) (before : Outside) (trail : List Event) (made : List Change) →
     verb ≡ None → trail ≡ [] → made ≡ [] → Acts verb before (did trail made) statuses.Usage before

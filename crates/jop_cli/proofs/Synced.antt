@@ -21,17 +21,16 @@ use Rattle.table_keeper.specs.Keepers.{KeeperNow}
 use Rattle.local_store.specs.declared.change.Change.{Change}
 use Rattle.local_store.specs.declared.tables.Tables.{Tables}
 use Rattle.session_steps.specs.Steps.{IsStep}
-use Rattle.site.specs.Owning.{NamesClient, OwnNow, Owns, own}
+use Rattle.site.specs.Owning.{NamesClient, OwnNow, own}
 use Rattle.site.specs.declared.own_err.OwnErr.{OwnErr}
-use Rattle.site.specs.declared.own_err.OwnErr.TheVariants as own_errors
 use Rattle.sync_run.specs.Sessions.{IsMarkOr}
 use Rattle.sync_session.specs.Syncing.{AddsFrom, IsWholeSync, SyncNow, sync_now}
 use Rattle.sync_session.specs.Working.{is_sync}
 use Rattle.sync_session.specs.declared.sync_err.SyncErr.{SyncErr}
 use Rattle.sync_session.specs.declared.sync_err.SyncErr.TheVariants.{Busy, LeaseLost, TargetOlder, TargetNewer, BadInfo, FailSafe, NoKey, TargetFault, KeeperFault, NoMemory}
 use Rattle.local_commands.proofs.Acting.{none_kept}
-use Rattle.jop_cli.proofs.Owned.{early_own, owned, unowned}
-use Rattle.jop_cli.proofs.Runs.{explained_emit, uses_behind, uses_none}
+use Rattle.jop_cli.proofs.Owned.{early_own, explained_unowned, owned, unowned}
+use Rattle.jop_cli.proofs.Runs.{explained_emit, unfailed_session, uses_behind, uses_none}
 use Rattle.jop_cli.proofs.Sessions.{failed_session}
 use Rattle.jop_cli.proofs.SyncCauses.{bad_info, emptied, keyless, late_trail, newer, older}
 use Rattle.jop_cli.proofs.OwnLicences.{licensed_behind, unowned_licensed}
@@ -93,15 +92,6 @@ busy_result (Err error) before after status lock now emits is =
 
 -- ---- the client isn't known
 
-explained_unowned : (target : TargetName) (before after : Outside) (trail : List Event)
-    (made : List Change) (error : OwnErr) →
-    Owns (own before.keeper before.entropy [] []) (Err error)
-    (own after.keeper after.entropy trail made) →
-    IsExplained (Some (Sync target)) before (did trail made) (own_status error) after
-explained_unowned target before after trail made own_errors.KeeperFault h = h.0
-explained_unowned target before after trail made own_errors.EntropyFault h = h.0
-explained_unowned target before after trail made own_errors.NoMemory h = tt
-
 acts_unowned : (target : TargetName) (before after : Outside) (trail : List Event)
     (made : List Change) (error : OwnErr) (status : Status) → after.input ≡ before.input →
     after.clock ≡ before.clock →
@@ -111,6 +101,7 @@ acts_unowned : (target : TargetName) (before after : Outside) (trail : List Even
 acts_unowned target before after trail made error status input clock h emits =
     let as_before = unowned (own before.keeper before.entropy [] [])
     (own after.keeper after.entropy trail made) error h.0 in
+    let uncalled = subst IsUncalled (sym as_before.trail) (All-nil IsChange) in
     record {
       answers = inr (record {
         outcome = Err (own_status error);
@@ -119,8 +110,8 @@ acts_unowned target before after trail made error status input clock h emits =
       });
       explained = subst (λ (s : Status). IsExplained (Some (Sync target)) before
           (did trail made) s after) (sym emits.0)
-          (explained_unowned target before after trail made error h.0);
-      sessions = inl (subst IsUncalled (sym as_before.trail) (All-nil IsChange));
+          (explained_unowned (Some (Sync target)) before after trail made error h.0 uncalled);
+      sessions = inl uncalled;
       tables = record {
         acts = [];
         changes = as_before.made;
@@ -164,14 +155,14 @@ last_keeper : (client : List ℕ) (t : Tables) (old new : SyncNow)
     h.last.keeper ≡ new.keeper
 last_keeper client t old new result h = ap (λ (s : SyncNow). s.keeper) (sym h.ended)
 
-explained_whole : (target : TargetName) (before after : Outside) (trail : List Event)
+explained_from : (target : TargetName) (before after : Outside) (trail : List Event)
     (made : List Change) (client : List ℕ) (named : OwnNow) (t : Tables) (error : SyncErr) →
-    IsWholeSync client t (sync_at named before.target) (Err error)
+    AddsFrom client t (sync_at named before.target) (Err error)
     (sync_now trail after.target after.keeper made) →
     before.keeper.faults ≤ named.site.keeper.faults → IsUncalled named.site.trail →
     NamesClient after.keeper.kept (Some client) → UsesTarget before.target trail after.target →
     IsExplained (Some (Sync target)) before (did trail made) (sync_status error) after
-explained_whole target before after trail made client named t error h later uncalled names uses =
+explained_from target before after trail made client named t error h later uncalled names uses =
     by error h where
       old : SyncNow
       old = sync_at named before.target
@@ -179,7 +170,7 @@ explained_whole target before after trail made client named t error h later unca
       new : SyncNow
       new = sync_now trail after.target after.keeper made
 
-      by : (e : SyncErr) → IsWholeSync client t old (Err e) new →
+      by : (e : SyncErr) → AddsFrom client t old (Err e) new →
           IsExplained (Some (Sync target)) before (did trail made) (sync_status e) after
       by (Busy lock now) h =
           ended target after.keeper trail client named.site.trail h.whole.middle
@@ -240,19 +231,8 @@ explained_whole target before after trail made client named t error h later unca
           risen_before before.keeper.faults named.site.keeper.faults after.keeper.faults later
           (subst (λ (k : KeeperNow). HasRisen named.site.keeper.faults k.faults)
           (last_keeper client t old new (Err KeeperFault) h) h.answers.1)
-      by NoMemory h = tt
-
-explained_from : (target : TargetName) (before after : Outside) (trail : List Event)
-    (made : List Change) (client : List ℕ) (named : OwnNow) (t : Tables) (error : SyncErr) →
-    AddsFrom client t (sync_at named before.target) (Err error)
-    (sync_now trail after.target after.keeper made) →
-    before.keeper.faults ≤ named.site.keeper.faults → IsUncalled named.site.trail →
-    NamesClient after.keeper.kept (Some client) → UsesTarget before.target trail after.target →
-    IsExplained (Some (Sync target)) before (did trail made) (sync_status error) after
-explained_from target before after trail made client named t NoMemory adds later uncalled names uses =
-    tt
-explained_from target before after trail made client named t error adds later uncalled names uses =
-    explained_whole target before after trail made client named t error adds later uncalled names uses
+      by NoMemory h =
+          unfailed_session named.site.trail h.begun.more trail h.begun.trail uncalled h.heard
 
 explained_sync : (target : TargetName) (before after : Outside) (trail : List Event)
     (made : List Change) (result : Result SyncReport SyncErr) (status : Status) →

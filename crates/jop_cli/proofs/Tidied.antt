@@ -3,9 +3,11 @@ use Rattle.std.proofs.Common.{◌≡◌, ◌≤◌, refl, sym, subst, ap, inl, i
 use Rattle.exit_status.specs.Outcomes.{Emits, Outcome}
 use Rattle.exit_status.specs.Statuses.{is_early}
 use Rattle.exit_status.specs.declared.status.Status.{Status}
+use Rattle.jop_target.specs.Runs.{has_failed}
 use Rattle.jop_target.specs.declared.event.Event.{Event}
 use Rattle.local_store.specs.declared.change.Change.{Change}
-use Rattle.std.proofs.Common.{Option, Some, Result, Ok, Err, true}
+use Rattle.std.proofs.Common.{Option, Some, Result, Ok, Err, true, false}
+use Rattle.std.proofs.lemmas.List.Elements.{All-nil}
 use Rattle.item_text.specs.Canonical.{IsCanonical, Tidies as ItemTidies}
 use Rattle.item_text.specs.Grammar.{first_fault}
 use Rattle.item_text.specs.declared.bad_item.ItemErr.{ItemErr}
@@ -15,7 +17,8 @@ use Rattle.jop_outside.specs.Reading.{IsAllOf, IsPastLimit, ReadsAll, WasRead}
 use Rattle.jop_outside.specs.declared.reading.ReadErr.{ReadErr}
 use Rattle.jop_outside.specs.declared.reading.ReadErr.TheVariants as read_errors
 use Rattle.local_commands.specs.Sparing.{IsReadOf}
-use Rattle.jop_cli.proofs.Runs.{acts_quiet, explained_emit}
+use Rattle.jop_cli.proofs.Runs.{acts_quiet, explained_emit, unfailed_uncalled}
+use Rattle.jop_cli.specs.Commands.Sessions.{IsChange}
 use Rattle.jop_cli.specs.Commands.Tidy.{IsAnswerTo, StandsFor, TIDY_LIMIT, Tidies, TidiesBytes, TidiesInput, bytes_outcome, item_err, outcome_of, read_err, status_of}
 use Rattle.jop_cli.specs.Outside.{Outside, Ran, did}
 use Rattle.jop_cli.specs.Causes.{IsExplained}
@@ -28,13 +31,13 @@ use Rattle.jop_cli.specs.declared.command.tidy.TidyErr.TheVariants.{Fault, TooLa
 -- ---- why the command ends so
 
 pub explained_tidy : (before after : Outside) (ran : Ran) (error : TidyErr) →
-    TidiesInput before.input (Err error) after.input →
+    TidiesInput before.input (Err error) after.input → has_failed ran.trail ≡ false →
     IsExplained (Some Tidy) before ran (status_of error) after
-explained_tidy before after ran Fault tidies = tidies
-explained_tidy before after ran TooLarge tidies =
+explained_tidy before after ran Fault tidies heard = tidies
+explained_tidy before after ran TooLarge tidies heard =
     inl (record { limit = TIDY_LIMIT; uses = refl; past = tidies; is = refl })
-explained_tidy before after ran (Bad bad) tidies = (refl, tidies)
-explained_tidy before after ran NoMemory tidies = tt
+explained_tidy before after ran (Bad bad) tidies heard = (refl, tidies)
+explained_tidy before after ran NoMemory tidies heard = heard
 
 pub early_tidy : (error : TidyErr) → is_early (status_of error) ≡ true
 early_tidy Fault = refl
@@ -131,20 +134,20 @@ tidies_unread old new read_errors.NoMemory reads =
 
 explained_result : (before after : Outside) (ran : Ran) (status : Status)
     (result : Result (List ℕ) TidyErr) → TidiesInput before.input result after.input →
-    Emits (outcome_of result) before.out status after.out →
+    has_failed ran.trail ≡ false → Emits (outcome_of result) before.out status after.out →
     IsExplained (Some Tidy) before ran status after
-explained_result before after ran status (Ok text) tidies emits =
+explained_result before after ran status (Ok text) tidies heard emits =
     explained_emit (Some Tidy) before after ran status text emits
-explained_result before after ran status (Err error) tidies emits =
+explained_result before after ran status (Err error) tidies heard emits =
     subst (λ (s : Status). IsExplained (Some Tidy) before ran s after)
-    (sym emits.0) (explained_tidy before after ran error tidies)
+    (sym emits.0) (explained_tidy before after ran error tidies heard)
 
 pub explained_tidied : (before after : Outside) (ran : Ran) (status : Status)
     (outcome : Outcome) → Tidies before.input outcome after.input →
-    Emits outcome before.out status after.out →
+    has_failed ran.trail ≡ false → Emits outcome before.out status after.out →
     IsExplained (Some Tidy) before ran status after
-explained_tidied before after ran status outcome tidies emits =
-    explained_result before after ran status tidies.result tidies.tidies
+explained_tidied before after ran status outcome tidies heard emits =
+    explained_result before after ran status tidies.result tidies.tidies heard
     (subst (λ (o : Outcome). Emits o before.out status after.out) tidies.is emits)
 
 pub acts_tidied : (before after : Outside) (trail : List Event) (made : List Change)
@@ -157,7 +160,8 @@ acts_tidied before after trail made status outcome uncalled unchanged same tidie
     acts_quiet Tidy before after trail made status uncalled unchanged refl refl
     (ap (λ (o : Outside). o.target) same) (ap (λ (o : Outside). o.keeper) same)
     (record { outcome = outcome; comes = tidies; emits = emits })
-    (explained_tidied before after (did [] []) status outcome tidies emits)
+    (explained_tidied before after (did [] []) status outcome tidies
+    (unfailed_uncalled [] (All-nil IsChange)) emits)
     (record {
       input = read;
       target = (refl, ap (λ (o : Outside). o.target) same);

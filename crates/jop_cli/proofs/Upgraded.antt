@@ -13,9 +13,8 @@ use Rattle.jop_target.specs.declared.event.Event.{Event}
 use Rattle.lease.specs.Phase.{Asked, Renewing}
 use Rattle.table_keeper.specs.Keepers.{KeeperNow}
 use Rattle.local_store.specs.declared.change.Change.{Change}
-use Rattle.site.specs.Owning.{NamesClient, Owns, own}
+use Rattle.site.specs.Owning.{NamesClient, own}
 use Rattle.site.specs.declared.own_err.OwnErr.{OwnErr}
-use Rattle.site.specs.declared.own_err.OwnErr.TheVariants as own_errors
 use Rattle.sync_run.specs.Sessions.{IsMarkOr}
 use Rattle.sync_run.specs.declared.session_err.SessionErr.{SessionErr}
 use Rattle.sync_run.specs.declared.session_err.SessionErr.TheVariants.{Busy, LeaseLost, TargetNewer, BadInfo, TargetFault, NoMemory}
@@ -24,8 +23,8 @@ use Rattle.target_upgrade.specs.Runs.{LeavesUpgraded}
 use Rattle.jop_cli.proofs.Heard.{bad_left, newer_left}
 use Rattle.jop_cli.proofs.Licensed.{upgrade_licensed}
 use Rattle.jop_cli.proofs.OwnLicences.{licensed_as_named, unowned_licensed}
-use Rattle.jop_cli.proofs.Owned.{early_own, owned, unowned}
-use Rattle.jop_cli.proofs.Runs.{explained_emit, keeps_none, uses_behind, uses_none}
+use Rattle.jop_cli.proofs.Owned.{early_own, explained_unowned, owned, unowned}
+use Rattle.jop_cli.proofs.Runs.{explained_emit, keeps_none, unfailed_session, uses_behind, uses_none}
 use Rattle.jop_cli.proofs.Sessions.{busy_result, early_session, failed_session}
 use Rattle.jop_cli.specs.Causes.{IsExplained}
 use Rattle.jop_cli.specs.Commands.Sessions.{ClientNow, IsChange, IsUncalled, Redoes, outcome_by, side}
@@ -43,15 +42,6 @@ early_upgrade (Session error) = early_session error
 
 -- ---- the client isn't known
 
-explained_unowned : (target : TargetName) (before after : Outside) (trail : List Event)
-    (made : List Change) (error : OwnErr) →
-    Owns (own before.keeper before.entropy [] []) (Err error)
-    (own after.keeper after.entropy trail made) →
-    IsExplained (Some (Upgrade target)) before (did trail made) (own_status error) after
-explained_unowned target before after trail made own_errors.KeeperFault h = h.0
-explained_unowned target before after trail made own_errors.EntropyFault h = h.0
-explained_unowned target before after trail made own_errors.NoMemory h = tt
-
 acts_unowned : (target : TargetName) (before after : Outside) (trail : List Event)
     (made : List Change) (error : OwnErr) (status : Status) → after.input ≡ before.input →
     after.clock ≡ before.clock →
@@ -61,6 +51,7 @@ acts_unowned : (target : TargetName) (before after : Outside) (trail : List Even
 acts_unowned target before after trail made error status input clock h emits =
     let as_before = unowned (own before.keeper before.entropy [] [])
     (own after.keeper after.entropy trail made) error h.0 in
+    let uncalled = subst IsUncalled (sym as_before.trail) (All-nil IsChange) in
     record {
       answers = inr (record {
         outcome = Err (own_status error);
@@ -69,8 +60,8 @@ acts_unowned target before after trail made error status input clock h emits =
       });
       explained = subst (λ (s : Status). IsExplained (Some (Upgrade target)) before
           (did trail made) s after) (sym emits.0)
-          (explained_unowned target before after trail made error h.0);
-      sessions = inl (subst IsUncalled (sym as_before.trail) (All-nil IsChange));
+          (explained_unowned (Some (Upgrade target)) before after trail made error h.0 uncalled);
+      sessions = inl uncalled;
       tables = subst (λ (m : List Change). KeepsChanges false before.keeper m after.keeper)
           (sym as_before.made) (keeps_none before.keeper after.keeper as_before.kept);
       target = subst (λ (t : List Event). UsesTarget before.target t after.target)
@@ -143,7 +134,9 @@ explained_refusal target before after trail made TargetFault run uncalled names 
     let failed = failed_session IsCall run.client run.named.site.trail trail run.session.whole
     run.session.because in
     (failed, uses.fault failed)
-explained_refusal target before after trail made NoMemory run uncalled names uses = tt
+explained_refusal target before after trail made NoMemory run uncalled names uses =
+    unfailed_session run.named.site.trail run.session.begun.more trail run.session.begun.trail
+    uncalled run.session.heard
 
 explained_run : (target : TargetName) (before after : Outside) (trail : List Event)
     (made : List Change) (result : Result ℕ SessionErr) (status : Status) →

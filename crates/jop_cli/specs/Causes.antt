@@ -1,5 +1,5 @@
 -- Why a run ends so: the cause of each status.
-use Rattle.std.specs.Prelude.{ℕ, ◌+◌, ◌<◌, ◌≡◌, ◌⊎◌, List, [], ◌∷◌, ◌++◌, true, Option, Some, None, Err}
+use Rattle.std.specs.Prelude.{ℕ, ◌+◌, ◌<◌, ◌≡◌, ◌⊎◌, List, [], ◌∷◌, ◌++◌, true, false, Option, Some, None, Err}
 use Rattle.delta.specs.Page.{fail_safe}
 use Rattle.exit_status.specs.Statuses.{is_refusal}
 use Rattle.exit_status.specs.declared.status.Status.{Status}
@@ -168,7 +168,8 @@ HasReadNewer verb keeper trail version =
 
 -- ---- each status
 
--- a row for each status: its cause
+-- A row for each status: its cause. Out of memory no call was answered `Failed`: a failed call is
+-- never told as want of memory.
 abbrev pub IsExplained : Option Verb → Outside → Ran → Status → Outside → Type 0
 IsExplained verb before ran statuses.Ok after = Unit {0}
 IsExplained verb before ran statuses.Usage after = verb ≡ None
@@ -208,7 +209,7 @@ IsExplained verb before ran (statuses.NoKey key) after =
     HasLeftBehind verb after.keeper ran.trail (λ calls. LacksKey after.keeper key)
 IsExplained verb before ran (statuses.BadItem bad) after =
     (verb ≡ Some verbs.Tidy) × IsFaulty before.input after.input bad
-IsExplained verb before ran statuses.NoMemory after = Unit {0}
+IsExplained verb before ran statuses.NoMemory after = has_failed ran.trail ≡ false
 IsExplained verb before ran (statuses.NoConflict number) after =
     IsRefusedLocally verb before ran (NoConflict number) after
 IsExplained verb before ran (statuses.NotEmpty id) after =
