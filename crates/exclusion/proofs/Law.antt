@@ -38,9 +38,6 @@ write_read (Gets ids info) call l next guarded h = h
 write_read Upgraded call l next guarded h = cc
 write_read Stuck call l next guarded h = cc
 
-same_kind : (k l : LockKind) → Some k ≡ Some l → k ≡ l
-same_kind k l e = cc
-
 module _ (h : History) (honest : IsHonest h) (timely : IsTimely h) (keep : AllKeepLocks h)
     (versions : AllKeepVersions h) where
   abbrev learnt : ℕ → List ℕ → Learnt
@@ -87,7 +84,7 @@ module _ (h : History) (honest : IsHonest h) (timely : IsTimely h) (keep : AllKe
       (kind_at h honest timely keep q client lease.kind lease.stamp lease.held)) [
         | inl past ↦ no_kind Exclusive (sym (past_none
             (phase_in (world h honest timely keep versions place) client) past) ∙ holds)
-        | inr i ↦ same_kind lease.kind Exclusive (sym i.0 ∙ holds)
+        | inr i ↦ let same : Some lease.kind ≡ Some Exclusive = sym i.0 ∙ holds in cc
       ] in
       record {
         writes = write;

@@ -124,17 +124,15 @@ after_list client at old new s h =
       },
     )) h.0 h.1.shape h.2 h.1
 
-same_listing : (l m : Listing) → Listed l ≡ Listed m → l ≡ m
-same_listing l m e = cc
-
 -- the listing that was read is the one that was heard
 pub listed_as : (client : List ℕ) (at : Phase) (new : List Event) (r : Reply) (l : Listing) →
     (listing : Listing) × HasAsked client at new listing →
     ((c : Call) (y : Reply) → EndsWith new c y → r ≡ y) →
     r ≡ Listed l → HasAsked client at new l
 listed_as client at new r l h last is =
-    let same = same_listing h.0 l (sym (last (ListDir Locks) (Listed h.0) (h.1.before, h.1.ends)) ∙
-    is) in
+    let heard : Listed h.0 ≡ Listed l = sym (last (ListDir Locks) (Listed h.0)
+    (h.1.before, h.1.ends)) ∙ is in
+    let same : h.0 ≡ l = cc in
     subst (λ (m : Listing). HasAsked client at new m) same h.1
 
 -- ---- its own lock is put
@@ -308,12 +306,6 @@ gives_up_on client a b c first calls at NoMemory h later s free k = (
 
 -- ---- the put and the listing behind it
 
-put_is : (kind : LockKind) (client : List ℕ) (path : Path) (content : List ℕ) →
-    path ≡ LockFile (own_name kind client) →
-    content ≡ content_of kind client → Put path content ≡ Put (LockFile (own_name kind client))
-    (content_of kind client)
-put_is kind client path content is whole = cc
-
 pub put_heard : (kind : LockKind) (client : List ℕ) (old new : LineNow) (path : Path)
     (content : List ℕ) →
     path ≡ LockFile (own_name kind client) → content ≡ content_of kind client →
@@ -321,8 +313,9 @@ pub put_heard : (kind : LockKind) (client : List ℕ) (old new : LineNow) (path 
     AddsCalls (Put (LockFile (own_name kind client)) (content_of kind client) ∷ []) []
     false old.trail new.trail
 put_heard kind client old new path content is whole h =
-    subst (λ (c : Call). AddsCalls (c ∷ []) [] false old.trail new.trail)
-    (put_is kind client path content is whole)
+    let put : Put path content ≡ Put (LockFile (own_name kind client)) (content_of kind client) =
+    cc in
+    subst (λ (c : Call). AddsCalls (c ∷ []) [] false old.trail new.trail) put
     (adds_heard (Put path content) [] h.0 old.trail new.trail h.1.trail h.2)
 
 pub put_refused : (kind : LockKind) (client : List ℕ) (old new : LineNow) (path : Path)
@@ -331,8 +324,9 @@ pub put_refused : (kind : LockKind) (client : List ℕ) (old new : LineNow) (pat
     content ≡ content_of kind client →
     IsRefused client (Put path content) old new e → GivesUp (put_calls kind client) client old new e
 put_refused kind client old new path content e may is whole refused =
-    subst (λ (c : Call). GivesUp (c ∷ ListDir Locks ∷ []) client old new e)
-    (put_is kind client path content is whole)
+    let put : Put path content ≡ Put (LockFile (own_name kind client)) (content_of kind client) =
+    cc in
+    subst (λ (c : Call). GivesUp (c ∷ ListDir Locks ∷ []) client old new e) put
     (gives_up client old new (Put path content) (ListDir Locks ∷ []) (phase_of client old.trail)
     e may.stands
     (puts_in_earnest kind client (phase_of client old.trail) may.allowed) refused)

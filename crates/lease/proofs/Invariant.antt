@@ -71,9 +71,6 @@ spent_same old new now later client p e m h = h
 pub no_kind : (k : LockKind) {P : Type 0} → None ≡ Some k → P
 no_kind k h = cc
 
-pub same_kind : (k l : LockKind) → Some k ≡ Some l → k ≡ l
-same_kind k l h = cc
-
 pub past_none : (p : Phase) → is_past p ≡ true → kind_held p ≡ None
 past_none (Held kind stamp) h = cc
 past_none (Renewing kind stamp) h = cc
@@ -143,10 +140,12 @@ others_spent : (old new : List File) (now moment : ℕ) (l : LockKind) (b : List
     IsPast old now l b → now ≤ moment → ((k : LockKind) → own_lock new k b ≡ own_lock old k b) →
     kind_held r ≡ Some l → Stands old b r → IsSpent new moment b r
 others_spent old new now moment l b (Held kind stamp) past m e h s =
-    let p = past.past stamp (rw (← same_kind kind l h) s) in
+    let same : kind ≡ l = cc in
+    let p = past.past stamp (rw (← same) s) in
     omega arith
 others_spent old new now moment l b (Renewing kind stamp) past m e h s =
-    let p = past.past s.0 (rw (← same_kind kind l h) s.1) in
+    let same : kind ≡ l = cc in
+    let p = past.past s.0 (rw (← same) s.1) in
     rw (e kind, s.1) (inr (omega arith))
 others_spent old new now moment l b r past m e h s = cc
 
@@ -164,7 +163,8 @@ pair_moved client b now moment old new p q r k l n m e s ih hq hr x (Leaves d) =
     no_kind k (sym (past_none q d) ∙ hq)
 pair_moved client b now moment old new p q r k l n m e s ih hq hr x
     (Enters j stamp t before after f lock free u) =
-    let same : j ≡ k = same_kind j k (rw after at hq) in
+    let held : Some j ≡ Some k = rw after at hq in
+    let same : j ≡ k = cc in
     inr (others_spent old new t moment l b r (blocking-past j l client b t old n
     (subst (λ (i : LockKind). excludes i l ≡ true) (sym same) x) free) u e hr s)
 pair_moved client b now moment old new p q r k l n m e s ih hq hr x (Stays d f) =

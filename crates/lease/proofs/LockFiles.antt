@@ -71,29 +71,21 @@ kind_digit-one Exclusive Sync h = absurd (omega (arith, h))
 
 -- ---- texts of paths
 
-head_same : (x y : ℕ) (xs ys : List ℕ) → x ∷ xs ≡ y ∷ ys → x ≡ y
-head_same x y xs ys h = cc
-
-tail_same : (x y : ℕ) (xs ys : List ℕ) → x ∷ xs ≡ y ∷ ys → xs ≡ ys
-tail_same x y xs ys h = cc
-
 -- locks of one text have one name
 file_name-one : (a b : Name) → file_name a ≡ file_name b → a ≡ b
 file_name-one a b h =
-    let k : a.kind ≡ b.kind = kind_digit-one a.kind b.kind (head_same _ _ _ _ h) in
-    let behind = tail_same _ _ _ _ (tail_same _ _ _ _ h) in
-    let shown = head_same _ _ _ _ behind in
+    let k : a.kind ≡ b.kind = kind_digit-one a.kind b.kind cc in
+    let shown : 48 + a.client_type ≡ 48 + b.client_type = cc in
     let t : a.client_type ≡ b.client_type = omega (arith, shown) in
-    let c : a.client ≡ b.client = append_cancel_right a.client b.client (codes ".json")
-    (tail_same _ _ _ _ (tail_same _ _ _ _ behind)) in
+    let c : a.client ≡ b.client = append_cancel_right a.client b.client (codes ".json") cc in
     λ i. record { kind = k i; client_type = t i; client = c i }
 
-last_same : (xs ys : List ℕ) (x y : ℕ) → xs ++ x ∷ [] ≡ ys ++ y ∷ [] → x ≡ y
+pub last_same : (xs ys : List ℕ) (x y : ℕ) → xs ++ x ∷ [] ≡ ys ++ y ∷ [] → x ≡ y
 last_same [] [] x y h = cc
 last_same [] (b ∷ ys) x y h = absurd (omega (arith, ap length h, length-append ys (y ∷ [])))
 last_same (a ∷ xs) [] x y h = absurd (omega (arith, ap length h, length-append xs (x ∷ [])))
 last_same (a ∷ xs) (b ∷ ys) x y h =
-    last_same xs ys x y (tail_same a b (xs ++ x ∷ []) (ys ++ y ∷ []) h)
+    last_same xs ys x y cc
 
 -- no item has the text of a lock
 item_apart : (id : List ℕ) (name : Name) → path_text (Item id) ≡ path_text (LockFile name) → ⊥
@@ -114,14 +106,12 @@ both_or_none true b h k = sym (h refl)
 both_or_none false true h k = k refl
 both_or_none false false h k = refl
 
-never : (b : Bool) → (b ≡ true → ⊥) → b ≡ false
+pub never : (b : Bool) → (b ≡ true → ⊥) → b ≡ false
 never true h = absurd (h refl)
 never false h = refl
 
 lock_name : (a b : Name) → path_text (LockFile a) ≡ path_text (LockFile b) → a ≡ b
-lock_name a b h = file_name-one a b (front (file_name a) (file_name b) h) where
-  front : (s t : List ℕ) → codes "locks/" ++ s ≡ codes "locks/" ++ t → s ≡ t
-  front s t h = cc
+lock_name a b h = file_name-one a b cc
 
 -- whether a path is that of a client's own lock is seen by its parts
 pub is_same-own : (kind : LockKind) (client : List ℕ) (p : Path) →

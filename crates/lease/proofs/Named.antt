@@ -1,5 +1,5 @@
 -- The lock for which a session gives up is one that a listing of its trail shows in the way.
-use Rattle.std.proofs.Common.{◌≡◌, ◌∙◌, sym, ap, subst, arith, inl, inr, ℕ, List, [], ◌∷◌, ◌++◌, append_assoc, length, length-append, Some}
+use Rattle.std.proofs.Common.{refl, ◌≡◌, ◌∙◌, sym, ap, subst, arith, inl, inr, ℕ, List, [], ◌∷◌, ◌++◌, append_assoc, length, length-append, Some}
 use Rattle.jop_base.specs.declared.dir.Dir.TheVariants.{Locks}
 use Rattle.jop_base.specs.declared.lock_name.LockKind.{LockKind}
 use Rattle.jop_base.specs.declared.path.Path.TheVariants.{Lock as LockFile}
@@ -18,30 +18,19 @@ use Rattle.lease.proofs.Shown.{names}
 
 -- ---- the last call stands behind the beginning of the session
 
-tail_same : (x y : Event) (xs ys : List Event) → x ∷ xs ≡ y ∷ ys → xs ≡ ys
-tail_same x y xs ys h = cc
-
 ends_behind : (old calls before : List Event) (call : Call) (reply : Reply) →
     old ++ Began ∷ calls ≡ before ++ Called call reply ∷ [] →
     (front : List Event) × (calls ≡ front ++ Called call reply ∷ []) ×
     (old ++ Began ∷ front ≡ before)
 ends_behind [] calls [] call reply h = cc
-ends_behind [] calls (b ∷ bs) call reply h = (
-  bs,
-  tail_same _ _ _ _ h,
-  ap (λ (e : Event). e ∷ bs)
-      (head Began b calls (bs ++ Called call reply ∷ []) h),
-) where
-  head : (x y : Event) (xs ys : List Event) → x ∷ xs ≡ y ∷ ys → x ≡ y
-  head x y xs ys h = cc
+ends_behind [] calls (b ∷ bs) call reply h = (bs, cc, cc)
 ends_behind (o ∷ os) calls [] call reply h =
-    absurd (omega (arith, ap length (tail_same _ _ _ _ h), length-append os (Began ∷ calls)))
+    let none : os ++ Began ∷ calls ≡ [] = cc in
+    absurd (omega (arith, ap length none, length-append os (Began ∷ calls)))
 ends_behind (o ∷ os) calls (b ∷ bs) call reply h =
-    let rest = ends_behind os calls bs call reply (tail_same _ _ _ _ h) in
-    (rest.0, rest.1, head o b _ _ h rest.2) where
-      head : (x y : Event) (xs ys : List Event) → x ∷ xs ≡ y ∷ ys → {us vs : List Event} → us ≡ vs →
-          x ∷ us ≡ y ∷ vs
-      head x y xs ys h e = cc
+    let rest = ends_behind os calls bs call reply cc in
+    let first : o ≡ b = cc in
+    (rest.0, rest.1, rw (first, rest.2) refl)
 
 -- ---- the two listings
 

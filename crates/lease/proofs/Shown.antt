@@ -29,9 +29,6 @@ honest_at tree now (t ∷ ss) zero s h e =
 honest_at tree now (t ∷ ss) (suc place) s h e =
     honest_at (tree_with tree t.moment (landed_call t.happens)) t.moment ss place s h.2 e
 
-same_listing : (l m : Listing) → Listed l ≡ Listed m → l ≡ m
-same_listing l m e = cc
-
 -- the listing has the entries of the tree
 shows : (h : History) (place : ℕ) (client : List ℕ) (listing : Listing) → IsHonest h →
     IsShown h place client listing → (now : ℕ) ×
@@ -41,7 +38,11 @@ shows h place client listing honest shown =
     let told : IsHonestReply (tree_at h place) shown.step.moment
     (Answered (ListDir Locks) (Listed listing) shown.landed) = subst
     (IsHonestReply (tree_at h place) shown.step.moment) shown.listed reply in
-    (told.1.0, same_listing _ _ (told.1.2 ∙ (unfold reply_of in refl)))
+    let seen : Listed listing ≡ Listed (record {
+      now = told.1.0;
+      entries = entries_in (tree_at h place).files Locks;
+    }) = told.1.2 ∙ (unfold reply_of in refl) in
+    (told.1.0, cc)
 
 pub stood : (h : History) (place : ℕ) (client : List ℕ) (listing : Listing) (kind : LockKind)
     (lock : Lock) → IsHonest h → IsShown h place client listing →
@@ -83,12 +84,6 @@ later_on s ss client before listing n whole is =
       so_far = is;
     }
 
-tail_same : (x y : Event) (xs ys : List Event) → x ∷ xs ≡ y ∷ ys → xs ≡ ys
-tail_same x y xs ys h = cc
-
-head_same : (x y : Event) (xs ys : List Event) → x ∷ xs ≡ y ∷ ys → x ≡ y
-head_same x y xs ys h = cc
-
 -- the happening that is noted as a listing
 noted_listing : (x : Happening) (e : Event) (listing : Listing) → noted x ≡ e ∷ [] →
     e ≡ Called (ListDir Locks) (Listed listing) → (landed : Bool) × (x ≡ Answered (ListDir Locks)
@@ -117,7 +112,7 @@ noted_first : (client : List ℕ) (s : Step) (ss : List Step) (before after : Li
     first ∷ part_of client ss ≡ before ++ Called (ListDir Locks) (Listed listing) ∷ after →
     Noted (s ∷ ss) client before listing
 noted_first client s ss [] after listing first own is later h =
-    let it = noted_listing s.happens first listing is (head_same _ _ _ _ h) in
+    let it = noted_listing s.happens first listing is cc in
     record {
       place = 0;
       step = s;
@@ -128,8 +123,9 @@ noted_first client s ss [] after listing first own is later h =
       so_far = refl;
     }
 noted_first client s ss (b ∷ bs) after listing first own is later h =
-    let n = later bs (tail_same _ _ _ _ h) in
-    later_on s ss client bs listing n (b ∷ bs) (rw (own, is, n.so_far, head_same _ _ _ _ h) refl)
+    let n = later bs cc in
+    let same : first ≡ b = cc in
+    later_on s ss client bs listing n (b ∷ bs) (rw (own, is, n.so_far, same) refl)
 
 noted_own : (client : List ℕ) (s : Step) (ss : List Step) (before after : List Event)
     (listing : Listing) → bytes_eq s.client client ≡ true → FindsLater ss client after listing →

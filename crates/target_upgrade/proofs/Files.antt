@@ -1,5 +1,5 @@
 -- What a put of a file and a new folder change in a tree, and what they leave.
-use Rattle.std.proofs.Common.{◌≡◌, ◌∙◌, refl, sym, ap, arith, ℕ, List, [], ◌∷◌, ◌++◌, append_assoc, codes, length, length-append, Bool, true, false, ◌||◌, cond, ◌≢◌, ◌+◌}
+use Rattle.std.proofs.Common.{◌≡◌, ◌∙◌, refl, sym, ap, arith, ℕ, List, [], ◌∷◌, ◌++◌, append_assoc, codes, Bool, true, false, ◌||◌, cond, ◌≢◌, ◌+◌}
 use Rattle.std.specs.Prelude.{bytes_eq}
 use Rattle.jop_base.proofs.KeyedLaws.{same_text, bytes_eq-refl}
 use Rattle.jop_base.specs.Keyed.{put, cut, text_lt}
@@ -13,6 +13,7 @@ use Rattle.jop_target.specs.Store.{file_key, is_same, file_at, with_file, withou
 use Rattle.jop_target.specs.declared.tree.Content.{Content}
 use Rattle.jop_target.specs.declared.tree.File.{File}
 use Rattle.jop_target.proofs.Files.{file_at-other_delete, file_at-other_put}
+use Rattle.lease.proofs.LockFiles.{last_same, never}
 use Rattle.sync_info.specs.declared.info.Info.{Info}
 use Rattle.target_upgrade.specs.Keys.{with_key}
 use Rattle.target_upgrade.specs.Steps.{at_version, with_item}
@@ -20,32 +21,14 @@ use Rattle.target_upgrade.specs.Target.{key_at, with_keys, items_of, upgraded_in
 
 -- ---- paths
 
-never : (b : Bool) → (b ≡ true → ⊥) → b ≡ false
-never true h = absurd (h refl)
-never false h = refl
-
 pub differs : (p q : Path) → (path_text p ≡ path_text q → ⊥) → is_same p q ≡ false
 differs p q h = never (is_same p q) (λ same. h (same_text (path_text p) (path_text q) same))
 
-head_same : (x y : ℕ) (xs ys : List ℕ) → x ∷ xs ≡ y ∷ ys → x ≡ y
-head_same x y xs ys h = cc
-
-tail_same : (x y : ℕ) (xs ys : List ℕ) → x ∷ xs ≡ y ∷ ys → xs ≡ ys
-tail_same x y xs ys h = cc
-
 pub heads_apart : (x y : ℕ) (xs ys : List ℕ) → x ≢ y → x ∷ xs ≡ y ∷ ys → ⊥
-heads_apart x y xs ys other h = other (head_same x y xs ys h)
+heads_apart x y xs ys other h = other cc
 
 pub seconds_apart : (x y z w : ℕ) (xs ys : List ℕ) → z ≢ w → x ∷ z ∷ xs ≡ y ∷ w ∷ ys → ⊥
-seconds_apart x y z w xs ys other h = heads_apart z w xs ys other
-    (tail_same x y (z ∷ xs) (w ∷ ys) h)
-
-last_same : (xs ys : List ℕ) (x y : ℕ) → xs ++ x ∷ [] ≡ ys ++ y ∷ [] → x ≡ y
-last_same [] [] x y h = head_same x y [] [] h
-last_same [] (b ∷ ys) x y h = absurd (omega (arith, ap length h, length-append ys (y ∷ [])))
-last_same (a ∷ xs) [] x y h = absurd (omega (arith, ap length h, length-append xs (x ∷ [])))
-last_same (a ∷ xs) (b ∷ ys) x y h = last_same xs ys x y (tail_same a b (xs ++ x ∷ []) (ys ++ y ∷ [])
-    h)
+seconds_apart x y z w xs ys other h = other cc
 
 -- no item has a text that ends otherwise
 ends_apart : (id front text : List ℕ) (last : ℕ) → text ≡ front ++ last ∷ [] → last ≢ 100 →

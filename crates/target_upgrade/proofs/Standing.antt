@@ -143,17 +143,15 @@ list_done lease now old new info call is at h =
     (subst (λ (c : Call). HasMade lease now c (stage_of lease old) new) is h) in
     list_reply lease now info new m.reply m.shape m.heard m.same m.ends m.stands
 
-same_listing : (l m : Listing) → Listed l ≡ Listed m → l ≡ m
-same_listing l m e = cc
-
 -- the listing that was read is the one that was heard
 pub listed_as : (lease now : Lease) (info : Info) (new : LineNow) (r : Reply) (l : Listing) →
     (listing : Listing) × HasListed lease now info new listing →
     ((c : Call) (y : Reply) → EndsWith new.trail c y → r ≡ y) → r ≡ Listed l → HasCome lease now
     (Gets (items_in l.entries) (at_version 3 info)) new
 listed_as lease now info new r l listed last is =
-    let same = same_listing listed.0 l (sym (last (ListDir Root) (Listed listed.0) listed.1.ends) ∙
-    is) in
+    let heard : Listed listed.0 ≡ Listed l =
+    sym (last (ListDir Root) (Listed listed.0) listed.1.ends) ∙ is in
+    let same : listed.0 ≡ l = cc in
     subst (λ (m : Listing). HasCome lease now (Gets (items_in m.entries) (at_version 3 info)) new)
     same listed.1.come
 

@@ -102,9 +102,6 @@ unfolding allowed_from lawful_from
 obeys_begun client events h upgrade =
     record { work = h.work; locks = h.locks.keeps; upgrade = upgrade }
 
-tail_is : (a b : Event) (xs ys : List Event) → a ∷ xs ≡ b ∷ ys → xs ≡ ys
-tail_is a b xs ys h = cc
-
 -- steps lead from each tree as the session of one client does that begins with one of them
 abbrev BeginsOn : List ℕ → ℕ → List Step → List Event → Type 0
 BeginsOn client now ss events =
@@ -119,7 +116,7 @@ own_begin : (client : List ℕ) (m : ℕ) (x : Happening) (ss : List Step) (even
     HasWalked (course_from client begun_course events) t
     (tree_from (tree_with t m (landed_call x)) ss)
 own_begin client m Begins ss events later part t honest aside obeys =
-    let same : part_of client ss ≡ events = tail_is Began Began (part_of client ss) events part in
+    let same : part_of client ss ≡ events = cc in
     subst (λ (es : List Event). HasWalked (course_from client begun_course es) t (tree_from t ss))
     same
     (walk client m ss begun_course t honest aside
