@@ -1,6 +1,7 @@
 -- How a page is applied.
 use Rattle.std.specs.Prelude.{ℕ, ◌≡◌, ◌<◌, List, [], length, All, Contains, Bool, Some, Result, Ok, Err, refl}
 use Rattle.std.proofs.Common.{sym, subst, get_or}
+use Rattle.std.proofs.lemmas.Bool.{or_right}
 use Rattle.std.proofs.lemmas.List.Elements.{All-contains_itself, All-from_get_or, All-get_or}
 use Rattle.conflicts.specs.declared.error.StepErr.{StepErr}
 use Rattle.conflicts.specs.declared.error.StepErr.TheVariants.{Lost, TargetFault, KeeperFault, FailSafe, NoMemory}
@@ -8,8 +9,10 @@ use Rattle.conflicts.specs.declared.report.SyncReport.{SyncReport}
 use Rattle.delta.specs.declared.page.Page.{Page}
 use Rattle.desk.specs.Desks.{DeskNow}
 use Rattle.download.proofs.Forgotten.{does_forgot, gives_up_forgot}
-use Rattle.download.specs.Downloading.{Applies, Downloads, Leaves, TakesOne, is_download}
-use Rattle.download.specs.Reading.{AsksFor, HasListed, IsPage, Lacks, Lists, PageIn, PageOf, Refuses, shown_at}
+use Rattle.download.specs.Downloading.{Applies, Downloads, Leaves, is_download, is_listing}
+use Rattle.new_files.specs.Taking.{TakesOne, is_taking}
+use Rattle.download.specs.Reading.{HasListed, Lacks, Lists, PageIn, PageOf, Refuses, shown_at}
+use Rattle.new_files.specs.Asked.{AsksFor, IsPage}
 use Rattle.jop_base.specs.declared.dir.Dir.TheVariants.{Root}
 use Rattle.jop_target.specs.Replies.{IsReplyTo}
 use Rattle.jop_target.specs.declared.call.Call.{Call}
@@ -24,6 +27,7 @@ use Rattle.local_store.specs.declared.tables.Tables.{Tables}
 use Rattle.session_steps.proofs.Ending.{does_as, does_starves, gives_up_behind}
 use Rattle.session_steps.proofs.Joins.{does_then}
 use Rattle.session_steps.proofs.Known.{does_listed}
+use Rattle.session_steps.proofs.Wider.{IsWithin, does_within}
 use Rattle.session_steps.specs.Asking.{IsAnswered, IsHeardBy}
 use Rattle.session_steps.specs.Doing.{Does, Finishes, GivesUp}
 use Rattle.session_steps.specs.Making.{MayMakeBy}
@@ -64,10 +68,14 @@ pub leaves_as : (ids gone : List (List ℕ)) (sort : Call → Bool) (a b : WorkN
 leaves_as ids gone sort a b same h =
     subst (λ (xs : List (List ℕ)). Does (Leaves xs) sort a b) same h
 
+pub taking_within : IsWithin is_taking is_download
+taking_within call is = or_right (is_listing call) (is_taking call) is
+
 pub takes_as : (ids taken : List (List ℕ)) (a b : WorkNow) → ids ≡ taken
-    → Does (ForEach TakesOne ids) is_download a b → Does (ForEach TakesOne taken) is_download a b
+    → Does (ForEach TakesOne ids) is_taking a b → Does (ForEach TakesOne taken) is_download a b
 takes_as ids taken a b same h =
-    subst (λ (xs : List (List ℕ)). Does (ForEach TakesOne xs) is_download a b) same h
+    does_within is_taking is_download a b taking_within
+    (subst (λ (xs : List (List ℕ)). Does (ForEach TakesOne xs) is_taking a b) same h)
 
 -- ---- the listing
 

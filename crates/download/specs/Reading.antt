@@ -1,29 +1,23 @@
 -- What a download has found so far.
-use Rattle.std.specs.Prelude.{ℕ, ◌≡◌, List, Bool, true, false, Contains, Some, None, Result, Ok, Err}
+use Rattle.std.specs.Prelude.{ℕ, ◌≡◌, List, Contains, Some, None, Result, Ok, Err}
 use Rattle.conflicts.specs.declared.error.StepErr.{StepErr}
 use Rattle.conflicts.specs.declared.error.StepErr.TheVariants.{Lost, TargetFault, KeeperFault, FailSafe, NoMemory}
 use Rattle.delta.specs.Page.{IsPageOf, fail_safe}
 use Rattle.delta.specs.declared.page.Page.{Page}
 use Rattle.desk.specs.Desks.{DeskNow}
 use Rattle.jop_base.specs.declared.dir.Dir.TheVariants.{Root}
-use Rattle.jop_base.specs.declared.path.Path.TheVariants.{Item}
-use Rattle.jop_target.specs.declared.call.Call.TheVariants.{List as ListDir, Get}
+use Rattle.jop_target.specs.declared.call.Call.TheVariants.{List as ListDir}
 use Rattle.jop_target.specs.declared.reply.Listing.{Listing}
 use Rattle.jop_target.specs.declared.reply.Reply.{Reply}
-use Rattle.jop_target.specs.declared.reply.Reply.TheVariants.{GotBlob, Listed}
+use Rattle.jop_target.specs.declared.reply.Reply.TheVariants.{Listed}
 use Rattle.conflicts.specs.declared.report.SyncReport.{SyncReport}
 use Rattle.lease.specs.declared.lease.Lease.{Lease}
-use Rattle.licences.specs.Checks.{last_on}
-use Rattle.licences.specs.Trails.{session_calls}
-use Rattle.licences.specs.Views.{Heard, Shown, synced_ids}
-use Rattle.local_store.specs.Tables.{base_of, row_at}
+use Rattle.licences.specs.Views.{Shown, synced_ids}
 use Rattle.local_store.specs.declared.tables.Tables.{Tables}
-use Rattle.session_steps.specs.Asking.{IsAnswer}
 use Rattle.session_steps.specs.Doing.{Does, Finishes, GivesUp}
-use Rattle.session_steps.specs.Findings.{finding_of}
 use Rattle.session_steps.specs.Parts.{Hears}
 use Rattle.session_steps.specs.Work.{WorkNow, work, work_by}
-use Rattle.session_steps.specs.declared.finding.Finding.{Finding}
+use Rattle.new_files.specs.Asked.{IsPage}
 use Rattle.download.specs.Downloading.{Downloads, is_download}
 
 -- ---- the page
@@ -33,50 +27,11 @@ abbrev pub shown_at : DeskNow → Listing → Shown
 shown_at d listing =
     record { listing = listing; context = d.tables.context; synced = synced_ids d.tables }
 
--- this is the page of what the session was shown
-abbrev pub IsPage : Shown → Page → Type 0
-IsPage known page = IsPageOf known.listing known.context known.synced page
-
--- the page asks for this file
-pub record AsksFor (known : Shown) (id : List ℕ) : Type 0 where
-  pub page : Page
-  pub is : IsPage known page
-  pub taken : Contains page.taken id
-
 -- by the page this file is gone
 pub record Lacks (known : Shown) (id : List ℕ) : Type 0 where
   pub page : Page
   pub is : IsPage known page
   pub gone : Contains page.gone id
-
--- ---- a file
-
--- a get of the file
-abbrev pub got : List ℕ → Reply → Heard
-got id reply = record { call = Get (Item id); reply = Some reply }
-
--- the file was got, and is this to the row of its id
-pub record IsFound (id : List ℕ) (finding : Finding) (d : DeskNow) : Type 0 where
-  pub reply : Reply
-  pub found : finding ≡ finding_of id (base_of (row_at d.tables id)) reply
-  pub last : last_on id (session_calls d.line.trail) ≡ Some (got id reply)
-
--- the file was got, which is a part of the session, and is this to the row of its id
-pub record HasChecked (id : List ℕ) (old new : WorkNow) (finding : Finding) : Type 0 where
-  pub reply : Reply
-  pub answer : IsAnswer (Get (Item id)) reply
-  pub found : finding ≡ finding_of id (base_of (row_at old.desk.tables id)) reply
-  pub does : Does (Hears (Get (Item id)) reply) is_download old new
-
--- each answer, by its cause
-abbrev pub Checks : List ℕ → WorkNow → Result Finding StepErr → WorkNow → Type 0
-Checks id old (Ok finding) new = HasChecked id old new finding
-Checks id old (Err e) new = GivesUp is_download old e new
-
--- the reply gave the bytes of a resource
-abbrev pub is_blob : Reply → Bool
-is_blob (GotBlob now len) = true
-is_blob reply = false
 
 -- ---- the listing
 

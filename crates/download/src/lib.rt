@@ -4,10 +4,7 @@
 //! `specs/Downloading.antt` says it as a sentence, over the words of `session_steps`. Begin with [`apply_page`].
 #![tactic(auto)]
 
-mod blobs;
-mod checking;
 mod leaving;
 mod paging;
-mod taking;
 
 pub use paging::apply_page;

@@ -3,7 +3,8 @@ ghost use Rattle.conflicts.specs.declared.report.SyncReport.{SyncReport as Repor
 ghost use Rattle.delta.specs.declared.page.Page.{Page as Asked};
 ghost use Rattle.desk.specs.Desks.{IsSameDesk, IsTidy};
 ghost use Rattle.download.specs.Downloading.{Applies, Leaves, is_download};
-ghost use Rattle.download.specs.Reading.{EndsDownload, IsPage, Lists, PageIn, PageOf};
+ghost use Rattle.download.specs.Reading.{EndsDownload, Lists, PageIn, PageOf};
+ghost use Rattle.new_files.specs.Asked.{IsPage};
 ghost use Rattle.jop_target.specs.declared.reply.Reply.TheVariants.{Listed};
 ghost use Rattle.jop_target.specs.declared.reply.Listing.{Listing as Shows};
 ghost use Rattle.jop_target.specs.declared.call.Call.{Call as Asking};
@@ -16,7 +17,6 @@ ghost use Rattle.session_steps.specs.Parts.{Changes, Then};
 ghost use Rattle.session_steps.specs.Work.{IsReady, work, work_by};
 
 use crate::leaving::leave;
-use crate::taking::take_each;
 use conflicts::{StepErr, SyncReport};
 use delta::{Page, delta_of, fail_safe};
 use desk::Desk;
@@ -24,6 +24,7 @@ use jop_base::{Bytes, Context, Copied, Dir, Id, Seq};
 use jop_target::{Call, Listing, Reply};
 use lease::Lease;
 use local_store::{Change, Tables};
+use new_files::take_each;
 use session_steps::{ask, make_shown};
 use std::alloc::{AllocError, Global};
 

@@ -15,7 +15,7 @@ use Rattle.lease.proofs.Invariant.{IsSpent, IsSpentAt, no_kind, other_spent, pha
 use Rattle.lease.proofs.Law.{HasLease, at, invariant, phase-at, step_ok, write_lease, write_unspent}
 use Rattle.lease.proofs.Moves.{kind_held}
 use Rattle.lease.proofs.World.{World, happens, opening, run}
-use Rattle.target_upgrade.specs.Target.{version_of}
+use Rattle.upgrade_laws.specs.Target.{version_of}
 use Rattle.exclusion.specs.Exclusive.{AllKeepVersions}
 use Rattle.exclusion.specs.Learnt.{Learnt, learnt_from, learnt_of, nothing}
 use Rattle.exclusion.proofs.Growth.{learnt_from-append, of_supported}

@@ -13,8 +13,8 @@ use Rattle.lease.proofs.Invariant.{no_kind, past_none, phase_in}
 use Rattle.lease.proofs.Law.{apart_in, count-at, guarded_plain, kind_at, later, write_lease, write_unspent}
 use Rattle.lease.proofs.World.{opening}
 use Rattle.target_upgrade.specs.Steps.{Stage, Reads, ReadsOld, At, Gets, Upgraded, Stuck, awaited}
-use Rattle.target_upgrade.specs.Target.{version_of}
-use Rattle.target_upgrade.proofs.Walked.{next_call}
+use Rattle.upgrade_laws.specs.Target.{version_of}
+use Rattle.upgrade_laws.proofs.Walked.{next_call}
 use Rattle.exclusion.specs.Exclusive.{AllKeepVersions, IsAsReadAt, IsExclusive, OpensUpgrade}
 use Rattle.exclusion.specs.Learnt.{Learnt, learnt_of}
 use Rattle.exclusion.proofs.Known.{IsUnwritten, knows_at, part_at, sync_so, world}

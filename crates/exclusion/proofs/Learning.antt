@@ -15,8 +15,8 @@ use Rattle.sync_info.specs.Read.{info_in}
 use Rattle.sync_info.specs.declared.info.Info.{Info}
 use Rattle.target_upgrade.specs.Course.{Course, begun_course, is_allowed, is_supported, course_after, course_from, allowed_from, told_after, told_by, stage_by, stage_lost}
 use Rattle.target_upgrade.specs.Steps.{SUPPORTED, Stage, Reads, ReadsOld, At, Gets, Upgraded, Stuck, awaited, starts_from, starts_with, after_info, after_old, stage_after}
-use Rattle.target_upgrade.proofs.UnderWay.{is_under_way, under_way_on}
-use Rattle.target_upgrade.proofs.Walked.{next_call, allowed_so_far}
+use Rattle.upgrade_laws.proofs.UnderWay.{is_under_way, under_way_on}
+use Rattle.upgrade_laws.proofs.Walked.{next_call, allowed_so_far}
 use Rattle.exclusion.specs.Learnt.{Learnt, nothing, with_info, learnt_of_info, learnt_of_old, learnt_by, learnt_after, learnt_from}
 use Rattle.exclusion.proofs.Growth.{Grows, grows, has_supported, not_empty}
 

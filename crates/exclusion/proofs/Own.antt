@@ -18,7 +18,7 @@ use Rattle.lease.proofs.Moves.{Move, kind_held}
 use Rattle.lease.proofs.World.{landed_allowed, turn}
 use Rattle.target_upgrade.specs.Course.{keeps_version}
 use Rattle.target_upgrade.specs.Steps.{SUPPORTED}
-use Rattle.target_upgrade.specs.Target.{version_of}
+use Rattle.upgrade_laws.specs.Target.{version_of}
 use Rattle.exclusion.specs.Learnt.{Learnt, nothing, learnt_of_old, learnt_by, learnt_from}
 use Rattle.exclusion.proofs.Growth.{leaseless_learns}
 use Rattle.exclusion.proofs.Moved.{HasUnspent, IsEarly, moved_early, moved_had}

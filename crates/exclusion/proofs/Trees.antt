@@ -21,8 +21,8 @@ use Rattle.sync_info.specs.Read.{info_in}
 use Rattle.sync_info.specs.declared.info.Info.{Info}
 use Rattle.target_upgrade.specs.Course.{is_supported, is_current, keeps_version}
 use Rattle.target_upgrade.specs.Steps.{SUPPORTED}
-use Rattle.target_upgrade.specs.Target.{info_by, info_of, info_within, version_of}
-use Rattle.target_upgrade.proofs.Files.{differs, heads_apart, seconds_apart, info_no_item, old_no_item, lock_apart, is_version_file}
+use Rattle.upgrade_laws.specs.Target.{info_by, info_of, info_within, version_of}
+use Rattle.upgrade_laws.proofs.Files.{differs, heads_apart, seconds_apart, info_no_item, old_no_item, lock_apart, is_version_file}
 use Rattle.exclusion.specs.Learnt.{Learnt, nothing, with_info, learnt_of_info, learnt_of_old, learnt_by}
 
 -- ---- what a session has read is so

@@ -7,7 +7,7 @@ use Rattle.jop_target.specs.declared.event.Event.{Event}
 use Rattle.jop_target.specs.declared.tree.Tree.{Tree}
 use Rattle.lease.specs.Exclusion.{EndsIn, Holds, IsHeldApart, IsTimely, OthersKeepLocks, Upgrades}
 use Rattle.target_upgrade.specs.Course.{KeepsVersions}
-use Rattle.target_upgrade.specs.Target.{version_of}
+use Rattle.upgrade_laws.specs.Target.{version_of}
 use Rattle.exclusion.specs.Learnt.{learnt_of}
 
 -- ---- the version that was read

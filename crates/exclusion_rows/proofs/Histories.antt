@@ -22,7 +22,7 @@ use Rattle.lease.specs.Exclusion.{AllKeepLocks, IsTimely, Upgrades}
 use Rattle.lease.specs.Stories.{one}
 use Rattle.lease.proofs.Written.{is_honest, is_timely, all_keep_locks}
 use Rattle.target_upgrade.specs.Course.{allowed_from}
-use Rattle.target_upgrade.specs.Target.{info_of}
+use Rattle.upgrade_laws.specs.Target.{info_of}
 use Rattle.exclusion.specs.Exclusive.{AllKeepVersions, IsExclusive}
 use Rattle.exclusion.specs.Learnt.{learnt_from}
 use Rattle.exclusion.proofs.Written.{all_keep_versions, put_writes}

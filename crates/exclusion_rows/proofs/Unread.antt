@@ -7,7 +7,7 @@ use Rattle.std.proofs.lemmas.Slice.Eq.{bytes_eq-Decides}
 use Rattle.jop_target.specs.History.{History, Step, is_guarded_call, landed_call, part_of, tree_at}
 use Rattle.jop_target.specs.declared.call.Call.{Call}
 use Rattle.lease.specs.Exclusion.{Holds, Upgrades}
-use Rattle.target_upgrade.specs.Target.{version_of}
+use Rattle.upgrade_laws.specs.Target.{version_of}
 use Rattle.jop_base.specs.declared.lock_name.LockKind.TheVariants.{Sync}
 use Rattle.jop_base.specs.declared.path.Path.TheVariants.{Item}
 use Rattle.lease.specs.Stories.{one, puts_empty}

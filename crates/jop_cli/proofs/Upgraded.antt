@@ -19,7 +19,7 @@ use Rattle.sync_run.specs.Sessions.{IsMarkOr}
 use Rattle.sync_run.specs.declared.session_err.SessionErr.{SessionErr}
 use Rattle.sync_run.specs.declared.session_err.SessionErr.TheVariants.{Busy, LeaseLost, TargetNewer, BadInfo, TargetFault, NoMemory}
 use Rattle.target_upgrade.specs.Answers.{IsCall}
-use Rattle.target_upgrade.specs.Runs.{LeavesUpgraded}
+use Rattle.upgrade_laws.specs.Runs.{LeavesUpgraded}
 use Rattle.jop_cli.proofs.Heard.{bad_left, newer_left}
 use Rattle.jop_cli.proofs.Licensed.{upgrade_licensed}
 use Rattle.jop_cli.proofs.OwnLicences.{licensed_as_named, unowned_licensed}

@@ -1,5 +1,5 @@
 -- The lock for which a session gives up is one that a listing of its trail shows in the way.
-use Rattle.std.proofs.Common.{refl, ◌≡◌, ◌∙◌, sym, ap, subst, arith, inl, inr, ℕ, List, [], ◌∷◌, ◌++◌, append_assoc, length, length-append, Some}
+use Rattle.std.proofs.Common.{◌≡◌, ◌∙◌, refl, sym, ap, subst, arith, inl, inr, ℕ, List, [], ◌∷◌, ◌++◌, append_assoc, length, length-append, Some}
 use Rattle.jop_base.specs.declared.dir.Dir.TheVariants.{Locks}
 use Rattle.jop_base.specs.declared.lock_name.LockKind.{LockKind}
 use Rattle.jop_base.specs.declared.path.Path.TheVariants.{Lock as LockFile}

@@ -5,9 +5,10 @@ use Rattle.jop_target.specs.declared.call.Call.{Call}
 use Rattle.jop_target.specs.declared.call.Call.TheVariants.{List as ListDir, Put, Delete, MakeDir}
 use Rattle.jop_target.specs.declared.reply.Reply.{Reply}
 use Rattle.jop_target.specs.declared.event.Event.{Event}
-use Rattle.jop_target.specs.declared.event.Event.TheVariants.{Sent, Called}
+use Rattle.jop_target.specs.declared.event.Event.TheVariants.{Began, Sent, Called, Made, Ended}
 use Rattle.jop_target.specs.Replies.{IsCallable, IsReplyTo}
 use Rattle.jop_target.proofs.Runs.{continues_on, continues_same, continues_answered, continues_unheard, continues_weaker}
+use Rattle.jop_target.specs.Running.{is_running, runs_from}
 use Rattle.jop_target.specs.Trail.{LineNow, IsAnswered, IsUnheard, EndsWith}
 use Rattle.lease.specs.Calls.{IsLeaseCall, IsLeaseEvent, GoesOn, LeaseGoesOn, MayCall, MayAsk, Hears, IsLast}
 use Rattle.lease.specs.Discipline.{Session, session_of, phase_of, session_from, session_after, outside, keeps_lock_order, renews_in_time}
@@ -28,6 +29,32 @@ pub session_from-last : (client : List ℕ) (s : Session) (es : List Event) (e :
     session_from client s (es ++ e ∷ []) ≡ session_after client (session_from client s es) e
 unfolding session_from
 session_from-last client s es e = session_from-append client s es (e ∷ [])
+
+-- ---- a session that goes on
+
+-- the diary and the discipline of locks say the same of it
+running_from : (client : List ℕ) (s : Session) (es : List Event) →
+    (session_from client s es).running ≡ runs_from s.running es
+unfolding session_from runs_from
+running_from client s [] = refl
+running_from client s (Began ∷ es) = running_from client (session_after client s Began) es
+running_from client s (Sent call ∷ es) =
+    running_from client (session_after client s (Sent call)) es
+running_from client s (Called call reply ∷ es) =
+    running_from client (session_after client s (Called call reply)) es
+running_from client s (Made number ∷ es) = running_from client s es
+running_from client s (Ended ∷ es) = running_from client (session_after client s Ended) es
+
+still_running : (client : List ℕ) (trail : List Event) →
+    (session_of client trail).running ≡ true → is_running trail ≡ true
+still_running client trail running = sym (running_from client outside trail) ∙ running
+
+-- so there is room for its end
+pub has_room : (client : List ℕ) (trail : List Event) → (session_of client trail).running ≡ true →
+    ¬ (is_running trail ≡ true → false ≡ true)
+has_room client trail running refused =
+    let lost : false ≡ true = refused (still_running client trail running) in
+    cc
 
 -- ---- one call
 

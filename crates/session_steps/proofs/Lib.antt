@@ -11,6 +11,7 @@ pub mod Ending
 pub mod Repeating
 pub mod Paid
 pub mod Known
+pub mod Wider
 pub mod Turns
 pub mod Folders
 pub mod Found

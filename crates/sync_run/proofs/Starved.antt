@@ -1,14 +1,12 @@
 -- Out of memory no call of a session was answered `Failed`.
-use Rattle.std.proofs.Common.{◌≡◌, ◌∙◌, refl, sym, subst, List, [], ◌∷◌, ◌++◌, append-nil, ℕ, true, false, Result, Ok, Err}
+use Rattle.std.proofs.Common.{◌≡◌, ◌∙◌, refl, sym, subst, List, [], ◌∷◌, ◌++◌, append-nil, false, Result, Ok, Err}
 use Rattle.std.proofs.lemmas.List.{append_cancel_left}
 use Rattle.jop_target.specs.declared.call.Call.{Call}
 use Rattle.jop_target.specs.declared.event.Event.{Event}
-use Rattle.jop_target.specs.declared.event.Event.TheVariants.{Began, Sent, Called, Made, Ended}
+use Rattle.jop_target.specs.declared.event.Event.TheVariants.{Began}
 use Rattle.jop_target.specs.Runs.{has_failed}
-use Rattle.jop_target.specs.Running.{is_running, runs_from}
 use Rattle.jop_target.specs.Trail.{LineNow}
 use Rattle.lease.specs.Added.{Makes}
-use Rattle.lease.specs.Discipline.{Session, outside, session_after, session_from, session_of}
 use Rattle.lease.specs.Work.{NoneFailed}
 use Rattle.lease.specs.declared.error.LeaseErr.{LeaseErr}
 use Rattle.lease.specs.declared.error.LeaseErr.TheVariants.{Busy, Lost, TargetFault, NoMemory}
@@ -90,22 +88,3 @@ unfolding has_failed
 none_failed_unbegun old new added stays is =
     let same : [] ≡ added = append_cancel_left old [] added (append-nil old ∙ (sym stays ∙ is)) in
     subst (λ (es : List Event). has_failed es ≡ false) same refl
-
--- ---- its end is written down
-
--- the diary and the discipline of locks say the same of a session that goes on
-running_from : (client : List ℕ) (s : Session) (es : List Event) →
-    (session_from client s es).running ≡ runs_from s.running es
-unfolding session_from runs_from
-running_from client s [] = refl
-running_from client s (Began ∷ es) = running_from client (session_after client s Began) es
-running_from client s (Sent call ∷ es) =
-    running_from client (session_after client s (Sent call)) es
-running_from client s (Called call reply ∷ es) =
-    running_from client (session_after client s (Called call reply)) es
-running_from client s (Made number ∷ es) = running_from client s es
-running_from client s (Ended ∷ es) = running_from client (session_after client s Ended) es
-
-pub still_running : (client : List ℕ) (trail : List Event) →
-    (session_of client trail).running ≡ true → is_running trail ≡ true
-still_running client trail running = sym (running_from client outside trail) ∙ running

@@ -18,7 +18,7 @@ use Rattle.lease.specs.declared.lock.Lock.{Lock}
 use Rattle.lease.proofs.WholeSessions.{adds_begun, adds_none, adds_whole, at_seam}
 use Rattle.target_upgrade.specs.Answers.{IsCall, WorkGoesOn}
 use Rattle.target_upgrade.specs.Course.{Course, KeepsVersions, ObeysLease, begun_course, course_from, course_of}
-use Rattle.target_upgrade.specs.Runs.{LeavesUpgraded, begins_none}
+use Rattle.upgrade_laws.specs.Runs.{LeavesUpgraded, begins_none}
 use Rattle.target_upgrade.specs.Steps.{Upgraded}
 use Rattle.target_upgrade.proofs.Courses.{course_from-last}
 use Rattle.target_upgrade.proofs.Whole.{course_of-begun, keeps_begun, keeps_none, keeps_whole, stage_left}

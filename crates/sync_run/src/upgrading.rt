@@ -9,7 +9,7 @@ ghost use Rattle.lease.specs.declared.lock.Lock.{Lock};
 ghost use Rattle.target_upgrade.specs.Answers.{IsCall, StandsAt, WorkGoesOn};
 ghost use Rattle.target_upgrade.specs.Course.{ObeysLease};
 ghost use Rattle.target_upgrade.specs.Reading.{IsFoundAt};
-ghost use Rattle.target_upgrade.specs.Runs.{LeavesUpgraded};
+ghost use Rattle.upgrade_laws.specs.Runs.{LeavesUpgraded};
 ghost use Rattle.target_upgrade.specs.Steps.{Reads};
 ghost use Rattle.sync_run.specs.Outcomes.{Comes, StandsFor};
 ghost use Rattle.sync_run.specs.Sessions.{HasBegun, IsMarkOr};
@@ -22,7 +22,8 @@ use jop_base::{ClientId, LockKind};
 use jop_target::{Diary, Line, Target, TargetLine};
 use lease::{Lease, LeaseErr, acquire, blocked, held_apart, release};
 use std::alloc::Global;
-use target_upgrade::{Found, ReadErr, SUPPORTED, read_version, redone, upgrade};
+use target_upgrade::{Found, ReadErr, SUPPORTED, read_version, upgrade};
+use upgrade_laws::redone;
 
 /// A session that brings a target to the supported version, and answers that version: it takes an
 /// exclusive lock for the client, reads the version, makes the steps from it and releases the lock.

@@ -1,4 +1,3 @@
-pub mod Wider
 pub mod Merging
 pub mod Telling
 pub mod Settled

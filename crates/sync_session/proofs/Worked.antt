@@ -37,7 +37,7 @@ use Rattle.target_upgrade.specs.Course.{keeps_version}
 use Rattle.upload.proofs.Left.{same_blobs}
 use Rattle.upload.specs.Conditions.{AreUnput, IsReadable}
 use Rattle.upload.specs.Uploading.{UploadsOne, blobs_of, pending_ids}
-use Rattle.sync_session.proofs.Wider.{IsWithin, does_within, gives_up_within, went_within}
+use Rattle.session_steps.proofs.Wider.{IsWithin, does_within, gives_up_within, went_within}
 use Rattle.sync_session.specs.Errors.{of_opening, of_step}
 use Rattle.sync_session.specs.Keys.{IsActiveKey, has_waiting, needs_key}
 use Rattle.sync_session.specs.Working.{Exchanges, ExchangesOr, LacksKey, ListsBehind, Sends, Syncs, Works, is_exchange, is_sync}

@@ -13,7 +13,7 @@ use sync_info::{Info, write_info};
 /// The calls of an upgrade of which each comes once, in their order. The first three bring a target
 /// from version 0 to 1, the next four to 2.
 #[derive(Clone, Copy, Debug, PartialEq, Eq)]
-pub(crate) enum Step {
+pub enum Step {
     MakesResources,
     MakesOldSync,
     /// `version.txt` says 1.

@@ -1,4 +1,3 @@
-pub mod Deleted
 pub mod Checked
 pub mod Loaded
 pub mod Waiting

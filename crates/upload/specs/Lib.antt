@@ -1,4 +1,3 @@
-pub mod Deleting
 pub mod Uploading
 pub mod Settled
 pub mod Conditions

@@ -18,7 +18,7 @@ use Rattle.table_keeper.specs.Keepers.{KeeperNow}
 use Rattle.site.specs.Owning.{NamesClient, OwnNow, own}
 use Rattle.sync_run.specs.declared.session_err.SessionErr.{SessionErr}
 use Rattle.target_upgrade.specs.Course.{ObeysLease}
-use Rattle.target_upgrade.specs.Runs.{LeavesUpgraded}
+use Rattle.upgrade_laws.specs.Runs.{LeavesUpgraded}
 use Rattle.jop_cli.specs.Outside.{Outside, Ran}
 
 -- ---- what a command comes to

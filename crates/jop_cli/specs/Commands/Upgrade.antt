@@ -18,7 +18,7 @@ use Rattle.sync_run.specs.declared.session_err.SessionErr.{SessionErr}
 use Rattle.sync_run.specs.declared.session_err.SessionErr.TheVariants.{Busy}
 use Rattle.target_upgrade.specs.Answers.{IsCall}
 use Rattle.target_upgrade.specs.Course.{ObeysLease}
-use Rattle.target_upgrade.specs.Runs.{LeavesUpgraded}
+use Rattle.upgrade_laws.specs.Runs.{LeavesUpgraded}
 use Rattle.jop_cli.specs.declared.command.upgrade.UpgradeErr.{UpgradeErr}
 use Rattle.jop_cli.specs.declared.command.upgrade.UpgradeErr.TheVariants as upgrade_errors
 use Rattle.jop_cli.specs.Commands.Sessions.{ClientNow, line_at, side}

@@ -3,17 +3,20 @@ use Rattle.std.proofs.lemmas.Result.{err_from_is_err_and}
 use Rattle.local_store.specs.declared.change.Change.TheVariants.{ContextIs}
 use Rattle.session_steps.proofs.Ending.{gives_up_behind}
 use Rattle.session_steps.proofs.Joins.{does_then}
+use Rattle.session_steps.proofs.Wider.{gives_up_within}
 use Rattle.session_steps.specs.Parts.{Changes, ForEach, Then}
 use Rattle.session_steps.specs.Work.{work_by}
-use Rattle.download.proofs.Paged.{all_asked, takes_as}
-use Rattle.download.specs.Downloading.{Leaves, TakesOne, is_download}
+use Rattle.download.proofs.Paged.{all_asked, takes_as, taking_within}
+use Rattle.download.specs.Downloading.{Leaves, is_download}
+use Rattle.new_files.specs.Taking.{TakesOne, is_taking}
 use Rattle.download.proofs.paging.apply.Goals as goal
 
 pub returns-in_err-take_each-clause-applies : goal.returns-in_err-take_each-clause-applies
 returns-in_err-take_each-clause-applies g c = λ known is.
     let p = err_from_is_err_and c.from_residual.result c.from_residual.ensures.1 in
-    rw (p.1, p.2) (c.in_err-take_each.ensures.takes known
-    (all_asked known c.args.page.now _ is c.as_slice.ensures))
+    rw (p.1, p.2) (gives_up_within is_taking is_download _ _ _ taking_within
+    (c.in_err-take_each.ensures.takes known
+    (all_asked known c.args.page.now _ is c.as_slice.ensures)))
 
 pub returns-in_err-close_page-clause-applies : goal.returns-in_err-close_page-clause-applies
 returns-in_err-close_page-clause-applies g c = λ known is.

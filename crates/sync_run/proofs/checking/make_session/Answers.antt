@@ -1,12 +1,12 @@
-use Rattle.std.proofs.Common.{◌≡◌, ◌∙◌, refl, sym, true, false}
+use Rattle.std.proofs.Common.{◌∙◌, refl, sym}
 use Rattle.std.proofs.lemmas.Result.{err_from_is_err_and}
 use Rattle.jop_target.proofs.Runs.{continues_on}
+use Rattle.lease.proofs.Sessions.{has_room}
 use Rattle.lease.proofs.WholeSessions.{continues_marked, continues_unmarked}
 use Rattle.lease.specs.Calls.{IsLeaseEvent}
 use Rattle.sync_run.specs.Checks.{CheckAnswers}
 use Rattle.sync_run.specs.Sessions.{IsMarkOr}
 use Rattle.sync_run.proofs.Held.{has_begun}
-use Rattle.sync_run.proofs.Starved.{still_running}
 use Rattle.sync_run.proofs.Whole.{adds_ended, adds_nothing, adds_unended, as_marked, lease_inner, runs_lease}
 use Rattle.sync_run.proofs.checking.make_session.Goals as goal
 
@@ -25,9 +25,7 @@ returns-in_err-begin-clause-line g c =
 -- there was room for the end
 pub returns-in_err-end-clause-session : goal.returns-in_err-end-clause-session
 returns-in_err-end-clause-session g c =
-    let refused : false ≡ true =
-    c.in_err-end.ensures.ends (still_running _ _ c.hold-outcome.ensures.goes.running) in
-    absurd cc
+    absurd (has_room _ _ c.hold-outcome.ensures.goes.running c.in_err-end.ensures.ends)
 
 pub returns-in_ok-end-clause-session : goal.returns-in_ok-end-clause-session
 returns-in_ok-end-clause-session g c =
@@ -46,9 +44,7 @@ returns-in_ok-end-clause-line g c =
 
 pub returns-in_err-end-clause-line : goal.returns-in_err-end-clause-line
 returns-in_err-end-clause-line g c =
-    let refused : false ≡ true =
-    c.in_err-end.ensures.ends (still_running _ _ c.hold-outcome.ensures.goes.running) in
-    absurd cc
+    absurd (has_room _ _ c.hold-outcome.ensures.goes.running c.in_err-end.ensures.ends)
 
 pub returns-else-has_ended-clause-session : goal.returns-else-has_ended-clause-session
 returns-else-has_ended-clause-session g c =

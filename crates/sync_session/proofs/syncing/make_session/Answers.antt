@@ -1,9 +1,9 @@
-use Rattle.std.proofs.Common.{◌≡◌, ◌∙◌, refl, sym, true, false}
+use Rattle.std.proofs.Common.{◌∙◌, refl, sym}
 use Rattle.std.proofs.lemmas.Result.{err_from_is_err_and}
 use Rattle.jop_target.proofs.Runs.{continues_on}
+use Rattle.lease.proofs.Sessions.{has_room}
 use Rattle.lease.proofs.WholeSessions.{continues_marked, continues_unmarked}
 use Rattle.session_steps.specs.Steps.{IsStep}
-use Rattle.sync_run.proofs.Starved.{still_running}
 use Rattle.sync_run.proofs.Whole.{as_marked}
 use Rattle.sync_run.specs.Sessions.{IsMarkOr}
 use Rattle.sync_session.proofs.Whole.{adds_open_from, adds_whole_from, has_begun_sync, none_open, open_after, whole_after}
@@ -26,15 +26,11 @@ returns-in_err-begin-clause-line g c =
 -- there was room for the end
 pub returns-in_err-end-clause-session : goal.returns-in_err-end-clause-session
 returns-in_err-end-clause-session g c =
-    let refused : false ≡ true =
-    c.in_err-end.ensures.ends (still_running _ _ c.hold-outcome.ensures.goes.goes.running) in
-    absurd cc
+    absurd (has_room _ _ c.hold-outcome.ensures.goes.goes.running c.in_err-end.ensures.ends)
 
 pub returns-in_err-end-clause-line : goal.returns-in_err-end-clause-line
 returns-in_err-end-clause-line g c =
-    let refused : false ≡ true =
-    c.in_err-end.ensures.ends (still_running _ _ c.hold-outcome.ensures.goes.goes.running) in
-    absurd cc
+    absurd (has_room _ _ c.hold-outcome.ensures.goes.goes.running c.in_err-end.ensures.ends)
 
 pub returns-in_ok-end-clause-session : goal.returns-in_ok-end-clause-session
 returns-in_ok-end-clause-session g c =

@@ -1,0 +1,15 @@
+-- Which files a listing asks for.
+use Rattle.std.specs.Prelude.{ℕ, List, Contains}
+use Rattle.delta.specs.Page.{IsPageOf}
+use Rattle.delta.specs.declared.page.Page.{Page}
+use Rattle.licences.specs.Views.{Shown}
+
+-- this is the page of what the session was shown
+abbrev pub IsPage : Shown → Page → Type 0
+IsPage known page = IsPageOf known.listing known.context known.synced page
+
+-- the page asks for this file
+pub record AsksFor (known : Shown) (id : List ℕ) : Type 0 where
+  pub page : Page
+  pub is : IsPage known page
+  pub taken : Contains page.taken id
