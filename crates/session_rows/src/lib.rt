@@ -4,7 +4,7 @@
 #![tactic(auto)]
 
 #[cfg(test)]
-mod deletions;
+mod deletions_of_rows;
 #[cfg(test)]
 mod downloads_broken;
 #[cfg(test)]
