@@ -1,11 +1,12 @@
 -- The order of paths is that of their ranks, and then of their ids.
-use Rattle.std.proofs.Common.{◌≡◌, ◌<◌, ◌≤◌, ◌+◌, ◌*◌, ◌∙◌, refl, sym, ap, arith, ℕ, List, [], ◌∷◌, ◌++◌, length, true, codes}
+use Rattle.std.proofs.Common.{◌≡◌, ◌<◌, ◌≤◌, ◌+◌, ◌*◌, ◌∙◌, ◌⊎◌, inl, inr, refl, sym, ap, arith, ℕ, List, [], ◌∷◌, ◌++◌, length, true, codes}
 use Rattle.std.specs.Cmp.{nat_cmp_is}
 use Rattle.std.specs.Cmp.Lexicographic.{slice_cmp}
 use Rattle.std.specs.Option.{option_cmp}
 use Rattle.std.specs.Ordering.{nat_cmp, ordering_then}
 use Rattle.std.specs.declared.cmp.Ordering.{Ordering}
 use Rattle.std.specs.declared.cmp.Ordering.TheVariants.{Less, Equal, Greater}
+use Rattle.std.proofs.lemmas.Bool.{cases_lt}
 use Rattle.std.proofs.lemmas.Bool.Decides.{nat_tests}
 use Rattle.jop_base.specs.Id.{IsIdText, is_digit}
 use Rattle.jop_base.specs.LockNames.{Name, IsName}
@@ -14,7 +15,7 @@ use Rattle.jop_base.specs.Paths.{IsPath, id_of, file_name, path_text}
 use Rattle.jop_base.specs.declared.lock_name.LockKind.{LockKind}
 use Rattle.jop_base.specs.declared.lock_name.LockKind.TheVariants.{Sync, Exclusive}
 use Rattle.jop_base.specs.declared.path.Path.{Path}
-use Rattle.jop_base.specs.declared.path.Path.TheVariants.{Info, OldVersion, Item, Blob, Lock, Temp as TempFile}
+use Rattle.jop_base.specs.declared.path.Path.TheVariants.{Info, OldVersion, Item, Blob, Lock, Temp as TempFile, Tomb}
 
 -- ---- numbers
 
@@ -151,6 +152,115 @@ items (a ∷ b ∷ x) (c ∷ d ∷ y) text other =
     ap (λ (o : Ordering). ordering_then o ids) (first_two-cmp a b c d small less)
     ∙ said_twice (nat_cmp a c) (nat_cmp b d) (slice_cmp nat_cmp x y)
 
+-- ---- an item and a file of deletions, whose folder's name begins as an id may
+
+-- the name of such a file behind its first three letters
+abbrev tomb_rest : List ℕ → List ℕ
+tomb_rest j = codes "eted/" ++ j
+
+-- the text of an item against it
+item_text : (a b c : ℕ) (x y : List ℕ) → c ≤ 102 →
+    ((a < 100) ⊎ ((a ≡ 100) × (b ≤ 101)) →
+    slice_cmp nat_cmp (a ∷ b ∷ c ∷ x) (100 ∷ 101 ∷ 108 ∷ y) ≡ Less)
+    × ((100 < a) ⊎ ((a ≡ 100) × (101 < b)) →
+    slice_cmp nat_cmp (a ∷ b ∷ c ∷ x) (100 ∷ 101 ∷ 108 ∷ y) ≡ Greater)
+item_text a b c x y third =
+    let t3 = slice_cmp nat_cmp x y in
+    let t2 = ordering_then (nat_cmp c 108) t3 in
+    let t1 = ordering_then (nat_cmp b 101) t2 in (
+      λ low. elim low [
+        | inl less ↦ then_less a 100 t1 less
+        | inr same ↦
+            ap (λ (n : ℕ). ordering_then (nat_cmp n 100) t1) same.0 ∙ then_same 100 t1
+            ∙ elim (cases_lt b 101) [
+              | inl less ↦ then_less b 101 t2 less
+              | inr more ↦
+                  let just : b ≡ 101 = omega (arith, more, same.1) in
+                  ap (λ (n : ℕ). ordering_then (nat_cmp n 101) t2) just
+                  ∙ then_same 101 t2 ∙ then_less c 108 t3 (omega (arith, third))
+            ]
+      ],
+      λ high. elim high [
+        | inl more ↦ then_greater a 100 t1 more
+        | inr same ↦
+            ap (λ (n : ℕ). ordering_then (nat_cmp n 100) t1) same.0 ∙ then_same 100 t1
+            ∙ then_greater b 101 t2 same.1
+      ],
+    )
+
+-- and it against an item's
+tomb_text : (a b c : ℕ) (x y : List ℕ) → c ≤ 102 →
+    ((a < 100) ⊎ ((a ≡ 100) × (b ≤ 101)) →
+    slice_cmp nat_cmp (100 ∷ 101 ∷ 108 ∷ y) (a ∷ b ∷ c ∷ x) ≡ Greater)
+    × ((100 < a) ⊎ ((a ≡ 100) × (101 < b)) →
+    slice_cmp nat_cmp (100 ∷ 101 ∷ 108 ∷ y) (a ∷ b ∷ c ∷ x) ≡ Less)
+tomb_text a b c x y third =
+    let t3 = slice_cmp nat_cmp y x in
+    let t2 = ordering_then (nat_cmp 108 c) t3 in
+    let t1 = ordering_then (nat_cmp 101 b) t2 in (
+      λ low. elim low [
+        | inl less ↦ then_greater 100 a t1 less
+        | inr same ↦
+            ap (λ (n : ℕ). ordering_then (nat_cmp 100 n) t1) same.0 ∙ then_same 100 t1
+            ∙ elim (cases_lt b 101) [
+              | inl less ↦ then_greater 101 b t2 less
+              | inr more ↦
+                  let just : b ≡ 101 = omega (arith, more, same.1) in
+                  ap (λ (n : ℕ). ordering_then (nat_cmp 101 n) t2) just
+                  ∙ then_same 101 t2 ∙ then_greater 108 c t3 (omega (arith, third))
+            ]
+      ],
+      λ high. elim high [
+        | inl more ↦ then_less 100 a t1 more
+        | inr same ↦
+            ap (λ (n : ℕ). ordering_then (nat_cmp 100 n) t1) same.0 ∙ then_same 100 t1
+            ∙ then_less 101 b t2 same.1
+      ],
+    )
+
+-- the first two digits say on which side it stands
+side : (a b : ℕ) → b ≤ 102 →
+    (((a < 100) ⊎ ((a ≡ 100) × (b ≤ 101))) × (10 * (256 * a + b) < 257011))
+    ⊎ (((100 < a) ⊎ ((a ≡ 100) × (101 < b))) × (257011 < 10 * (256 * a + b)))
+side a b small = elim (cases_lt a 100) [
+  | inl less ↦ inl (inl less, omega (arith, less, small))
+  | inr least ↦ elim (cases_lt 100 a) [
+    | inl more ↦ inr (inl more, omega (arith, more))
+    | inr most ↦ elim (cases_lt 101 b) [
+      | inl high ↦ inr (inr (omega (arith, least, most), high), omega (arith, least, most, high))
+      | inr low ↦ inl (inr (omega (arith, least, most), low), omega (arith, least, most, low))
+    ]
+  ]
+]
+
+item_and_tomb : (i j : List ℕ) → IsIdText i
+    → by_rank (Item i) (Tomb j) ≡ slice_cmp nat_cmp (i ++ codes ".md") (codes "deleted/" ++ j)
+item_and_tomb [] j text = absurd (omega (arith, text.long))
+item_and_tomb (a ∷ []) j text = absurd (omega (arith, text.long))
+item_and_tomb (a ∷ b ∷ []) j text = absurd (omega (arith, text.long))
+item_and_tomb (a ∷ b ∷ c ∷ x) j text =
+    let small = (digit_bounds b (text.digits 1 b (omega arith))).1 in
+    let third = (digit_bounds c (text.digits 2 c (omega arith))).1 in
+    let texts = item_text a b c (x ++ codes ".md") (tomb_rest j) third in
+    elim (side a b small) [
+      | inl low ↦ then_less (10 * (256 * a + b)) 257011 _ low.1 ∙ sym (texts.0 low.0)
+      | inr high ↦ then_greater (10 * (256 * a + b)) 257011 _ high.1 ∙ sym (texts.1 high.0)
+    ]
+
+tomb_and_item : (i j : List ℕ) → IsIdText i
+    → by_rank (Tomb j) (Item i) ≡ slice_cmp nat_cmp (codes "deleted/" ++ j) (i ++ codes ".md")
+tomb_and_item [] j text = absurd (omega (arith, text.long))
+tomb_and_item (a ∷ []) j text = absurd (omega (arith, text.long))
+tomb_and_item (a ∷ b ∷ []) j text = absurd (omega (arith, text.long))
+tomb_and_item (a ∷ b ∷ c ∷ x) j text =
+    let small = (digit_bounds b (text.digits 1 b (omega arith))).1 in
+    let third = (digit_bounds c (text.digits 2 c (omega arith))).1 in
+    let texts = tomb_text a b c (x ++ codes ".md") (tomb_rest j) third in
+    elim (side a b small) [
+      | inl low ↦ then_greater 257011 (10 * (256 * a + b)) _ low.1 ∙ sym (texts.0 low.0)
+      | inr high ↦ then_less 257011 (10 * (256 * a + b)) _ high.1 ∙ sym (texts.1 high.0)
+    ]
+
 -- ---- two locks
 
 abbrev lock_at : LockKind → ℕ → List ℕ → Path
@@ -180,21 +290,13 @@ locks Exclusive Exclusive t u i j small other long = locks_by_type 410000 t u i 
 
 pub path_cmp-by_rank : (p q : Path) → IsPath p → IsPath q → by_rank p q ≡ path_cmp p q
 unfolding path_cmp
-path_cmp-by_rank (Blob i) (Blob j) h k = refl
-path_cmp-by_rank (Blob i) OldVersion h k = refl
 path_cmp-by_rank (Blob i) (Item j) h k =
     item_behind 100 j _ k (omega arith) ∙ id_behind 46 (codes "resource/" ++ i) j _ (omega arith) k
-path_cmp-by_rank (Blob i) Info h k = refl
 path_cmp-by_rank (Blob i) (Lock m) h k = lock_before m 100 _ k (omega arith)
-path_cmp-by_rank (Blob i) (TempFile j) h k = refl
-path_cmp-by_rank OldVersion (Blob j) h k = refl
-path_cmp-by_rank OldVersion OldVersion h k = refl
 path_cmp-by_rank OldVersion (Item j) h k =
     item_behind 200 j _ k (omega arith)
     ∙ id_behind 46 (codes "sync/version.txt") j _ (omega arith) k
-path_cmp-by_rank OldVersion Info h k = refl
 path_cmp-by_rank OldVersion (Lock m) h k = lock_before m 200 _ k (omega arith)
-path_cmp-by_rank OldVersion (TempFile j) h k = refl
 path_cmp-by_rank (Item i) (Blob j) h k =
     behind_item 100 i _ h (omega arith) ∙ behind_id 46 (codes "resource/" ++ j) i _ (omega arith) h
 path_cmp-by_rank (Item i) OldVersion h k =
@@ -210,13 +312,10 @@ path_cmp-by_rank (Item i) (Lock m) h k =
 path_cmp-by_rank (Item i) (TempFile j) h k =
     item_before 500000 i _ h (omega arith)
     ∙ id_before 116 (codes "emp/" ++ file_name (TempFile j)) i _ (omega arith) h
-path_cmp-by_rank Info (Blob j) h k = refl
-path_cmp-by_rank Info OldVersion h k = refl
+path_cmp-by_rank (Item i) (Tomb j) h k = item_and_tomb i j h
 path_cmp-by_rank Info (Item j) h k =
     before_item 300000 j _ k (omega arith) ∙ before_id 105 (codes "nfo.json") j _ (omega arith) k
-path_cmp-by_rank Info Info h k = refl
 path_cmp-by_rank Info (Lock m) h k = lock_before m 300000 _ k (omega arith)
-path_cmp-by_rank Info (TempFile j) h k = refl
 path_cmp-by_rank (Lock n) (Blob j) h k = lock_behind n 100 _ h (omega arith)
 path_cmp-by_rank (Lock n) OldVersion h k = lock_behind n 200 _ h (omega arith)
 path_cmp-by_rank (Lock n) (Item j) h k =
@@ -228,12 +327,13 @@ path_cmp-by_rank (Lock n) (Lock m) h k =
     h.client_type k.client_type (h.client.long ∙ sym k.client.long)
 path_cmp-by_rank (Lock n) (TempFile j) h k =
     then_less _ 500000 _ (lock_bounds n.kind n.client_type h.client_type).1
-path_cmp-by_rank (TempFile i) (Blob j) h k = refl
-path_cmp-by_rank (TempFile i) OldVersion h k = refl
+path_cmp-by_rank (Lock n) (Tomb j) h k = lock_behind n 257011 _ h (omega arith)
 path_cmp-by_rank (TempFile i) (Item j) h k =
     before_item 500000 j _ k (omega arith)
     ∙ before_id 116 (codes "emp/" ++ file_name (TempFile i)) j _ (omega arith) k
-path_cmp-by_rank (TempFile i) Info h k = refl
 path_cmp-by_rank (TempFile i) (Lock m) h k =
     then_greater 500000 _ _ (lock_bounds m.kind m.client_type k.client_type).1
 path_cmp-by_rank (TempFile i) (TempFile j) h k = sym (slice_cmp-append i j _ (h.long ∙ sym k.long))
+path_cmp-by_rank (Tomb i) (Item j) h k = tomb_and_item j i k
+path_cmp-by_rank (Tomb i) (Lock m) h k = lock_before m 257011 _ k (omega arith)
+path_cmp-by_rank p q h k = refl

@@ -1,5 +1,6 @@
-ghost use Rattle.std.specs.Prelude.{◌≡◌, IfOk};
-ghost use Rattle.jop_base.specs.Paths.{dir_text};
+ghost use Rattle.std.specs.Prelude.{◌≡◌, IfNone, IfOk, IfSome};
+ghost use Rattle.jop_base.specs.Paths.{dir_prefix, dir_text};
+ghost use Rattle.jop_base.specs.declared.dir.Dir.{Dir};
 
 use crate::text::Text;
 use std::alloc::{AllocError, Global};
@@ -13,20 +14,40 @@ pub enum Dir {
     OldSync,
     Locks,
     Temp,
+    /// Where a later version of targets records what was deleted.
+    Tombs,
 }
 
 impl Dir {
+    /// All folders.
+    pub const ALL: [Dir; 6] = [
+        Dir::Root,
+        Dir::Resources,
+        Dir::OldSync,
+        Dir::Locks,
+        Dir::Temp,
+        Dir::Tombs,
+    ];
+
+    /// What stands before the names of the folder's files: its name and a slash, for the root nothing.
+    pub fn prefix(self) -> &'static str
+        ensures { result.now ≡ dir_prefix self }
+    {
+        match self {
+            Dir::Root => "",
+            Dir::Resources => ".resource/",
+            Dir::OldSync => ".sync/",
+            Dir::Locks => "locks/",
+            Dir::Temp => "temp/",
+            Dir::Tombs => "deleted/",
+        }
+    }
+
     /// The name of the folder; that of the root is empty.
     pub fn as_str(self) -> &'static str
         ensures { result.now ≡ dir_text self }
     {
-        match self {
-            Dir::Root => "",
-            Dir::Resources => ".resource",
-            Dir::OldSync => ".sync",
-            Dir::Locks => "locks",
-            Dir::Temp => "temp",
-        }
+        self.prefix().strip_suffix('/').unwrap_or("")
     }
 
     /// The name of the folder; that of the root is empty.
@@ -34,6 +55,19 @@ impl Dir {
         ensures { IfOk result (λ text. text ≡ dir_text self.now) }
     {
         Text::of(alloc, self.as_str())
+    }
+
+    /// The folder before the names of whose files this stands. None exactly if it stands before none.
+    pub fn of_prefix(prefix: &[u8]) -> Option<Dir>
+        ensures some { IfSome result (λ dir. dir_prefix dir ≡ prefix.now) }
+        ensures none { IfNone result ((dir : Dir) → ¬ (dir_prefix dir ≡ prefix.now)) }
+    {
+        for dir in &Dir::ALL {
+            if dir.prefix().as_bytes() == prefix {
+                return Some(*dir);
+            }
+        }
+        None
     }
 }
 

@@ -22,6 +22,8 @@ pub enum Path {
     Blob(Id),
     Lock(LockName),
     Temp(Id),
+    /// The record that an item was deleted. Nothing makes one so far.
+    Tomb(Id),
 }
 
 impl Path {
@@ -35,10 +37,12 @@ impl Path {
             Path::Blob(_) => Dir::Resources,
             Path::Lock(_) => Dir::Locks,
             Path::Temp(_) => Dir::Temp,
+            Path::Tomb(_) => Dir::Tombs,
         }
     }
 
-    /// The id that the file's name has: that of an item, a blob, a lock's client or a temporary file.
+    /// The id that the file's name has: that of an item, a blob, a lock's client, a temporary file or an item that was
+    /// deleted.
     pub fn id(&self) -> Option<Id>
         ensures id { result ≡ id_of self.now }
         ensures path { IsPath self.now }
@@ -46,7 +50,7 @@ impl Path {
         self.prove_valid();
         match self {
             Path::Info | Path::OldVersion => None,
-            Path::Item(id) | Path::Blob(id) | Path::Temp(id) => Some(*id),
+            Path::Item(id) | Path::Blob(id) | Path::Temp(id) | Path::Tomb(id) => Some(*id),
             Path::Lock(name) => Some(name.client),
         }
     }
@@ -57,7 +61,7 @@ impl Path {
     {
         match self {
             Path::Info | Path::OldVersion => {}
-            Path::Item(id) | Path::Blob(id) | Path::Temp(id) => id.prove_valid(),
+            Path::Item(id) | Path::Blob(id) | Path::Temp(id) | Path::Tomb(id) => id.prove_valid(),
             Path::Lock(name) => name.prove_valid(),
         }
     }
@@ -69,7 +73,7 @@ impl Path {
     {
         match self {
             Path::Lock(_) | Path::Temp(_) => false,
-            Path::Info | Path::OldVersion | Path::Item(_) | Path::Blob(_) => true,
+            Path::Info | Path::OldVersion | Path::Item(_) | Path::Blob(_) | Path::Tomb(_) => true,
         }
     }
 
@@ -77,14 +81,8 @@ impl Path {
     pub fn file_name(&self, alloc: Global) -> Result<Text, AllocError>
         ensures { IfOk result (λ text. text ≡ file_name self.now) }
     {
-        match self {
-            Path::Info => Text::of(alloc, "info.json"),
-            Path::OldVersion => Text::of(alloc, "version.txt"),
-            Path::Item(id) => joined(alloc, id.as_str(), ".md"),
-            Path::Blob(id) => Text::of(alloc, id.as_str()),
-            Path::Lock(name) => name.file_name(alloc),
-            Path::Temp(id) => joined(alloc, id.as_str(), ".tmp"),
-        }
+        let name = FileName { path: self };
+        Ok(Text::from_string(format!(in alloc; "{name}")?))
     }
 
     /// The name of the file on the target, from the root on.
@@ -93,15 +91,6 @@ impl Path {
     {
         Ok(Text::from_string(format!(in alloc; "{self}")?))
     }
-}
-
-/// Two texts in a row.
-fn joined(alloc: Global, start: &str, end: &str) -> Result<Text, AllocError>
-    ensures { IfOk result (λ text. text ≡ start.now ++ end.now) }
-{
-    let mut text = Text::of(alloc, start)?;
-    text.append(end)?;
-    Ok(text)
 }
 
 impl Copied for Path {
@@ -117,13 +106,31 @@ impl fmt::Display for Path {
     ghost output = { λ path. Some (path_text path) };
 
     fn fmt<W: fmt::Write>(&self, f: &mut fmt::Formatter<W>) -> fmt::Result {
-        match self {
+        let (prefix, name) = (self.dir().prefix(), FileName { path: self });
+        write!(f, "{prefix}{name}")
+    }
+}
+
+/// The name of a file in its folder, as it is written.
+#[derive(Clone, Copy, Debug)]
+struct FileName<'a> {
+    path: &'a Path,
+}
+
+impl fmt::Display for FileName<'_> {
+    ghost use Rattle.std.specs.Prelude.{Some};
+    ghost use Rattle.jop_base.specs.Paths.{file_name};
+
+    ghost output = { λ name. Some (file_name name.path.now) };
+
+    fn fmt<W: fmt::Write>(&self, f: &mut fmt::Formatter<W>) -> fmt::Result {
+        match self.path {
             Path::Info => f.write_str("info.json"),
-            Path::OldVersion => f.write_str(".sync/version.txt"),
+            Path::OldVersion => f.write_str("version.txt"),
             Path::Item(id) => write!(f, "{id}.md"),
-            Path::Blob(id) => write!(f, ".resource/{id}"),
-            Path::Lock(name) => write!(f, "locks/{name}"),
-            Path::Temp(id) => write!(f, "temp/{id}.tmp"),
+            Path::Blob(id) | Path::Tomb(id) => write!(f, "{id}"),
+            Path::Lock(name) => write!(f, "{name}"),
+            Path::Temp(id) => write!(f, "{id}.tmp"),
         }
     }
 }

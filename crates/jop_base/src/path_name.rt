@@ -1,7 +1,7 @@
 ghost use Rattle.std.specs.Prelude.{◌≡◌, ◌++◌, ℕ, List, IfSome, IfNone};
 ghost use Rattle.jop_base.specs.Id.{IsIdText};
 ghost use Rattle.jop_base.specs.declared.path.Path.{Path};
-ghost use Rattle.jop_base.specs.Paths.{IsPath, IsNamed};
+ghost use Rattle.jop_base.specs.Paths.{HasNoFile, IsPath, IsNamed, path_text};
 
 use crate::dir::Dir;
 use crate::id::Id;
@@ -20,8 +20,30 @@ impl Path {
             Dir::OldSync => read_old(name),
             Dir::Locks => Some(Path::Lock(LockName::read(name)?)),
             Dir::Temp => Some(Path::Temp(id_before(name, b".tmp")?)),
+            Dir::Tombs => Some(Path::Tomb(Id::read(name)?)),
         }
     }
+
+    /// The file that has this text. None exactly if no file has.
+    pub fn of_text(text: &[u8]) -> Option<Path>
+        ensures some { IfSome result (λ path. (path_text path ≡ text.now) × IsPath path) }
+        ensures none { IfNone result ((path : Path) → IsPath path → ¬ (path_text path ≡ text.now)) }
+    {
+        for dir in &Dir::ALL {
+            if let Some(path) = read_in(*dir, text) {
+                return Some(path);
+            }
+        }
+        None
+    }
+}
+
+/// The file of a folder that has this text.
+fn read_in(dir: Dir, text: &[u8]) -> Option<Path>
+    ensures some { IfSome result (λ path. (path_text path ≡ text.now) × IsPath path) }
+    ensures none { IfNone result (HasNoFile dir text.now) }
+{
+    Path::read(dir, text.strip_prefix(dir.prefix().as_bytes())?)
 }
 
 fn read_root(name: &[u8]) -> Option<Path>

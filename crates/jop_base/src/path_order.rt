@@ -32,5 +32,6 @@ fn rank(path: &Path) -> u32
             LockKind::Exclusive => 410_000 + u32::from(name.client_type),
         },
         Path::Temp(_) => 500_000,
+        Path::Tomb(_) => 257_011,
     }
 }
