@@ -1,7 +1,7 @@
 -- The words of the commands on this machine's own tables.
 use Rattle.std.specs.Prelude.{ℕ, List, [], ◌∷◌, length, codes, bytes_eq, nat_le, Bool, not, ◌&&◌, if◌then◌else◌}
 use Rattle.std.specs.Prelude.{Option, Some, None, option_map}
-use Rattle.dav_parts.specs.Fields.{number_in}
+use Rattle.jop_base.specs.Decimals.{decimal_in}
 use Rattle.item_text.specs.Lines.{has, trimmed}
 use Rattle.local_commands.specs.declared.local_command.LocalCommand.{LocalCommand}
 use Rattle.local_commands.specs.declared.local_command.LocalCommand.TheVariants.{Add, Attach, Cat, Clear, Conflicts, Edit, Ls, Mkbook, Rm, Tag}
@@ -22,7 +22,7 @@ mime_in word = if is_line word && bytes_eq (trimmed word) word then Some word el
 
 -- one to twenty decimal digits, of a number below 2^64
 abbrev pub count_in : List ℕ → Option ℕ
-count_in word = if nat_le (length word) 20 then number_in word else None
+count_in word = if nat_le (length word) 20 then decimal_in word else None
 
 -- two parts, if both are there
 abbrev pub both : {S T U : Type 0} → (S → T → U) → Option S → Option T → Option U

@@ -8,9 +8,8 @@ ghost use Rattle.command_line.specs.Words.{id_of};
 ghost use Rattle.local_commands.specs.declared.local_command.LocalCommand.TheVariants as commands;
 
 use crate::words::read_id;
-use dav_parts::read_decimal;
 use item_text::trimmed;
-use jop_base::{Copied, Text};
+use jop_base::{Copied, Text, read_decimal};
 use local_commands::LocalCommand;
 use std::alloc::{AllocError, Global};
 

@@ -5,8 +5,7 @@ ghost use Rattle.command_line.specs.Verbs.{uses_tables};
 use crate::command::{Command, WordsErr, read_words};
 use crate::verb::Verb;
 use crate::words::Words;
-use jop_base::Text;
-use local_store::let_go;
+use jop_base::{Text, let_go};
 use std::alloc::{AllocError, Global};
 
 /// Where the tables are kept.

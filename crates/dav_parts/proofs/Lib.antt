@@ -1,5 +1,4 @@
 pub mod FieldLemmas
-pub mod DecimalLemmas
 pub mod DateLemmas
 pub mod PathLemmas
 pub mod BytesLemmas

@@ -13,7 +13,8 @@ use Rattle.jop_base.specs.declared.dir.Dir.TheVariants.{Root, Resources, OldSync
 use Rattle.jop_base.specs.declared.lock_name.LockKind.{LockKind}
 use Rattle.jop_base.specs.declared.lock_name.LockKind.TheVariants.{Sync, Exclusive}
 use Rattle.jop_base.specs.declared.path.Path.{Path}
-use Rattle.jop_base.specs.declared.path.Path.TheVariants.{Info, OldVersion, Item, Blob, Lock, Temp as TempFile}
+use Rattle.jop_base.specs.declared.path.Path.TheVariants.{Info, OldVersion, Item, Blob, Lock, Temp as TempFile, Tomb}
+use Rattle.jop_base.proofs.Folders.{dir_shown, path_shown, prefix_shown}
 use Rattle.dav_parts.specs.Multistatus.{has_open}
 use Rattle.dav_parts.specs.Targets.{path_target, dir_target}
 
@@ -59,6 +60,7 @@ name_opens_not OldVersion h = refl
 name_opens_not (Item id) h = none_opens id (codes ".md") (digits_open_not id h.digits) refl
 name_opens_not (Blob id) h = digits_open_not id h.digits
 name_opens_not (Lock name) h = lock_opens_not name h
+name_opens_not (Tomb id) h = digits_open_not id h.digits
 name_opens_not (TempFile id) h = none_opens id (codes ".tmp") (digits_open_not id h.digits) refl
 
 -- ---- each name is one file's in its folder
@@ -88,85 +90,19 @@ lock_unique n m e =
 pub path_unique : (p q : Path) → IsPath p → IsPath q → dir_of p ≡ dir_of q
     → file_name p ≡ file_name q → p ≡ q
 path_unique Info Info h k d e = refl
-path_unique Info OldVersion h k d e = absurd (cc)
 path_unique Info (Item j) h k d e = absurd (not_info j k e)
-path_unique Info (Blob j) h k d e = absurd (cc)
-path_unique Info (Lock m) h k d e = absurd (cc)
-path_unique Info (TempFile j) h k d e = absurd (cc)
-path_unique OldVersion Info h k d e = absurd (cc)
 path_unique OldVersion OldVersion h k d e = refl
-path_unique OldVersion (Item j) h k d e = absurd (cc)
-path_unique OldVersion (Blob j) h k d e = absurd (cc)
-path_unique OldVersion (Lock m) h k d e = absurd (cc)
-path_unique OldVersion (TempFile j) h k d e = absurd (cc)
 path_unique (Item i) Info h k d e = absurd (not_info i h (sym e))
-path_unique (Item i) OldVersion h k d e = absurd (cc)
 path_unique (Item i) (Item j) h k d e = ap (λ (x : List ℕ). Item x)
     (append_cancel_right i j (codes ".md") e)
-path_unique (Item i) (Blob j) h k d e = absurd (cc)
-path_unique (Item i) (Lock m) h k d e = absurd (cc)
-path_unique (Item i) (TempFile j) h k d e = absurd (cc)
-path_unique (Blob i) Info h k d e = absurd (cc)
-path_unique (Blob i) OldVersion h k d e = absurd (cc)
-path_unique (Blob i) (Item j) h k d e = absurd (cc)
 path_unique (Blob i) (Blob j) h k d e = ap (λ (x : List ℕ). Blob x) e
-path_unique (Blob i) (Lock m) h k d e = absurd (cc)
-path_unique (Blob i) (TempFile j) h k d e = absurd (cc)
-path_unique (Lock n) Info h k d e = absurd (cc)
-path_unique (Lock n) OldVersion h k d e = absurd (cc)
-path_unique (Lock n) (Item j) h k d e = absurd (cc)
-path_unique (Lock n) (Blob j) h k d e = absurd (cc)
+path_unique (Tomb i) (Tomb j) h k d e = ap (λ (x : List ℕ). Tomb x) e
 path_unique (Lock n) (Lock m) h k d e = ap (λ (x : Name). Lock x) (lock_unique n m e)
-path_unique (Lock n) (TempFile j) h k d e = absurd (cc)
-path_unique (TempFile i) Info h k d e = absurd (cc)
-path_unique (TempFile i) OldVersion h k d e = absurd (cc)
-path_unique (TempFile i) (Item j) h k d e = absurd (cc)
-path_unique (TempFile i) (Blob j) h k d e = absurd (cc)
-path_unique (TempFile i) (Lock m) h k d e = absurd (cc)
 path_unique (TempFile i) (TempFile j) h k d e = ap (λ (x : List ℕ). TempFile x)
     (append_cancel_right i j (codes ".tmp") e)
+path_unique p q h k d e = absurd cc
 
 -- ---- each target is one file's, or one folder's
-
--- the folder that the first two bytes of a path's text show
-dir_shown : List ℕ → Dir
-dir_shown text =
-    cond (get_or text 0 0 == 46) (cond (get_or text 1 0 == 114) Resources OldSync)
-    (cond (get_or text 0 0 == 108) Locks (cond (get_or text 0 0 == 116) Temp Root))
-
-digit_not : (d n : ℕ) → is_digit d ≡ true → (n < 48) ⊎ (102 < n) → (d == n) ≡ false
-digit_not d n h (inl low) = grind (arith, nat_tests)
-digit_not d n h (inr high) = grind (arith, nat_tests)
-
-item_shown : (id : List ℕ) → IsIdText id → dir_shown (id ++ codes ".md") ≡ Root
-unfolding dir_shown
-item_shown id h =
-    let long : 0 < length id = omega (arith, h.long) in
-    let first : get_or (id ++ codes ".md") 0 0 ≡ get_or id 0 0 =
-    get_or_append_left id (codes ".md") 0 0 long in
-    let digit : is_digit (get_or (id ++ codes ".md") 0 0) ≡ true =
-    ap is_digit first ∙ h.digits 0 0 long in
-    let b = get_or (id ++ codes ".md") 0 0 in
-    cond-false (b == 46) _ _ (digit_not b 46 digit (inl (omega arith)))
-    ∙ cond-false (b == 108) _ _ (digit_not b 108 digit (inr (omega arith)))
-    ∙ cond-false (b == 116) _ _ (digit_not b 116 digit (inr (omega arith)))
-
-path_shown : (p : Path) → IsPath p → dir_shown (path_text p) ≡ dir_of p
-unfolding dir_shown
-path_shown Info h = refl
-path_shown OldVersion h = refl
-path_shown (Item id) h = item_shown id h
-path_shown (Blob id) h = refl
-path_shown (Lock name) h = refl
-path_shown (TempFile id) h = refl
-
-folder_shown : (dir : Dir) → dir_shown (dir_prefix dir) ≡ dir
-unfolding dir_shown
-folder_shown Root = refl
-folder_shown Resources = refl
-folder_shown OldSync = refl
-folder_shown Locks = refl
-folder_shown Temp = refl
 
 pub path_target_unique : (p q : Path) → IsPath p → IsPath q → path_target p ≡ path_target q → p ≡ q
 path_target_unique p q h k e =
@@ -180,4 +116,4 @@ path_target_unique p q h k e =
 
 pub dir_target_unique : (a b : Dir) → dir_target a ≡ dir_target b → a ≡ b
 dir_target_unique a b e =
-    sym (folder_shown a) ∙ ap (λ (t : List ℕ). dir_shown (drop 1 t)) e ∙ folder_shown b
+    sym (prefix_shown a) ∙ ap (λ (t : List ℕ). dir_shown (drop 1 t)) e ∙ prefix_shown b

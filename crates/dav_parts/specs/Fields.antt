@@ -25,13 +25,3 @@ abbrev pub AreValues : FieldValue → List (List ℕ) → Type 0
 AreValues Absent values = values ≡ []
 AreValues (Single value) values = values ≡ value.now ∷ []
 AreValues Repeated values = 2 ≤ length values
-
--- decimal digits, of a number below 2^64
-abbrev pub is_number : List ℕ → Bool
-is_number text =
-    nat_lt 0 (length text)
-    && (list_all is_ascii_digit text && nat_lt (digits_value 10 text) (2 ^ 64))
-
--- the number that a text writes, if it is readable
-abbrev pub number_in : List ℕ → Option ℕ
-number_in text = if is_number text then Some (digits_value 10 text) else None

@@ -17,7 +17,7 @@ mod multistatus_writer;
 mod target;
 
 pub use date::{date_of, read_moment};
-pub use decimal::{append_decimal, read_decimal};
+pub use decimal::append_decimal;
 pub use field::{FieldValue, field_value, has_value};
 pub use laws::{a_target_names_one_thing, a_written_listing_is_read};
 pub use method::Method;

@@ -22,13 +22,7 @@ pub fn path_target(alloc: Global, path: &Path) -> Result<Bytes, AllocError>
 pub fn dir_target(dir: Dir) -> &'static [u8]
     ensures { result.now ≡ dir_target dir }
 {
-    match dir {
-        Dir::Root => b"/",
-        Dir::Resources => b"/.resource/",
-        Dir::OldSync => b"/.sync/",
-        Dir::Locks => b"/locks/",
-        Dir::Temp => b"/temp/",
-    }
+    dir.absolute().as_bytes()
 }
 
 /// What comes after a prefix of a text. None if the text has another one.
@@ -36,11 +30,7 @@ pub(crate) fn after_prefix<'a>(text: &'a [u8], prefix: &[u8]) -> Option<&'a [u8]
     ensures some { IfSome result (λ rest. text.now ≡ prefix.now ++ rest.now) }
     ensures none { IfNone result ((rest : List ℕ) → ¬ (text.now ≡ prefix.now ++ rest)) }
 {
-    if text.len() < prefix.len() {
-        return None;
-    }
-    let (start, rest) = text.split_at(prefix.len());
-    if start == prefix { Some(rest) } else { None }
+    text.strip_prefix(prefix)
 }
 
 /// The file that a target names. None if it names none.
@@ -49,19 +39,7 @@ pub fn read_path(target: &[u8]) -> Option<Path>
     ensures none { IfNone result
         ((path : Path) → IsPath path → ¬ (path_target path ≡ target.now)) }
 {
-    if let Some(name) = after_prefix(target, b"/.resource/") {
-        return Path::read(Dir::Resources, name);
-    }
-    if let Some(name) = after_prefix(target, b"/.sync/") {
-        return Path::read(Dir::OldSync, name);
-    }
-    if let Some(name) = after_prefix(target, b"/locks/") {
-        return Path::read(Dir::Locks, name);
-    }
-    if let Some(name) = after_prefix(target, b"/temp/") {
-        return Path::read(Dir::Temp, name);
-    }
-    Path::read(Dir::Root, after_prefix(target, b"/")?)
+    Path::of_text(after_prefix(target, b"/")?)
 }
 
 /// The folder that a target names. None if it names none.
@@ -69,25 +47,13 @@ pub fn read_dir(target: &[u8]) -> Option<Dir>
     ensures some { IfSome result (λ dir. dir_target dir ≡ target.now) }
     ensures none { IfNone result ((dir : Dir) → ¬ (dir_target dir ≡ target.now)) }
 {
-    if target == b"/".as_slice() {
-        Some(Dir::Root)
-    } else if target == b"/.resource/".as_slice() {
-        Some(Dir::Resources)
-    } else if target == b"/.sync/".as_slice() {
-        Some(Dir::OldSync)
-    } else if target == b"/locks/".as_slice() {
-        Some(Dir::Locks)
-    } else if target == b"/temp/".as_slice() {
-        Some(Dir::Temp)
-    } else {
-        None
-    }
+    Dir::of_prefix(after_prefix(target, b"/")?)
 }
 
 fn is_blob_target(target: &[u8]) -> bool
     ensures { result ≡ is_blob_target target.now }
 {
-    match after_prefix(target, b"/.resource/") {
+    match after_prefix(target, dir_target(Dir::Resources)) {
         Some(name) => Id::read(name).is_some(),
         None => false,
     }

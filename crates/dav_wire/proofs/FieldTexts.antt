@@ -22,11 +22,10 @@ use Rattle.jop_base.specs.declared.path.Path.{Path}
 use Rattle.jop_base.specs.declared.path.Path.TheVariants.{Info, OldVersion, Item, Blob, Lock, Temp as TempFile}
 use Rattle.jop_target.specs.declared.call.Call.{Call}
 use Rattle.jop_target.specs.declared.call.Call.TheVariants as calls
-use Rattle.dav_parts.specs.Fields.{number_in, is_number}
 use Rattle.dav_parts.specs.Targets.{path_target, dir_target, target_of}
 use Rattle.dav_wire.specs.Requests.{length_lines, HasIds}
 use Rattle.dav_wire.specs.RequestBack.{is_visible}
-use Rattle.dav_parts.proofs.DecimalLemmas.{digits_test, number_yes}
+use Rattle.jop_base.proofs.DecimalLaws.{decimal_digits, decimal_in-decimal}
 
 -- ---- visible characters
 
@@ -153,17 +152,8 @@ field_fits name value named h = record {
       All-cons (λ b. IsTrue (is_value_byte b)) 32 value refl (value_visible value h);
 }
 
-pub decimal_digits : (n : ℕ) → n < 2 ^ 64 → list_all is_ascii_digit (decimal n) ≡ true
-decimal_digits n small = digits_test (decimal n) (decimal_is_IsNumeral n small).0.1
-
 pub decimal_visible : (n : ℕ) → n < 2 ^ 64 → list_all is_visible (decimal n) ≡ true
 decimal_visible n small = digits_are_visible (decimal n) (decimal_digits n small)
-
-pub decimal_read : (n : ℕ) → n < 2 ^ 64 → number_in (decimal n) ≡ Some n
-decimal_read n small =
-    let numeral = decimal_is_IsNumeral n small in
-    cond-true (is_number (decimal n)) _ _ (number_yes (decimal n) (decimal_digits n small)
-    numeral.0.0 (omega (arith, numeral.1, small))) ∙ ap (λ (k : ℕ). Some k) numeral.1
 
 pub length_short : (count : ℕ) → count < 2 ^ 64 → length (length_lines count) ≤ 40
 unfolding length_lines

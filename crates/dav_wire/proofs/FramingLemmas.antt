@@ -6,7 +6,8 @@ use Rattle.dav_wire.specs.declared.framing.Framing.{Framing}
 use Rattle.dav_wire.specs.declared.framing.Framing.TheVariants.{Refused, Body}
 use Rattle.dav_parts.specs.declared.field.FieldValue.{FieldValue}
 use Rattle.dav_parts.specs.declared.field.FieldValue.TheVariants.{Absent}
-use Rattle.dav_parts.specs.Fields.{Fields, values_of, number_in, AreValues}
+use Rattle.dav_parts.specs.Fields.{Fields, values_of, AreValues}
+use Rattle.jop_base.specs.Decimals.{decimal_in}
 use Rattle.dav_parts.specs.Targets.{put_limit}
 use Rattle.dav_wire.specs.Requests.{is_put, is_none, framing_of_number, framing_of_lengths, framing_of}
 use Rattle.dav_parts.proofs.FieldLemmas.{some_found}
@@ -48,12 +49,12 @@ pub lengths_none : (puts : Bool) (limit : ℕ) (vs : List (List ℕ)) → vs ≡
 lengths_none puts limit vs e = ap (framing_of_lengths puts limit) e
 
 pub lengths_one : (puts : Bool) (limit given : ℕ) (vs : List (List ℕ)) (value : List ℕ)
-    (number : Option ℕ) → vs ≡ value ∷ [] → number ≡ number_in value
+    (number : Option ℕ) → vs ≡ value ∷ [] → number ≡ decimal_in value
     → given ≡ cond puts limit (2 ^ 64 - 1) → framing_of_number given number
     ≡ framing_of_lengths puts limit vs
 lengths_one puts limit given vs value number e is given-is =
     ap (λ (n : Option ℕ). framing_of_number given n) is
-    ∙ ap (λ (l : ℕ). framing_of_number l (number_in value)) given-is
+    ∙ ap (λ (l : ℕ). framing_of_number l (decimal_in value)) given-is
     ∙ sym (ap (framing_of_lengths puts limit) e)
 
 pub lengths_many : (puts : Bool) (limit : ℕ) (vs : List (List ℕ)) → 2 ≤ length vs

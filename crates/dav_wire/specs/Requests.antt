@@ -7,7 +7,8 @@ use Rattle.jop_base.specs.Paths.{IsPath}
 use Rattle.jop_target.specs.Replies.{IsCallable}
 use Rattle.jop_target.specs.declared.call.Call.{Call}
 use Rattle.jop_target.specs.declared.call.Call.TheVariants as calls
-use Rattle.dav_parts.specs.Fields.{Fields, is_same_name, values_of, number_in}
+use Rattle.dav_parts.specs.Fields.{Fields, is_same_name, values_of}
+use Rattle.jop_base.specs.Decimals.{decimal_in}
 use Rattle.dav_parts.specs.Targets.{method_text, method_in, method_of, target_of, put_limit}
 use Rattle.dav_parts.specs.declared.method.Method.{Method}
 use Rattle.dav_parts.specs.declared.method.Method.TheVariants as methods
@@ -62,7 +63,7 @@ framing_of_number limit (Some n) = if nat_lt limit n then Refused 413 else Body 
 abbrev pub framing_of_lengths : Bool → ℕ → List (List ℕ) → Framing
 framing_of_lengths puts limit [] = if puts then Refused 400 else Body 0
 framing_of_lengths puts limit (value ∷ []) =
-    framing_of_number (if puts then limit else (2 ^ 64 - 1)) (number_in value)
+    framing_of_number (if puts then limit else (2 ^ 64 - 1)) (decimal_in value)
 framing_of_lengths puts limit (value ∷ other ∷ values) = Refused 400
 
 -- whether the list has no value

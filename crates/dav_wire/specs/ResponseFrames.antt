@@ -4,7 +4,8 @@ use Rattle.httpdate.specs.Date.{parse_secs}
 use Rattle.jop_target.specs.Store.{limit_of}
 use Rattle.jop_target.specs.declared.call.Call.{Call}
 use Rattle.jop_target.specs.declared.call.Call.TheVariants as calls
-use Rattle.dav_parts.specs.Fields.{Fields, values_of, number_in}
+use Rattle.dav_parts.specs.Fields.{Fields, values_of}
+use Rattle.jop_base.specs.Decimals.{decimal_in}
 use Rattle.dav_wire.specs.Requests.{is_none}
 use Rattle.dav_wire.specs.declared.frame.Frame.{Frame}
 use Rattle.dav_wire.specs.declared.frame.Frame.TheVariants.{Unreadable, TooLong, Body}
@@ -41,7 +42,7 @@ now_of (value ∷ other ∷ values) = None
 -- the one length
 abbrev pub count_of : List (List ℕ) → Option ℕ
 count_of [] = None
-count_of (value ∷ []) = number_in value
+count_of (value ∷ []) = decimal_in value
 count_of (value ∷ other ∷ values) = None
 
 -- a response of status 204 has no body, whatever its fields say

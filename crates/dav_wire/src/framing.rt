@@ -2,8 +2,9 @@ ghost use Rattle.std.specs.Prelude.{◌≡◌, length, map, All};
 ghost use Rattle.httparse.specs.Spans.{IsHeaderWithin, header_bytes};
 ghost use Rattle.dav_wire.specs.Requests.{is_put, framing_of_number, framing_of};
 
+use jop_base::read_decimal;
 use crate::limits::FIELD_LIMIT;
-use dav_parts::{FieldValue, field_value, put_limit, read_decimal};
+use dav_parts::{FieldValue, field_value, put_limit};
 use httparse::spans::HeaderSpan;
 
 /// What the head of a request says of its length.

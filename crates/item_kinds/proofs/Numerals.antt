@@ -8,37 +8,11 @@ use Rattle.std.specs.Str.Parse.{AllDigits, IsNumeral, digits_value}
 use Rattle.std.proofs.lemmas.Str.{IsUtf8-from_ascii}
 use Rattle.std.proofs.lemmas.Str.Parse.{digit_from_value, digits_value_short, numerals_by_value, tells_digits}
 use Rattle.std.proofs.lemmas.Int.{ints}
+use Rattle.jop_base.proofs.DecimalLaws.{digits_test, digits_yes}
 use Rattle.item_text.specs.Valid.{is_type_value}
 use Rattle.item_kinds.specs.Kinds.{type_number}
 use Rattle.std.proofs.lemmas.Bool.{and_parts, and_from, cond-true, cond-false, false_from_ne_true}
 use Rattle.std.proofs.lemmas.Bool.Decides.{nat_tests}
-
-digit_yes : (b : ℕ) → is_ascii_digit b ≡ true → digit_value b < 10
-digit_yes b h = grind (arith, nat_tests)
-
-digit_test : (b : ℕ) → digit_value b < 10 → is_ascii_digit b ≡ true
-digit_test b h = let range = digit_from_value b h in grind (arith, nat_tests)
-
-pub digits_yes : (text : List ℕ) → list_all is_ascii_digit text ≡ true → AllDigits 10 text
-digits_yes [] h = tt
-digits_yes (b ∷ bs) h = let parts = and_parts (is_ascii_digit b) (list_all is_ascii_digit bs) h in
-    (digit_yes b parts.0, digits_yes bs parts.1)
-
-pub digits_test : (text : List ℕ) → AllDigits 10 text → list_all is_ascii_digit text ≡ true
-digits_test [] h = refl
-digits_test (b ∷ bs) h =
-    and_from (is_ascii_digit b) (list_all is_ascii_digit bs) (digit_test b h.0) (digits_test bs h.1)
-
-digits_ascii : (text : List ℕ) → list_all is_ascii_digit text ≡ true → IsAscii text
-digits_ascii [] h i = omega arith
-digits_ascii (b ∷ bs) h zero = let parts =
-    and_parts (is_ascii_digit b) (list_all is_ascii_digit bs) h in let digit = parts.0 in
-    grind (arith, nat_tests)
-digits_ascii (b ∷ bs) h (suc i) =
-    digits_ascii bs (and_parts (is_ascii_digit b) (list_all is_ascii_digit bs) h).1 i
-
-pub digits_utf8 : (text : List ℕ) → list_all is_ascii_digit text ≡ true → IsUtf8 text
-digits_utf8 text h = IsUtf8-from_ascii text (digits_ascii text h)
 
 -- a digit and two more as one number, through the types that it is read in
 pub digits_read : (n : ℕ) → n < 1_000

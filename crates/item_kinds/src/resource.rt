@@ -1,5 +1,4 @@
 ghost use Rattle.std.specs.Prelude.{◌≡◌, ◌≤◌, Some, IfOk, codes};
-ghost use Rattle.std.specs.Fmt.{decimal};
 ghost use Rattle.jop_base.specs.Times.{last_time};
 ghost use Rattle.item_text.specs.Lines.{trimmed};
 ghost use Rattle.item_text.specs.Escape.{escaped};
@@ -12,7 +11,7 @@ use crate::kind::Kind;
 use crate::pairs::pairs;
 use crate::time::write_time;
 use item_text::{Item, Prop, escape_value, trimmed};
-use jop_base::{Id, Seq, Text};
+use jop_base::{Id, Seq, Text, decimal_text};
 use std::alloc::{AllocError, Global};
 
 fn resource_props<'x>(
@@ -58,13 +57,6 @@ fn file_name(alloc: Global, name: &Text) -> Result<Text, AllocError>
     escape_value(alloc, &name)
 }
 
-fn decimal(alloc: Global, number: u64) -> Result<Text, AllocError>
-    ensures { IfOk result (λ text. text ≡ decimal number) }
-{
-    let digits = format!(in alloc; "{number}")?;
-    Text::of(alloc, digits.as_str())
-}
-
 /// A new resource of that many bytes. Its title is the name.
 pub fn resource_item(
     alloc: Global,
@@ -87,7 +79,7 @@ pub fn resource_item(
     let stamp = write_time(alloc, now)?;
     let mime = escape_value(alloc, &mime)?;
     let file = file_name(alloc, &name)?;
-    let size = decimal(alloc, len)?;
+    let size = decimal_text(alloc, len)?;
     let props = resource_props(
         alloc,
         id.as_str(),

@@ -1,27 +1,20 @@
 ghost use Rattle.std.specs.Prelude.{◌≡◌, ◌≤◌, ◌+◌, ◌-◌, length, map};
-ghost use Rattle.std.specs.Char.{is_ascii_digit};
-ghost use Rattle.std.specs.List.{list_all};
 ghost use Rattle.item_text.specs.Lines.{lines};
 ghost use Rattle.item_text.specs.Valid.{is_type_value};
 ghost use Rattle.item_text.specs.Grammar.{pair_of, type_fault};
 ghost use Rattle.item_text.specs.Steps.{lines_of, IsFromType};
 
+use jop_base::are_decimal_digits;
 use crate::bad_item::{BadItem, BadWhy};
 use crate::line::{first_line, line_count};
 use crate::pair::pair_in;
-
-fn are_digits(text: &[u8]) -> bool
-    ensures { result ≡ list_all is_ascii_digit text.now }
-{
-    text.iter().all(|byte| byte.is_ascii_digit())
-}
 
 /// Whether the value is one to three decimal digits.
 #[tactic(auto, unfolding(crate::specs::Valid::is_type_value))]
 pub(crate) fn is_type_value(value: &[u8]) -> bool
     ensures { result ≡ is_type_value value.now }
 {
-    matches!(value.len(), 1..=3) && are_digits(value)
+    matches!(value.len(), 1..=3) && are_decimal_digits(value)
 }
 
 /// The property lines from the topmost `type_` on. None if there is none.

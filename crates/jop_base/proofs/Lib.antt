@@ -1,4 +1,5 @@
 pub mod CountUp
+pub mod DecimalLaws
 pub mod Folders
 pub mod KeyedLaws
 pub mod PlaceLaws

@@ -1,3 +1,4 @@
+pub mod Decimals
 pub mod Id
 pub mod Keyed
 pub mod LockNames

@@ -1,4 +1,4 @@
-ghost use Rattle.std.specs.Prelude.{◌≡◌, IfNone, IfOk, IfSome};
+ghost use Rattle.std.specs.Prelude.{◌≡◌, ◌∷◌, IfNone, IfOk, IfSome};
 ghost use Rattle.jop_base.specs.Paths.{dir_prefix, dir_text};
 ghost use Rattle.jop_base.specs.declared.dir.Dir.{Dir};
 
@@ -29,18 +29,25 @@ impl Dir {
         Dir::Tombs,
     ];
 
+    /// The folder from the root on: its name between two slashes, for the root one slash.
+    pub fn absolute(self) -> &'static str
+        ensures { result.now ≡ 47 ∷ dir_prefix self }
+    {
+        match self {
+            Dir::Root => "/",
+            Dir::Resources => "/.resource/",
+            Dir::OldSync => "/.sync/",
+            Dir::Locks => "/locks/",
+            Dir::Temp => "/temp/",
+            Dir::Tombs => "/deleted/",
+        }
+    }
+
     /// What stands before the names of the folder's files: its name and a slash, for the root nothing.
     pub fn prefix(self) -> &'static str
         ensures { result.now ≡ dir_prefix self }
     {
-        match self {
-            Dir::Root => "",
-            Dir::Resources => ".resource/",
-            Dir::OldSync => ".sync/",
-            Dir::Locks => "locks/",
-            Dir::Temp => "temp/",
-            Dir::Tombs => "deleted/",
-        }
+        self.absolute().strip_prefix('/').unwrap_or("")
     }
 
     /// The name of the folder; that of the root is empty.

@@ -3,9 +3,9 @@ ghost use Rattle.local_store.specs.Sound.{IsAllowed};
 ghost use Rattle.local_commands.specs.Keeping.{Acts, ActsAll, MakeChange, ReadsTables, SaveBlob};
 ghost use Rattle.local_commands.specs.Keeping.{notes, notes_if, save_then};
 
-use jop_base::{Bytes, Copied, Id};
+use jop_base::{Bytes, Copied, Id, let_go};
 use jop_target::Diary;
-use local_store::{Change, Changes, Tables, let_go};
+use local_store::{Change, Changes, Tables};
 use std::alloc::Global;
 use table_keeper::{Keeper, KeeperErr};
 

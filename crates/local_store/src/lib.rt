@@ -12,7 +12,6 @@ mod deletion;
 mod effects;
 mod kinds;
 mod laws;
-mod letting_go;
 mod order;
 mod row;
 mod table;
@@ -28,7 +27,6 @@ pub use laws::{
     allowed_changes_keep_sound, runs_make_their_changes, told_tables_are_sound,
     told_tables_follow_changes,
 };
-pub use letting_go::let_go;
 pub use row::Row;
 pub use table::Table;
 pub use tables::Tables;

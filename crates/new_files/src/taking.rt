@@ -19,9 +19,9 @@ use crate::checking::check;
 use conflicts::{StepErr, SyncReport, conflict_change};
 use desk::Desk;
 use item_kinds::Kind;
-use jop_base::{Bytes, Id};
+use jop_base::{Bytes, Id, let_go};
 use lease::Lease;
-use local_store::{Change, Content, has_kind, let_go};
+use local_store::{Change, Content, has_kind};
 use session_steps::{Finding, make_shown, waiting_row};
 use std::alloc::Global;
 

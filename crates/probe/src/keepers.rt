@@ -4,9 +4,9 @@ ghost use Rattle.local_store.specs.Sound.{IsAllowed};
 
 use crate::notes::note_saved;
 use crate::trouble::Trouble;
-use jop_base::{Id, Text};
+use jop_base::{Id, Text, let_go};
 use keeper_sqlite::keeper_at;
-use local_store::{Change, let_go};
+use local_store::Change;
 use std::time::Instant;
 use table_keeper::Keeper;
 

@@ -1,9 +1,9 @@
 //! How long an upload in memory takes.
 
+use jop_base::let_go;
 use crate::notes::note_saved;
 use crate::trouble::Trouble;
 use jop_target::MemTarget;
-use local_store::let_go;
 use std::alloc::Global;
 use std::time::Instant;
 use table_keeper::Keeper;

@@ -5,8 +5,8 @@ ghost use Rattle.record_keeper.specs.Stores.{IsSoundRowFor, IsRowFor, IsNumberFo
 
 use crate::making::{needs_number, row_needed, writes_of};
 use crate::record_store::RecordStore;
-use jop_base::{Bytes, Id};
-use local_store::{Change, Row, Tables, let_go};
+use jop_base::{Bytes, Id, let_go};
+use local_store::{Change, Row, Tables};
 use std::alloc::Global;
 use table_keeper::{Keeper, KeeperErr};
 

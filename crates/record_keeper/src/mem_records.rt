@@ -11,9 +11,9 @@ ghost use Rattle.record_keeper.specs.Writes.{IsSoundWrite, wrote, written_all, a
 use crate::record_store::RecordStore;
 use crate::write::Write;
 use crate::writing::make_all;
-use jop_base::{Bytes, Copied, Id, Seq};
+use jop_base::{Bytes, Copied, Id, Seq, let_go};
 use jop_outside::{Faults, Plan};
-use local_store::{Row, Tables, let_go};
+use local_store::{Row, Tables};
 use std::alloc::{AllocError, Global};
 use std::marker::Model;
 use std::mem;

@@ -5,8 +5,8 @@ ghost use Rattle.record_keeper.specs.Writes.{written, written_all, has_room, is_
 ghost use Rattle.std.specs.List.{list_all};
 
 use crate::write::Write;
-use jop_base::{Context, Copied, Id};
-use local_store::{Change, ConflictNote, Row, Tables, let_go};
+use jop_base::{Context, Copied, Id, let_go};
+use local_store::{Change, ConflictNote, Row, Tables};
 use std::alloc::{AllocError, Global};
 use sync_info::Info;
 use table_keeper::KeeperErr;

@@ -4,8 +4,9 @@ ghost use Rattle.table_keeper.specs.Keepers.{HasCause, changed};
 ghost use Rattle.local_store.specs.Sound.{IsAllowed};
 ghost use Rattle.site.specs.Sites.{Commits};
 
+use jop_base::let_go;
 use jop_target::Diary;
-use local_store::{Change, Changes, let_go};
+use local_store::{Change, Changes};
 use std::alloc::Global;
 use table_keeper::{Keeper, KeeperErr};
 

@@ -3,9 +3,9 @@ ghost use Rattle.item_kinds.specs.Made.{IsLine};
 ghost use Rattle.local_store.specs.Sound.{IsAllowed};
 
 use crate::named::{NOW, bytes, id, line, plain_mime};
-use jop_base::{Copied, Id};
+use jop_base::{Copied, Id, let_go};
 use local_changes::new_resource;
-use local_store::{Change, Tables, let_go};
+use local_store::{Change, Tables};
 use std::alloc::{AllocError, Global};
 use std::process::Abort;
 use std::test::Fail;

@@ -3,9 +3,9 @@ ghost use Rattle.jop_base.specs.Times.{last_time};
 ghost use Rattle.local_store.specs.Sound.{IsAllowed, IsSound};
 
 use crate::named::{bytes, id, line};
-use jop_base::Text;
+use jop_base::{Text, let_go};
 use local_changes::{StoreErr, edited, new_book, new_note, removed};
-use local_store::{Change, Tables, let_go};
+use local_store::{Change, Tables};
 use std::alloc::{AllocError, Global};
 
 /// What happens to a notebook `b..` and to a note `a..` in it.

@@ -1,7 +1,8 @@
+use jop_base::let_go;
 use crate::named::NOW;
 use crate::steps::{Step, change};
 use local_changes::StoreErr;
-use local_store::{Tables, let_go};
+use local_store::Tables;
 use std::alloc::Global;
 use std::test::Fail;
 use table_keeper::{Keeper, MemKeeper};

@@ -1,25 +1,14 @@
-ghost use Rattle.std.specs.Prelude.{◌≡◌, ◌<◌, ◌^◌, ℕ, IfOk, IfSome, IfNone, decimal};
+ghost use Rattle.std.specs.Prelude.{◌≡◌, ◌<◌, ◌^◌, ℕ, IfOk, IfNone, decimal};
 
 use crate::record_err::RecordErr;
-use jop_base::{Bytes, Text};
+use jop_base::{Bytes, decimal_text, read_decimal};
 use std::alloc::{AllocError, Global};
 
 /// A number in decimal.
 pub fn number_text(alloc: Global, number: u64) -> Result<Bytes, AllocError>
     ensures { IfOk result (λ text. text ≡ decimal number) }
 {
-    let digits = format!(in alloc; "{number}")?;
-    Ok(Text::of(alloc, digits.as_str())?.into_bytes())
-}
-
-/// What std reads of digits, which may be more than the digits of the number.
-fn parsed(text: &[u8]) -> Option<u64>
-    ensures { (n : ℕ) → n < 2 ^ 64 → text.now ≡ decimal n → result ≡ Some n }
-{
-    match std::str::from_utf8(text) {
-        Ok(digits) => digits.parse().ok(),
-        Err(_) => None,
-    }
+    Ok(decimal_text(alloc, number)?.into_bytes())
 }
 
 /// The number that a text writes in decimal, as `number_text` does: without sign and leading zeros.
@@ -27,7 +16,7 @@ pub fn read_number(alloc: Global, text: &[u8]) -> Result<u64, RecordErr>
     ensures ok { IfOk result (λ number. text.now ≡ decimal number) }
     ensures bad { result ≡ Err RecordErr.Bad → (n : ℕ) → n < 2 ^ 64 → ¬ (text.now ≡ decimal n) }
 {
-    let number = match parsed(text) {
+    let number = match read_decimal(text) {
         Some(number) => number,
         None => return Err(RecordErr::Bad),
     };

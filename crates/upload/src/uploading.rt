@@ -104,7 +104,7 @@ fn upload_one<S: Desk>(
     match waiting {
         Some(row) => {
             let uploaded = upload_row(alloc, site, lease, report, &row);
-            local_store::let_go(row);
+            jop_base::let_go(row);
             uploaded
         }
         None => Ok(()),

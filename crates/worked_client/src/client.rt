@@ -7,9 +7,9 @@ use crate::parts::{Part, work};
 use crate::step::{Step, change_of, id_of};
 use conflicts::SyncReport;
 use desk::Site;
-use jop_base::{Bytes, Id};
+use jop_base::{Bytes, Id, let_go};
 use jop_target::{Diary, Target};
-use local_store::{Changes, Tables, let_go};
+use local_store::{Changes, Tables};
 use std::alloc::Global;
 use table_keeper::{Keeper, MemKeeper};
 

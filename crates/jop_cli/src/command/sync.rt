@@ -13,10 +13,10 @@ ghost use Rattle.command_line.specs.declared.target_name.TargetName.{TargetName}
 use crate::emit::emit_report;
 use conflicts::SyncReport;
 use exit_status::Status;
-use jop_base::ClientId;
+use jop_base::{ClientId, let_go};
 use jop_outside::{Entropy, Sink};
 use jop_target::{Diary, Target};
-use local_store::{Change, Changes, Tables, let_go};
+use local_store::{Change, Changes, Tables};
 use site::{OwnErr, commit, draw_id};
 use std::alloc::Global;
 use sync_session::{SyncErr, sync_on};
