@@ -1,4 +1,5 @@
 pub mod Clocks
+pub mod Jobs
 pub mod Outside
 pub mod Plan
 pub mod Random

@@ -1,5 +1,5 @@
-//! How the outside is seen: streams, a clock and a source of random bytes, each an object whose faults are counted; and
-//! each of them in memory, with calls that are to fail.
+//! How the outside is seen: streams, a clock, a source of random bytes, and what has jobs done, each an object whose
+//! faults are counted; and each of them in memory, the streams, the clock and the source with calls that are to fail.
 //!
 //! It stands on `jop_base`. Begin with [`Source`] and [`Sink`], the form that each trait of the outside takes, and with
 //! [`read_to_end`] and [`write_whole`], which go through a whole stream.
@@ -10,6 +10,8 @@ mod draw;
 mod entropy;
 mod failed;
 mod faults;
+mod in_turn;
+mod job;
 mod mem_clock;
 mod mem_entropy;
 mod mem_sink;
@@ -18,6 +20,7 @@ mod plan;
 mod reading;
 mod sink;
 mod source;
+mod spawner;
 mod unread;
 mod writing;
 
@@ -26,6 +29,8 @@ pub use draw::Draw;
 pub use entropy::Entropy;
 pub use failed::Failed;
 pub use faults::Faults;
+pub use in_turn::InTurn;
+pub use job::Job;
 pub use mem_clock::MemClock;
 pub use mem_entropy::MemEntropy;
 pub use mem_sink::MemSink;
@@ -34,5 +39,6 @@ pub use plan::Plan;
 pub use reading::{ReadErr, read_to_end};
 pub use sink::Sink;
 pub use source::Source;
+pub use spawner::Spawner;
 pub use unread::Unread;
 pub use writing::{write_parts, write_whole};
