@@ -7,7 +7,7 @@ use Rattle.jop_base.proofs.KeyedLaws.{same_text, bytes_eq-refl, text_lt-trans, A
 use Rattle.jop_base.specs.Keyed.{at, put, cut, text_lt, IsAfter, IsSorted}
 use Rattle.jop_base.specs.Paths.{dir_of, path_text}
 use Rattle.jop_base.specs.declared.dir.Dir.{Dir}
-use Rattle.jop_base.specs.declared.dir.Dir.TheVariants.{Root, Resources, OldSync, Locks, Temp}
+use Rattle.jop_base.specs.declared.dir.Dir.TheVariants.{Root, Resources, OldSync, Locks, Temp, Tombs}
 use Rattle.jop_base.specs.declared.path.Path.{Path}
 use Rattle.jop_target.specs.declared.reply.Entry.{Entry}
 use Rattle.jop_target.specs.declared.tree.File.{File}
@@ -124,6 +124,7 @@ same_dir Resources Resources same = refl
 same_dir OldSync OldSync same = refl
 same_dir Locks Locks same = refl
 same_dir Temp Temp same = refl
+same_dir Tombs Tombs same = refl
 same_dir d e same = cc
 
 pub entries_in_dir : (fs : List File) (dir : Dir) →

@@ -4,7 +4,7 @@ use Rattle.jop_base.specs.Keyed.{at, put, cut}
 use Rattle.jop_base.specs.Paths.{dir_of, dir_text, path_text}
 use Rattle.jop_outside.specs.Plan.{Calls, after_call, next_fate}
 use Rattle.jop_base.specs.declared.dir.Dir.{Dir}
-use Rattle.jop_base.specs.declared.dir.Dir.TheVariants.{Root, Resources, OldSync, Locks, Temp}
+use Rattle.jop_base.specs.declared.dir.Dir.TheVariants.{Root, Resources, OldSync, Locks, Temp, Tombs}
 use Rattle.jop_base.specs.declared.path.Path.{Path}
 use Rattle.jop_base.specs.declared.path.Path.TheVariants.{Blob}
 use Rattle.jop_base.specs.Times.{last_time}
@@ -67,6 +67,7 @@ dir_number Resources = 1
 dir_number OldSync = 2
 dir_number Locks = 3
 dir_number Temp = 4
+dir_number Tombs = 5
 
 abbrev pub is_same_dir : Dir → Dir → Bool
 is_same_dir d e = nat_eq (dir_number d) (dir_number e)
