@@ -19,7 +19,7 @@ use Rattle.jop_base.specs.declared.dir.Dir.TheVariants as dirs
 use Rattle.jop_base.specs.declared.lock_name.LockKind.{LockKind}
 use Rattle.jop_base.specs.declared.lock_name.LockKind.TheVariants.{Sync, Exclusive}
 use Rattle.jop_base.specs.declared.path.Path.{Path}
-use Rattle.jop_base.specs.declared.path.Path.TheVariants.{Info, OldVersion, Item, Blob, Lock, Temp as TempFile}
+use Rattle.jop_base.specs.declared.path.Path.TheVariants.{Info, OldVersion, Item, Blob, Lock, Temp as TempFile, Tomb}
 use Rattle.jop_target.specs.declared.call.Call.{Call}
 use Rattle.jop_target.specs.declared.call.Call.TheVariants as calls
 use Rattle.dav_parts.specs.Targets.{path_target, dir_target, target_of}
@@ -62,6 +62,7 @@ path_visible Info h = refl
 path_visible OldVersion h = refl
 path_visible (Item id) h = all_append id (codes ".md") (digits_visible id h.digits) refl
 path_visible (Blob id) h = digits_visible id h.digits
+path_visible (Tomb id) h = digits_visible id h.digits
 path_visible (Lock name) h = lock_visible name h
 path_visible (TempFile id) h = all_append id (codes ".tmp") (digits_visible id h.digits) refl
 
@@ -71,6 +72,7 @@ dir_visible dirs.Resources = refl
 dir_visible dirs.OldSync = refl
 dir_visible dirs.Locks = refl
 dir_visible dirs.Temp = refl
+dir_visible dirs.Tombs = refl
 
 pub target_visible : (call : Call) → HasIds call → list_all is_visible (target_of call) ≡ true
 target_visible (calls.List dir) h = dir_visible dir

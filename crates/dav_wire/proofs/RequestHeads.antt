@@ -11,7 +11,7 @@ use Rattle.jop_base.specs.Paths.{IsPath}
 use Rattle.jop_base.specs.declared.dir.Dir.{Dir}
 use Rattle.jop_base.specs.declared.dir.Dir.TheVariants as dirs
 use Rattle.jop_base.specs.declared.path.Path.{Path}
-use Rattle.jop_base.specs.declared.path.Path.TheVariants.{Info, OldVersion, Item, Blob, Lock, Temp as TempFile}
+use Rattle.jop_base.specs.declared.path.Path.TheVariants.{Info, OldVersion, Item, Blob, Lock, Temp as TempFile, Tomb}
 use Rattle.jop_target.specs.declared.call.Call.{Call}
 use Rattle.jop_target.specs.declared.call.Call.TheVariants as calls
 use Rattle.dav_parts.specs.declared.method.Method.{Method}
@@ -177,6 +177,7 @@ path_short Info h = omega arith
 path_short OldVersion h = omega arith
 path_short (Item id) h = omega (arith, length-append id (codes ".md"), h.long)
 path_short (Blob id) h = omega (arith, h.long)
+path_short (Tomb id) h = omega (arith, h.long)
 path_short (Lock name) h = omega (arith, length-append name.client (codes ".json"), h.client.long)
 path_short (TempFile id) h = omega (arith, length-append id (codes ".tmp"), h.long)
 
@@ -186,6 +187,7 @@ dir_short dirs.Resources = omega arith
 dir_short dirs.OldSync = omega arith
 dir_short dirs.Locks = omega arith
 dir_short dirs.Temp = omega arith
+dir_short dirs.Tombs = omega arith
 
 pub target_short : (call : Call) → HasIds call → length (target_of call) ≤ 60
 target_short (calls.List dir) h = dir_short dir

@@ -35,18 +35,11 @@ pub works : (client : List ℕ) (path : Path) → is_data path ≡ true
     → is_working (role_of client (Delete path)) ≡ true
 works client (Item id) ok = refl
 works client (Blob id) ok = refl
-works client Info ok = absurd cc
-works client OldVersion ok = absurd cc
-works client (Lock name) ok = absurd cc
-works client (Temp id) ok = absurd cc
+works client path ok = absurd cc
 
 pub no-lock : (path : Path) → is_data path ≡ true → is_about_locks (Delete path) ≡ false
-no-lock (Item id) ok = refl
-no-lock (Blob id) ok = refl
-no-lock Info ok = refl
-no-lock OldVersion ok = refl
 no-lock (Lock name) ok = absurd cc
-no-lock (Temp id) ok = refl
+no-lock path ok = refl
 
 gone_by : (path : Path) (reply : Reply) → IsReplyTo (Delete path) reply → ¬ (reply ≡ Failed)
     → IsDeleted reply

@@ -252,11 +252,7 @@ put_known v id bytes landed heard is may =
 -- a call on an item's file is one on the path of that item
 pub its_path : (id : List ℕ) (path : Path) → is_file_of id path ≡ true → path ≡ Item id
 its_path id (Item other) is = ap Item (same_text other id is)
-its_path id Info is = absurd (false≢true is)
-its_path id OldVersion is = absurd (false≢true is)
-its_path id (Blob other) is = absurd (false≢true is)
-its_path id (Lock name) is = absurd (false≢true is)
-its_path id (Temp name) is = absurd (false≢true is)
+its_path id path is = absurd (false≢true is)
 
 call_licensed : (id : List ℕ) (v : View) (call : Call) (reply : Reply) (landed : Bool)
     → IsInside v.stage → MayCall v call

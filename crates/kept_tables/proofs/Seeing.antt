@@ -33,11 +33,7 @@ use Rattle.kept_tables.proofs.Rows.{change_known}
 
 no_lock : (id : List ℕ) (path : Path) → is_lock_file path ≡ true → is_file_of id path ≡ false
 no_lock id (Item other) is = absurd (false≢true is)
-no_lock id (Lock name) is = refl
-no_lock id Info is = refl
-no_lock id OldVersion is = refl
-no_lock id (Blob other) is = refl
-no_lock id (Temp name) is = refl
+no_lock id path is = refl
 
 -- a call about locks is on no item's file
 locks_apart : (id : List ℕ) (call : Call) → is_about_locks call ≡ true → is_on id call ≡ false

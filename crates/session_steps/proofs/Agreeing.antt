@@ -41,18 +41,9 @@ spares_bytes call = true
 
 spared : (blobs : List BlobBytes) (call : Call) (bytes : List ℕ) → spares_bytes call ≡ true
     → blobs_after blobs call bytes ≡ blobs
-spared blobs (ListDir dir) bytes spares = refl
-spared blobs (Get path) bytes spares = refl
-spared blobs (Put path content) bytes spares = refl
-spared blobs (MakeDir dir) bytes spares = refl
-spared blobs (GetBlob id) bytes spares = refl
 spared blobs (PutBlob id len) bytes spares = absurd cc
 spared blobs (Delete (Blob id)) bytes spares = absurd cc
-spared blobs (Delete Info) bytes spares = refl
-spared blobs (Delete OldVersion) bytes spares = refl
-spared blobs (Delete (Item id)) bytes spares = refl
-spared blobs (Delete (Lock name)) bytes spares = refl
-spared blobs (Delete (Temp id)) bytes spares = refl
+spared blobs call bytes spares = refl
 
 landed_spared : (landed : Bool) (c : Contents) (now : ℕ) (call : Call) (bytes : List ℕ)
     → spares_bytes call ≡ true
@@ -138,16 +129,7 @@ others_stay blobs (PutBlob other len) bytes id off =
     ap bytes_in (at-put_other blob_key blobs (record { id = other; bytes = bytes }) id off)
 others_stay blobs (Delete (Blob other)) bytes id off =
     ap bytes_in (at-cut_other blob_key blobs other id off)
-others_stay blobs (ListDir dir) bytes id off = refl
-others_stay blobs (Get path) bytes id off = refl
-others_stay blobs (Put path content) bytes id off = refl
-others_stay blobs (MakeDir dir) bytes id off = refl
-others_stay blobs (GetBlob other) bytes id off = refl
-others_stay blobs (Delete Info) bytes id off = refl
-others_stay blobs (Delete OldVersion) bytes id off = refl
-others_stay blobs (Delete (Item other)) bytes id off = refl
-others_stay blobs (Delete (Lock name)) bytes id off = refl
-others_stay blobs (Delete (Temp other)) bytes id off = refl
+others_stay blobs call bytes id off = refl
 
 either_false : (a : Bool) → a ≡ true → (a || false) ≡ false → ⊥
 either_false true is none = absurd cc

@@ -252,12 +252,7 @@ is_answered old new before after call blob bytes h = record {
 -- ---- why it gave nothing
 
 silent_failed : (v : View) (r : SyncReport) (call : Call) → after_call v r call (Some Failed) ≡ r
-silent_failed v r (Get Info) = refl
-silent_failed v r (Get OldVersion) = refl
 silent_failed v r (Get (Item id)) = refl
-silent_failed v r (Get (Blob id)) = refl
-silent_failed v r (Get (Lock name)) = refl
-silent_failed v r (Get (Temp id)) = refl
 silent_failed v r call = refl
 
 -- the call was answered `Failed`

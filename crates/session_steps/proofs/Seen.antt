@@ -46,16 +46,7 @@ but_locks-append (d ∷ ds) es =
 shown_lock : (v : View) (call : Call) (reply : Option Reply) → is_about_locks call ≡ true
     → shown_after v call reply ≡ v.shown
 shown_lock v (ListDir Root) reply h = absurd cc
-shown_lock v (ListDir Resources) reply h = refl
-shown_lock v (ListDir OldSync) reply h = refl
-shown_lock v (ListDir Locks) reply h = refl
-shown_lock v (ListDir Temp) reply h = refl
-shown_lock v (Get path) reply h = refl
-shown_lock v (Put path content) reply h = refl
-shown_lock v (Delete path) reply h = refl
-shown_lock v (MakeDir dir) reply h = refl
-shown_lock v (GetBlob id) reply h = refl
-shown_lock v (PutBlob id len) reply h = refl
+shown_lock v call reply h = refl
 
 -- a call about locks leaves what is seen as it is
 pub heard-locks : (v : View) (call : Call) (reply : Option Reply) → is_about_locks call ≡ true

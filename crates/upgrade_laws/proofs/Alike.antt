@@ -52,25 +52,26 @@ rest_from zero info t = record {
       (file_at-other_put (files_from 0 t.files) (file_of InfoFile
       (info_text (upgraded_info t.files info))) p (info_apart p l v) ∙ file_at-other_put t.files
       (file_of OldVersion (codes "2")) p (old_apart p l v));
-  root = simp has_dir-with;
+  folders = λ d left. left_with _ Temp d refl left ∙ (left_with _ Locks d refl left
+      ∙ (left_with _ OldSync d refl left ∙ left_with t.folders Resources d refl left));
 }
 rest_from (suc zero) info t = record {
   files = λ p l v. ap (option_map (λ (f : File). f.content))
       (file_at-other_put (files_from 1 t.files) (file_of InfoFile
       (info_text (upgraded_info t.files info))) p (info_apart p l v) ∙ file_at-other_put t.files
       (file_of OldVersion (codes "2")) p (old_apart p l v));
-  root = simp has_dir-with;
+  folders = λ d left. left_with _ Temp d refl left ∙ left_with t.folders Locks d refl left;
 }
 rest_from (suc (suc zero)) info t = record {
   files = λ p l v. ap (option_map (λ (f : File). f.content))
       (file_at-other_put t.files (file_of InfoFile (info_text (upgraded_info t.files info))) p
       (info_apart p l v));
-  root = refl;
+  folders = λ d left. refl;
 }
-rest_from (suc (suc (suc n))) info t = record { files = λ p l v. refl; root = refl }
+rest_from (suc (suc (suc n))) info t = untouched t
 
 rest_option : (o : Option Info) (t : Tree) → HasSameRest t (upgraded_with o t)
-rest_option None t = record { files = λ p l v. refl; root = refl }
+rest_option None t = untouched t
 rest_option (Some info) t = rest_from info.version info t
 
 upgraded-rest : (t : Tree) → HasSameRest t (upgraded t)
@@ -82,17 +83,15 @@ alike t u same rest = record { files = files; folders = folders } where
   files : (p : Path) → is_lock p ≡ false → content_at t p ≡ content_at u p
   files InfoFile l = ap (λ (f : Final). f.info) same
   files OldVersion l = ap (λ (f : Final). f.old) same
-  files (Item id) l = rest.files (Item id) l refl
-  files (Blob id) l = rest.files (Blob id) l refl
-  files (TempFile id) l = rest.files (TempFile id) l refl
   files (LockFile name) l = cc
+  files p l = rest.files p l refl
 
   folders : (d : Dir) → is_same_dir d Locks ≡ false → has_dir t.folders d ≡ has_dir u.folders d
-  folders Root l = rest.root
   folders Resources l = ap (λ (f : Final). f.resources) same
   folders OldSync l = ap (λ (f : Final). f.sync) same
   folders Temp l = ap (λ (f : Final). f.temp) same
   folders Locks l = cc
+  folders d l = rest.folders d refl
 
 -- two trees that come to the same have the same upgraded tree
 pub alike_ends : (t u : Tree) → ComesToSame t u → IsAlike (upgraded u) (upgraded t)
@@ -100,7 +99,8 @@ alike_ends t u h = alike (upgraded u) (upgraded t) (upgraded-final u ∙
     (h.final ∙ sym (upgraded-final t))) (record {
       files = λ p l v. (upgraded-rest u).files p l v ∙ (h.rest.files p l v ∙ sym
           ((upgraded-rest t).files p l v));
-      root = (upgraded-rest u).root ∙ (h.rest.root ∙ sym (upgraded-rest t).root);
+      folders = λ d left. (upgraded-rest u).folders d left ∙ (h.rest.folders d left ∙ sym
+          ((upgraded-rest t).folders d left));
     })
 
 -- a tree at the supported version is what it comes to
@@ -111,5 +111,5 @@ alike_ended t u info reads ver h =
     (λ (n : ℕ). final_at n info u) ver) in
     alike u (upgraded t) (ended ∙ (h.final ∙ sym (upgraded-final t))) (record {
       files = λ p l v. h.rest.files p l v ∙ sym ((upgraded-rest t).files p l v);
-      root = h.rest.root ∙ sym (upgraded-rest t).root;
+      folders = λ d left. h.rest.folders d left ∙ sym ((upgraded-rest t).folders d left);
     })

@@ -3,7 +3,7 @@ use Rattle.std.proofs.Common.{◌≡◌, ◌∙◌, refl, sym, ap, ℕ, List, Bo
 use Rattle.std.proofs.lemmas.Bool.{and_parts, false≢true}
 use Rattle.std.proofs.lemmas.Slice.Eq.{bytes_eq-Decides}
 use Rattle.jop_base.specs.declared.dir.Dir.{Dir}
-use Rattle.jop_base.specs.declared.dir.Dir.TheVariants.{Root, Resources, OldSync, Locks, Temp}
+use Rattle.jop_base.specs.declared.dir.Dir.TheVariants.{Root, Resources, OldSync, Locks, Temp, Tombs}
 use Rattle.jop_base.specs.declared.lock_name.LockKind.TheVariants.{Sync, Exclusive}
 use Rattle.jop_base.specs.declared.path.Path.{Path}
 use Rattle.jop_base.specs.declared.path.Path.TheVariants.{Info as InfoFile, OldVersion, Item, Blob, Lock as LockFile, Temp as TempFile}
@@ -54,24 +54,10 @@ pub role_aside : (client : List ℕ) (call : Call) → is_lock_role (role_of cli
 role_aside client (ListDir dir) h = refl
 role_aside client (Get path) h = refl
 role_aside client (GetBlob id) h = refl
-role_aside client (PutBlob id len) h = cc
 role_aside client (MakeDir Locks) h = refl
-role_aside client (MakeDir Root) h = cc
-role_aside client (MakeDir Resources) h = cc
-role_aside client (MakeDir OldSync) h = cc
-role_aside client (MakeDir Temp) h = cc
 role_aside client (Put (LockFile name) content) h = refl
-role_aside client (Put InfoFile content) h = cc
-role_aside client (Put OldVersion content) h = cc
-role_aside client (Put (Item id) content) h = cc
-role_aside client (Put (Blob id) content) h = cc
-role_aside client (Put (TempFile id) content) h = cc
 role_aside client (Delete (LockFile name)) h = refl
-role_aside client (Delete InfoFile) h = cc
-role_aside client (Delete OldVersion) h = cc
-role_aside client (Delete (Item id)) h = cc
-role_aside client (Delete (Blob id)) h = cc
-role_aside client (Delete (TempFile id)) h = cc
+role_aside client call h = cc
 
 -- a call that isn't allowed breaks the order
 pub allowed_if : (b : Bool) (next : Phase) → keeps_lock_order (cond b next Broken) ≡ true → b ≡ true
@@ -99,6 +85,7 @@ same_dir-is Resources Resources h = refl
 same_dir-is OldSync OldSync h = refl
 same_dir-is Locks Locks h = refl
 same_dir-is Temp Temp h = refl
+same_dir-is Tombs Tombs h = refl
 same_dir-is d e h = cc
 
 same_file-is : (p q : Path) → is_file p q ≡ true → p ≡ q

@@ -58,10 +58,6 @@ like_after t m (MakeDir Locks) h = record {
   files = λ p l. refl;
   dirs = λ d l. has_dir-with t.folders Locks d ∙ rw l refl;
 }
-like_after t m (MakeDir Root) h = cc
-like_after t m (MakeDir Resources) h = cc
-like_after t m (MakeDir OldSync) h = cc
-like_after t m (MakeDir Temp) h = cc
 like_after t m (Put (LockFile name) content) h =
     let f : File = record { path = LockFile name; content = Whole content; stamp = m } in
     record {
@@ -72,11 +68,6 @@ like_after t m (Put (LockFile name) content) h =
           (file_at-other_put t.files f p (lock_apart name p l));
       dirs = λ d l. refl;
     }
-like_after t m (Put InfoFile content) h = cc
-like_after t m (Put OldVersion content) h = cc
-like_after t m (Put (Item id) content) h = cc
-like_after t m (Put (Blob id) content) h = cc
-like_after t m (Put (TempFile id) content) h = cc
 like_after t m (Delete (LockFile name)) h = record {
   info_file = file_at-other_delete t.files (LockFile name) InfoFile (lock_apart name InfoFile refl);
   old_file = file_at-other_delete t.files (LockFile name) OldVersion
@@ -86,11 +77,7 @@ like_after t m (Delete (LockFile name)) h = record {
       (LockFile name) p (lock_apart name p l));
   dirs = λ d l. refl;
 }
-like_after t m (Delete InfoFile) h = cc
-like_after t m (Delete OldVersion) h = cc
-like_after t m (Delete (Item id)) h = cc
-like_after t m (Delete (Blob id)) h = cc
-like_after t m (Delete (TempFile id)) h = cc
+like_after t m call h = cc
 
 pub like_landed : (t : Tree) (m : ℕ) (o : Option Call) → lands_aside o ≡ true → IsLike t
     (tree_with t m o)
@@ -130,7 +117,10 @@ module _ (t u : Tree) (like : IsLike t u) where
   pub same_like : ComesToSame t u
   same_like = record {
     final = ap (λ (o : Option Info). final_with o u) info_like ∙ with_like (info_of t);
-    rest = record { files = λ p l v. like.files p l; root = like.dirs Root refl };
+    rest = record {
+      files = λ p l v. like.files p l;
+      folders = λ d left. like.dirs d (left_no_lock d left);
+    };
   }
 
   early_like : (info : Info) → IsEarly info t → IsEarly info u

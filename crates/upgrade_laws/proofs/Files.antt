@@ -1,14 +1,15 @@
 -- What a put of a file and a new folder change in a tree, and what they leave.
 use Rattle.std.proofs.Common.{◌≡◌, ◌∙◌, refl, sym, ap, arith, ℕ, List, [], ◌∷◌, ◌++◌, append_assoc, codes, Bool, true, false, ◌||◌, cond, ◌≢◌, ◌+◌}
 use Rattle.std.specs.Prelude.{bytes_eq}
+use Rattle.jop_base.proofs.Folders.{apart}
 use Rattle.jop_base.proofs.KeyedLaws.{same_text, bytes_eq-refl}
 use Rattle.jop_base.specs.Keyed.{put, cut, text_lt}
 use Rattle.jop_base.specs.LockNames.{Name, kind_digit}
 use Rattle.jop_base.specs.Paths.{dir_text, path_text}
 use Rattle.jop_base.specs.declared.dir.Dir.{Dir}
-use Rattle.jop_base.specs.declared.dir.Dir.TheVariants.{Root, Resources, OldSync, Locks, Temp}
+use Rattle.jop_base.specs.declared.dir.Dir.TheVariants.{Root, Resources, OldSync, Locks, Temp, Tombs}
 use Rattle.jop_base.specs.declared.path.Path.{Path}
-use Rattle.jop_base.specs.declared.path.Path.TheVariants.{Info as InfoFile, OldVersion, Item, Blob, Lock as LockFile, Temp as TempFile}
+use Rattle.jop_base.specs.declared.path.Path.TheVariants.{Info as InfoFile, OldVersion, Item, Blob, Lock as LockFile, Temp as TempFile, Tomb}
 use Rattle.jop_target.specs.Store.{file_key, is_same, file_at, with_file, without_file, entries_in, is_same_dir}
 use Rattle.jop_target.specs.declared.tree.Content.{Content}
 use Rattle.jop_target.specs.declared.tree.File.{File}
@@ -23,12 +24,6 @@ use Rattle.upgrade_laws.specs.Target.{key_at, with_keys, items_of, upgraded_info
 
 pub differs : (p q : Path) → (path_text p ≡ path_text q → ⊥) → is_same p q ≡ false
 differs p q h = never (is_same p q) (λ same. h (same_text (path_text p) (path_text q) same))
-
-pub heads_apart : (x y : ℕ) (xs ys : List ℕ) → x ≢ y → x ∷ xs ≡ y ∷ ys → ⊥
-heads_apart x y xs ys other h = other cc
-
-pub seconds_apart : (x y z w : ℕ) (xs ys : List ℕ) → z ≢ w → x ∷ z ∷ xs ≡ y ∷ w ∷ ys → ⊥
-seconds_apart x y z w xs ys other h = other cc
 
 -- no item has a text that ends otherwise
 ends_apart : (id front text : List ℕ) (last : ℕ) → text ≡ front ++ last ∷ [] → last ≢ 100 →
@@ -75,57 +70,40 @@ is_version_file OldVersion = true
 is_version_file path = false
 
 pub old_apart_info : is_same OldVersion InfoFile ≡ false
-old_apart_info = differs OldVersion InfoFile (heads_apart 46 105 _ _ (λ h. omega (arith, h)))
+old_apart_info = differs OldVersion InfoFile (apart OldVersion InfoFile cc)
 
 pub info_apart_old : is_same InfoFile OldVersion ≡ false
-info_apart_old = differs InfoFile OldVersion (heads_apart 105 46 _ _ (λ h. omega (arith, h)))
+info_apart_old = differs InfoFile OldVersion (apart InfoFile OldVersion cc)
 
 pub info_apart : (p : Path) → is_lock p ≡ false → is_version_file p ≡ false → is_same InfoFile p ≡
     false
 info_apart (Item id) l v = info_no_item.left id
-info_apart (Blob id) l v = differs InfoFile (Blob id) (heads_apart 105 46 _ _
-    (λ h. omega (arith, h)))
-info_apart (TempFile id) l v = differs InfoFile (TempFile id)
-    (heads_apart 105 116 _ _ (λ h. omega (arith, h)))
 info_apart InfoFile l v = cc
 info_apart OldVersion l v = cc
 info_apart (LockFile name) l v = cc
+info_apart p l v = differs InfoFile p (apart InfoFile p cc)
 
 pub old_apart : (p : Path) → is_lock p ≡ false → is_version_file p ≡ false → is_same OldVersion p ≡
     false
 old_apart (Item id) l v = old_no_item.left id
-old_apart (Blob id) l v = differs OldVersion (Blob id) (seconds_apart 46 46 115 114 _ _
-    (λ h. omega (arith, h)))
-old_apart (TempFile id) l v = differs OldVersion (TempFile id)
-    (heads_apart 46 116 _ _ (λ h. omega (arith, h)))
 old_apart InfoFile l v = cc
 old_apart OldVersion l v = cc
 old_apart (LockFile name) l v = cc
+old_apart p l v = differs OldVersion p (apart OldVersion p cc)
 
 -- a lock is no other file
 pub lock_apart : (name : Name) (p : Path) → is_lock p ≡ false → is_same (LockFile name) p ≡ false
-lock_apart name InfoFile l = differs (LockFile name) InfoFile
-    (heads_apart 108 105 _ _ (λ h. omega (arith, h)))
-lock_apart name OldVersion l = differs (LockFile name) OldVersion
-    (heads_apart 108 46 _ _ (λ h. omega (arith, h)))
 lock_apart name (Item id) l = (lock_no_item name).left id
-lock_apart name (Blob id) l = differs (LockFile name) (Blob id)
-    (heads_apart 108 46 _ _ (λ h. omega (arith, h)))
-lock_apart name (TempFile id) l = differs (LockFile name) (TempFile id)
-    (heads_apart 108 116 _ _ (λ h. omega (arith, h)))
 lock_apart name (LockFile other) l = cc
+lock_apart name p l = differs (LockFile name) p (apart (LockFile name) p cc)
 
 -- ---- items
 
 items_of-cons : (path : Path) (content : Content) (stamp : ℕ) (fs : List File) → items_of
     (record { path = path; content = content; stamp = stamp } ∷ fs) ≡ with_item path (items_of fs)
 unfolding entries_in
-items_of-cons InfoFile content stamp fs = refl
-items_of-cons OldVersion content stamp fs = refl
 items_of-cons (Item id) content stamp fs = refl
-items_of-cons (Blob id) content stamp fs = refl
-items_of-cons (LockFile name) content stamp fs = refl
-items_of-cons (TempFile id) content stamp fs = refl
+items_of-cons p content stamp fs = refl
 
 items_cons : (f : File) (fs : List File) → items_of (f ∷ fs) ≡ with_item f.path (items_of fs)
 items_cons f fs = items_of-cons f.path f.content f.stamp fs
@@ -133,12 +111,8 @@ items_cons f fs = items_of-cons f.path f.content f.stamp fs
 -- a file that isn't an item adds none
 adds_none : (p q : Path) (ids : List (List ℕ)) → IsNoItem q → is_same p q ≡ true → with_item p ids ≡
     ids
-adds_none InfoFile q ids none h = refl
-adds_none OldVersion q ids none h = refl
 adds_none (Item id) q ids none h = cc (none.right id, h)
-adds_none (Blob id) q ids none h = refl
-adds_none (LockFile name) q ids none h = refl
-adds_none (TempFile id) q ids none h = refl
+adds_none p q ids none h = refl
 
 pub items_of-with : (fs : List File) (f : File) → IsNoItem f.path → items_of (with_file fs f) ≡
     items_of fs
@@ -213,6 +187,7 @@ same_dir Resources Resources h = refl
 same_dir OldSync OldSync h = refl
 same_dir Locks Locks h = refl
 same_dir Temp Temp h = refl
+same_dir Tombs Tombs h = refl
 same_dir d e h = cc
 
 twice : (a b c : Bool) → a ≡ b → (a || c) ≡ (b || (a || c))

@@ -1,6 +1,7 @@
 -- What a tree comes to in the end, and how it is where an upgrade stands.
 use Rattle.std.proofs.Common.{◌≡◌, ◌⊎◌, ◌∙◌, refl, ap, ℕ, zero, suc, List, codes, Bool, true, false, Option, Some, None}
-use Rattle.jop_base.specs.declared.dir.Dir.TheVariants.{Root, Resources, OldSync, Temp}
+use Rattle.jop_base.specs.declared.dir.Dir.{Dir}
+use Rattle.jop_base.specs.declared.dir.Dir.TheVariants.{Root, Resources, OldSync, Temp, Tombs}
 use Rattle.jop_base.specs.declared.path.Path.{Path}
 use Rattle.jop_base.specs.declared.path.Path.TheVariants.{Info as InfoFile, OldVersion}
 use Rattle.jop_target.specs.declared.tree.Content.{Content}
@@ -88,27 +89,35 @@ final_same x y h k l m n = λ i. record {
       n i;
 }
 
+-- whether an upgrade leaves the folder as it is; that of the locks is set aside
+abbrev pub is_left : Dir → Bool
+is_left Root = true
+is_left Tombs = true
+is_left dir = false
+
 -- all else is as it was
 pub record HasSameRest (t u : Tree) : Type 0 where
   pub files : (path : Path) → is_lock path ≡ false → is_version_file path ≡ false → content_at u
       path ≡ content_at t path
-  pub root : has_dir u.folders Root ≡ has_dir t.folders Root
+  pub folders : (dir : Dir) → is_left dir ≡ true → has_dir u.folders dir ≡ has_dir t.folders dir
 
 -- two trees come to the same
 pub record ComesToSame (t u : Tree) : Type 0 where
   pub final : final u ≡ final t
   pub rest : HasSameRest t u
 
+pub untouched : (t : Tree) → HasSameRest t t
+untouched t = record { files = λ p l v. refl; folders = λ d left. refl }
+
 pub same_tree : (t : Tree) → ComesToSame t t
-same_tree t = record { final = refl; rest = record { files = λ p l v. refl; root = refl } }
+same_tree t = record { final = refl; rest = untouched t }
 
 pub same_on : (t u v : Tree) → ComesToSame t u → ComesToSame u v → ComesToSame t v
 same_on t u v h k = record {
   final = k.final ∙ h.final;
   rest = record {
     files = λ p l o. k.rest.files p l o ∙ h.rest.files p l o;
-    root = k.rest.root ∙
-        h.rest.root;
+    folders = λ d left. k.rest.folders d left ∙ h.rest.folders d left;
   };
 }
 

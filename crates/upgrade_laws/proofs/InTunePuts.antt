@@ -2,7 +2,7 @@
 use Rattle.std.proofs.Common.{◌≡◌, ◌⊎◌, ◌∙◌, ◌++◌, refl, sym, ap, inl, inr, arith, ℕ, List, [], ◌∷◌, codes, Bool, true, false, ◌||◌, cond, Option, Some, None, option_map}
 use Rattle.std.proofs.lemmas.Option.{same_Some}
 use Rattle.jop_base.specs.declared.dir.Dir.{Dir}
-use Rattle.jop_base.specs.declared.dir.Dir.TheVariants.{Root, Resources, OldSync}
+use Rattle.jop_base.specs.declared.dir.Dir.TheVariants.{Root, Resources, OldSync, Locks, Temp, Tombs}
 use Rattle.jop_base.specs.declared.path.Path.{Path}
 use Rattle.jop_base.specs.declared.path.Path.TheVariants.{Info as InfoFile, OldVersion}
 use Rattle.jop_target.specs.declared.tree.Content.TheVariants.{Whole}
@@ -25,7 +25,7 @@ use Rattle.target_upgrade.specs.declared.step.Step.TheVariants.{PutsInfo, ListsR
 use Rattle.jop_target.proofs.Files.{file_at-other_put, file_at-put}
 use Rattle.target_upgrade.proofs.Infos.{at_version-valid}
 use Rattle.upgrade_laws.proofs.Files.{HasSameItems, same_with, upgraded_info-same, has_dir-with, info_no_item, old_no_item, old_apart_info, info_apart_old, info_apart, old_apart}
-use Rattle.upgrade_laws.proofs.InTune.{as_is, last_info, final_at, final_is, final_same, HasSameRest, ComesToSame, IsEarly, IsNew, IsAtStep, IsGetting, IsOnItsWay}
+use Rattle.upgrade_laws.proofs.InTune.{as_is, last_info, final_at, final_is, final_same, is_left, HasSameRest, ComesToSame, IsEarly, IsNew, IsAtStep, IsGetting, IsOnItsWay}
 
 -- ---- folders
 
@@ -39,41 +39,57 @@ still ds d e h = has_dir-with ds d e ∙ or_true (is_same_dir d e) (has_dir ds e
 abbrev pub with_folder : Tree → Dir → Tree
 with_folder t d = record t { folders = with_dir t.folders d }
 
-rest_folder : (t : Tree) (d : Dir) → is_same_dir d Root ≡ false → HasSameRest t (with_folder t d)
-rest_folder t d other = record {
+-- a folder that an upgrade makes is none that it leaves as it is
+made_apart : (made d : Dir) → is_left made ≡ false → is_left d ≡ true → is_same_dir made d ≡ false
+made_apart Root d made left = absurd cc
+made_apart Tombs d made left = absurd cc
+made_apart made Root m left = refl
+made_apart made Tombs m left = refl
+made_apart made d m left = absurd cc
+
+pub left_with : (ds : List Dir) (made d : Dir) → is_left made ≡ false → is_left d ≡ true →
+    has_dir (with_dir ds made) d ≡ has_dir ds d
+left_with ds made d m left = has_dir-with ds made d ∙ rw (made_apart made d m left) refl
+
+pub left_no_lock : (d : Dir) → is_left d ≡ true → is_same_dir d Locks ≡ false
+left_no_lock Root left = refl
+left_no_lock Tombs left = refl
+left_no_lock d left = absurd cc
+
+rest_folder : (t : Tree) (d : Dir) → is_left d ≡ false → HasSameRest t (with_folder t d)
+rest_folder t d made = record {
   files = λ p l v. refl;
-  root = has_dir-with t.folders d Root ∙ rw
-      other refl;
+  folders = λ e left. left_with t.folders d e made left;
 }
 
 info_folder : (t : Tree) (d : Dir) → info_of (with_folder t d) ≡ info_of t
 unfolding info_of
 info_folder t d = refl
 
-pub new_folder : (t : Tree) (d : Dir) (info : Info) → is_same_dir d Root ≡ false → IsNew info t → IsNew
+pub new_folder : (t : Tree) (d : Dir) (info : Info) → is_left d ≡ false → IsNew info t → IsNew
     info (with_folder t d) × ComesToSame t (with_folder t d)
-new_folder t d info other h =
+new_folder t d info made h =
     let u = with_folder t d in
     let reads = info_folder t d ∙ h.reads in (
       record { reads = reads; version = h.version; valid = h.valid },
       record {
         final = final_is u info 0 reads h.version ∙ sym
             (final_is t info 0 h.reads h.version);
-        rest = rest_folder t d other;
+        rest = rest_folder t d made;
       },
     )
 
-pub early_folder : (t : Tree) (d : Dir) (info : Info) → is_same_dir d Root ≡ false → is_same_dir d
+pub early_folder : (t : Tree) (d : Dir) (info : Info) → is_left d ≡ false → is_same_dir d
     Resources ≡ false → is_same_dir d OldSync ≡ false → IsEarly info t → IsEarly info
     (with_folder t d) × ComesToSame t (with_folder t d)
-early_folder t d info root resources sync h =
+early_folder t d info made resources sync h =
     let u = with_folder t d in
     let reads = info_folder t d ∙ h.reads in
     let same_resources : has_dir u.folders Resources ≡ has_dir t.folders Resources = has_dir-with
     t.folders d Resources ∙ rw resources refl in
     let same_sync : has_dir u.folders OldSync ≡ has_dir t.folders OldSync = has_dir-with t.folders d
     OldSync ∙ rw sync refl in
-    let rest = rest_folder t d root in
+    let rest = rest_folder t d made in
     elim h.made [
       | inl new ↦ (
         record {
@@ -122,7 +138,7 @@ rest_old t bytes m = record {
   files = λ p l v. ap (option_map (λ (f : File). f.content))
       (file_at-other_put t.files (record { path = OldVersion; content = Whole bytes; stamp = m }) p
       (old_apart p l v));
-  root = refl;
+  folders = λ d left. refl;
 }
 
 pub old_there : (t : Tree) (bytes : List ℕ) (m : ℕ) → file_at (with_text t OldVersion bytes m).files
@@ -236,7 +252,7 @@ rest_info t bytes m = record {
   files = λ p l v. ap (option_map (λ (f : File). f.content))
       (file_at-other_put t.files (record { path = InfoFile; content = Whole bytes; stamp = m }) p
       (info_apart p l v));
-  root = refl;
+  folders = λ d left. refl;
 }
 
 info_there : (t : Tree) (bytes : List ℕ) (m : ℕ) → info_of (with_text t InfoFile bytes m) ≡ info_in
