@@ -1,9 +1,10 @@
 -- Texts that are compared byte by byte, and the test for the name of a blob.
-use Rattle.std.proofs.Common.{◌≡◌, ℕ, List, ◌++◌, length, true, false, ◌==◌, Option, Some, None, IfSome, IfNone, refl, sym, arith}
+use Rattle.std.proofs.Common.{◌≡◌, ℕ, List, ◌++◌, length, true, false, ◌==◌, ◌&&◌, take, drop, Option, Some, None, IfSome, IfNone, refl, sym, ap, ◌∙◌, arith}
 use Rattle.std.specs.Prelude.{codes, bytes_eq}
 use Rattle.std.specs.Option.{is_some}
 use Rattle.std.specs.List.{list_all}
 use Rattle.std.proofs.lemmas.Bool.{and_parts, eqb-true, eq-eqb, false_from_ne_true}
+use Rattle.std.proofs.lemmas.List.{take-append-drop}
 use Rattle.std.proofs.lemmas.List.Sums.{AllPass-from_list_all, list_all-from_AllPass}
 use Rattle.std.proofs.lemmas.Slice.Eq.{bytes_eq-Decides}
 use Rattle.jop_base.specs.Id.{IsIdText, is_digit}
@@ -34,3 +35,13 @@ pub blob_named : (name : List ℕ) (read : Option (List ℕ)) → IfSome read (�
     → is_some read ≡ is_blob_target (codes "/.resource/" ++ name)
 blob_named name (Some id) some none = sym (blob_is name some.1)
 blob_named name None some none = sym (blob_isnt name none)
+
+-- a target that is none of the folder of bytes names no blob
+pub no_blob : (target : List ℕ) → ((name : List ℕ) → ¬ (target ≡ codes "/.resource/" ++ name))
+    → false ≡ is_blob_target target
+no_blob target none = sym (false_from_ne_true (is_blob_target target) (λ h.
+    let parts = and_parts (bytes_eq (take 11 target) (codes "/.resource/"))
+    ((length target == 43) && list_all is_digit (drop 11 target)) h in
+    none (drop 11 target) (sym (take-append-drop 11 target)
+    ∙ ap (λ (t : List ℕ). t ++ drop 11 target)
+    (bytes_eq_is (take 11 target) (codes "/.resource/") parts.0))))

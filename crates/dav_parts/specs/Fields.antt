@@ -1,8 +1,6 @@
 -- What the fields of a head say, as a list of names and values. Names have no case (RFC 9110, 5.1).
-use Rattle.std.specs.Prelude.{◌≡◌, ℕ, ◌^◌, ◌≤◌, Bool, ◌&&◌, List, [], ◌∷◌, map, length, Option, Some, None, nat_lt, if◌then◌else◌, bytes_eq}
-use Rattle.std.specs.Char.{is_ascii_digit, to_ascii_lowercase}
-use Rattle.std.specs.List.{list_all}
-use Rattle.std.specs.Str.Parse.{digits_value}
+use Rattle.std.specs.Prelude.{◌≡◌, ℕ, ◌≤◌, Bool, List, [], ◌∷◌, map, length, if◌then◌else◌, bytes_eq}
+use Rattle.std.specs.Char.{to_ascii_lowercase}
 use Rattle.dav_parts.specs.declared.field.FieldValue.{FieldValue}
 use Rattle.dav_parts.specs.declared.field.FieldValue.TheVariants.{Absent, Single, Repeated}
 

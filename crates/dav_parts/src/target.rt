@@ -30,7 +30,11 @@ pub(crate) fn after_prefix<'a>(text: &'a [u8], prefix: &[u8]) -> Option<&'a [u8]
     ensures some { IfSome result (λ rest. text.now ≡ prefix.now ++ rest.now) }
     ensures none { IfNone result ((rest : List ℕ) → ¬ (text.now ≡ prefix.now ++ rest)) }
 {
-    text.strip_prefix(prefix)
+    if text.len() < prefix.len() {
+        return None;
+    }
+    let (start, rest) = text.split_at(prefix.len());
+    if start == prefix { Some(rest) } else { None }
 }
 
 /// The file that a target names. None if it names none.

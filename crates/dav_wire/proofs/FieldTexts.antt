@@ -1,12 +1,12 @@
 -- Texts of visible characters, and fields that have them as values.
-use Rattle.std.proofs.Common.{◌≡◌, ℕ, zero, suc, ◌+◌, ◌-◌, ◌<◌, ◌≤◌, List, [], ◌∷◌, ◌++◌, length, get_or, reverse, true, false, Some, refl, ap, ◌∙◌, arith}
+use Rattle.std.proofs.Common.{◌≡◌, ℕ, zero, suc, ◌+◌, ◌-◌, ◌<◌, ◌≤◌, List, [], ◌∷◌, ◌++◌, length, get_or, reverse, true, false, refl, ap, ◌∙◌, arith}
 use Rattle.std.specs.Prelude.{codes, decimal, ◌^◌, IsTrue, All}
 use Rattle.std.specs.Char.{is_ascii_digit}
 use Rattle.std.specs.List.{list_all}
 use Rattle.std.specs.Str.{IsAscii}
-use Rattle.std.proofs.lemmas.Bool.{and_from, and_parts, cond-false, cond-true}
+use Rattle.std.proofs.lemmas.Bool.{and_from, and_parts, cond-false}
 use Rattle.std.proofs.lemmas.Bool.Decides.{nat_tests}
-use Rattle.std.proofs.lemmas.Fmt.{decimal_is_IsNumeral, length-decimal-le}
+use Rattle.std.proofs.lemmas.Fmt.{length-decimal-le}
 use Rattle.std.proofs.lemmas.List.{length-append, get_or-reverse, reverse-reverse, length-reverse}
 use Rattle.std.proofs.lemmas.List.Elements.{All-cons, All-nil, All-head, All-tail}
 use Rattle.std.proofs.lemmas.List.Sums.{AllPass-from_list_all}
@@ -25,7 +25,7 @@ use Rattle.jop_target.specs.declared.call.Call.TheVariants as calls
 use Rattle.dav_parts.specs.Targets.{path_target, dir_target, target_of}
 use Rattle.dav_wire.specs.Requests.{length_lines, HasIds}
 use Rattle.dav_wire.specs.RequestBack.{is_visible}
-use Rattle.jop_base.proofs.DecimalLaws.{decimal_digits, decimal_in-decimal}
+use Rattle.jop_base.proofs.DecimalLaws.{decimal_digits}
 
 -- ---- visible characters
 

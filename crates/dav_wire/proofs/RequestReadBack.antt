@@ -17,7 +17,8 @@ use Rattle.dav_wire.specs.Requests.{body_of, request_text, is_put, is_one, frami
 use Rattle.dav_wire.specs.RequestReading.{RequestReadsAs, fields_of}
 use Rattle.dav_wire.specs.RequestBack.{IsHost, IsSendable, blob_of, request_for}
 use Rattle.dav_wire.proofs.FramingLemmas.{framing_plain, lengths_one}
-use Rattle.dav_wire.proofs.FieldTexts.{trimmed, field, decimal_visible, decimal_read}
+use Rattle.jop_base.proofs.DecimalLaws.{decimal_in-decimal}
+use Rattle.dav_wire.proofs.FieldTexts.{trimmed, field, decimal_visible}
 use Rattle.dav_wire.proofs.RequestHeads.{depth_fields, fields_for, head_for, text_is, head_fits, head_short}
 
 -- ---- what the head says of its length
@@ -105,7 +106,7 @@ asks_body host call count fits =
     ∙ ap (λ (t : List ℕ). t ∷ []) (trimmed (decimal count) (decimal_visible count small)) in
     sym (cond-false (nat_lt given count) (Refused 413) (Body count) (le-ltb given count within))
     ∙ lengths_one puts limit given (values_of (codes "content-length") (pairs host call count))
-    (decimal count) (Some count) value (sym (decimal_read count small)) refl
+    (decimal count) (Some count) value (sym (decimal_in-decimal count small)) refl
     ∙ framing_plain method (target_of call) (pairs host call count) (few_fields host call count)
     (not_coded host call count)
 

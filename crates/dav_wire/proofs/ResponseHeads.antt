@@ -19,7 +19,8 @@ use Rattle.dav_wire.specs.ResponseFrames.{body_count, count_of}
 use Rattle.dav_wire.specs.ResponseReading.{fields_of}
 use Rattle.dav_wire.specs.ResponseTexts.{status_text, status_line, date_line, type_line, end_lines, response_text}
 use Rattle.dav_wire.proofs.DateTexts.{date_values, date_trimmed, values_pass}
-use Rattle.dav_wire.proofs.FieldTexts.{field, field_fits, length_named, decimal_visible, decimal_read, trimmed, length_short}
+use Rattle.jop_base.proofs.DecimalLaws.{decimal_in-decimal}
+use Rattle.dav_wire.proofs.FieldTexts.{field, field_fits, length_named, decimal_visible, trimmed, length_short}
 
 -- ---- the status line
 
@@ -145,7 +146,7 @@ counted_by : (count : ℕ) (values : List (List ℕ)) → count < 2 ^ 64
     → values ≡ trim_ows (32 ∷ decimal count) ∷ [] → count_of values ≡ Some count
 counted_by count values small is =
     ap count_of is ∙ ap (λ (t : List ℕ). count_of (t ∷ []))
-    (trimmed (decimal count) (decimal_visible count small)) ∙ decimal_read count small
+    (trimmed (decimal count) (decimal_visible count small)) ∙ decimal_in-decimal count small
 
 module _ (count : ℕ) (small : count < 2 ^ 64) where
   plain_fields : (status : ℕ) → type_line status ≡ [] → end_lines status count ≡ length_lines count

@@ -1,5 +1,5 @@
 -- How many bytes of a response are missing.
-use Rattle.std.proofs.Common.{◌≡◌, ℕ, ◌+◌, ◌-◌, ◌<◌, ◌≤◌, List, [], ◌∷◌, ◌++◌, length, take, drop, refl, sym, ap, subst, ◌∙◌, arith, inl, inr}
+use Rattle.std.proofs.Common.{◌≡◌, ℕ, ◌-◌, ◌<◌, List, [], ◌++◌, length, take, drop, refl, sym, ap, subst, ◌∙◌, arith, inl, inr}
 use Rattle.std.proofs.lemmas.List.{take-append-drop, length-append, length-map}
 use Rattle.httparse.specs.Grammar.{ResponseHead, print_response, HasNoResponse, status_code}
 use Rattle.httparse.specs.Spans.{ResponseOverflows, name_and_value}

@@ -1,9 +1,7 @@
 -- What a response can tell of the reply to a call.
 use Rattle.std.proofs.Common.{◌≡◌, ℕ, List, [], take, length}
 use Rattle.jop_target.specs.declared.call.Call.{Call}
-use Rattle.jop_target.specs.declared.reply.Reply.{Reply}
-use Rattle.jop_target.specs.declared.reply.Reply.TheVariants.{Listed, Got, GotBlob, Absent, Done, Failed, TooLarge}
-use Rattle.jop_base.specs.declared.dir.Dir.{Dir}
+use Rattle.jop_target.specs.declared.reply.Reply.TheVariants.{Got, GotBlob, Absent, Done, Failed, TooLarge}
 use Rattle.httparse.specs.Grammar.{print_response, status_code}
 use Rattle.dav_wire.specs.ResponseFrames.{frame_of}
 use Rattle.dav_wire.specs.ResponseReading.{IsReplyOf, ResponseReadsAs, ResponseBodyReadsAs, fields_of}

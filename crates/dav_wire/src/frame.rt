@@ -3,11 +3,11 @@ ghost use Rattle.httparse.specs.Spans.{IsHeaderWithin, header_bytes};
 ghost use Rattle.dav_parts.specs.Fields.{values_of};
 ghost use Rattle.dav_wire.specs.ResponseFrames.{now_of, count_of, body_count, is_too_long, frame_from, frame_of};
 
-use jop_base::read_decimal;
 use crate::limits::FIELD_LIMIT;
 use crate::outcome::{Outcome, outcome_of};
 use dav_parts::{FieldValue, field_value, read_moment};
 use httparse::spans::HeaderSpan;
+use jop_base::read_decimal;
 use jop_target::{BLOB_LIMIT, Call};
 
 /// What the head of a response tells of what follows it.

@@ -2,10 +2,10 @@ ghost use Rattle.std.specs.Prelude.{◌≡◌, length, map, All};
 ghost use Rattle.httparse.specs.Spans.{IsHeaderWithin, header_bytes};
 ghost use Rattle.dav_wire.specs.Requests.{is_put, framing_of_number, framing_of};
 
-use jop_base::read_decimal;
 use crate::limits::FIELD_LIMIT;
 use dav_parts::{FieldValue, field_value, put_limit};
 use httparse::spans::HeaderSpan;
+use jop_base::read_decimal;
 
 /// What the head of a request says of its length.
 #[derive(Clone, Copy, Debug, PartialEq, Eq)]

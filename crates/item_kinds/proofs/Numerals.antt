@@ -1,18 +1,28 @@
 -- Decimal digits.
-use Rattle.std.proofs.Common.{◌≡◌, ℕ, zero, suc, ◌*◌, ◌/◌, ◌%◌, ℤ, ◌+ℤ◌, ◌*ℤ◌, pos, to_z, of_z, w8, w16, w32, ◌≤◌, ◌<◌, true, List, [], ◌∷◌, length, Option, Some, None, subst, ap, refl, ◌∙◌, arith}
+use Rattle.std.proofs.Common.{◌≡◌, ℕ, ◌*◌, ◌/◌, ◌%◌, ℤ, ◌+ℤ◌, ◌*ℤ◌, pos, to_z, of_z, w8, w16, w32, ◌≤◌, ◌<◌, true, List, length, Option, Some, None, subst, ap, sym, ◌∙◌, arith}
 use Rattle.std.specs.Prelude.{◌&&◌, ◌^◌, IfSome, IfNone, nat_le}
-use Rattle.std.specs.Char.{is_ascii_digit, digit_value}
+use Rattle.std.specs.Char.{is_ascii_digit}
 use Rattle.std.specs.List.{list_all}
-use Rattle.std.specs.Str.{IsAscii, IsUtf8}
 use Rattle.std.specs.Str.Parse.{AllDigits, IsNumeral, digits_value}
-use Rattle.std.proofs.lemmas.Str.{IsUtf8-from_ascii}
-use Rattle.std.proofs.lemmas.Str.Parse.{digit_from_value, digits_value_short, numerals_by_value, tells_digits}
+use Rattle.std.proofs.lemmas.Str.Parse.{digits_value_short, numerals_by_value, tells_digits}
 use Rattle.std.proofs.lemmas.Int.{ints}
-use Rattle.jop_base.proofs.DecimalLaws.{digits_test, digits_yes}
+use Rattle.jop_base.proofs.DecimalLaws.{decimal_in-none, decimal_in-some, digits_test, digits_yes}
+use Rattle.jop_base.specs.Decimals.{decimal_in}
 use Rattle.item_text.specs.Valid.{is_type_value}
 use Rattle.item_kinds.specs.Kinds.{type_number}
 use Rattle.std.proofs.lemmas.Bool.{and_parts, and_from, cond-true, cond-false, false_from_ne_true}
 use Rattle.std.proofs.lemmas.Bool.Decides.{nat_tests}
+
+-- what was read in decimal is the number of a numeral
+pub read_some : (text : List ℕ) (r : Option ℕ) → r ≡ decimal_in text
+    → IfSome r (λ number. IsNumeral 10 text × (digits_value 10 text ≡ number))
+read_some text None e = tt
+read_some text (Some number) e = decimal_in-some text number (sym e)
+
+pub read_none : (text : List ℕ) (r : Option ℕ) → r ≡ decimal_in text
+    → IfNone r (IsNumeral 10 text → 2 ^ 64 ≤ digits_value 10 text)
+read_none text None e = decimal_in-none text (sym e)
+read_none text (Some number) e = tt
 
 -- a digit and two more as one number, through the types that it is read in
 pub digits_read : (n : ℕ) → n < 1_000

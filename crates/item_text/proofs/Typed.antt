@@ -1,11 +1,9 @@
 -- The topmost `type_` among property lines.
-use Rattle.std.proofs.Common.{◌≡◌, ℕ, ◌+◌, ◌-◌, ◌≤◌, true, false, cond, List, [], ◌∷◌, length, map, Some, None, Bor, sym, ap, ◌∙◌, arith}
+use Rattle.std.proofs.Common.{◌≡◌, ℕ, ◌+◌, ◌-◌, ◌≤◌, true, false, List, [], ◌∷◌, length, map, Some, None, Bor, sym, ap, ◌∙◌, arith}
 use Rattle.std.specs.Prelude.{bytes_eq}
 use Rattle.std.proofs.lemmas.Bool.{cond-true, cond-false}
-use Rattle.item_text.specs.declared.bad_item.BadWhy.TheVariants.{TypeValue}
 use Rattle.item_text.specs.Lines.{lines}
 use Rattle.item_text.specs.Props.{type_key}
-use Rattle.item_text.specs.Valid.{is_type_value}
 use Rattle.item_text.specs.Grammar.{pair_of, type_fault}
 use Rattle.item_text.specs.Steps.{line_fault, IsFromType}
 

@@ -1,6 +1,6 @@
 -- Going through the lines from the last one upward.
 use Rattle.std.proofs.Common.{◌≡◌, ℕ, ◌+◌, ◌-◌, ◌≤◌, Bool, true, false, cond, List, [], ◌∷◌, ◌++◌, length, map, drop, get_or, ◌<◌, Option, Some, None, refl, sym, ap, ◌∙◌, subst, append_assoc, arith, inl, inr, Bor}
-use Rattle.std.specs.Prelude.{◌&&◌, MatchOption, IfSome}
+use Rattle.std.specs.Prelude.{◌&&◌, MatchOption}
 use Rattle.std.specs.List.{list_all}
 use Rattle.std.proofs.lemmas.Bool.{cases_Bool, and_from, and_left, and_right, and_parts, cond-true, cond-false}
 use Rattle.std.proofs.lemmas.List.{length-append, append-nil, append_cancel_left, get_or_at, drop_at}

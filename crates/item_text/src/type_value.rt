@@ -4,10 +4,10 @@ ghost use Rattle.item_text.specs.Valid.{is_type_value};
 ghost use Rattle.item_text.specs.Grammar.{pair_of, type_fault};
 ghost use Rattle.item_text.specs.Steps.{lines_of, IsFromType};
 
-use jop_base::are_decimal_digits;
 use crate::bad_item::{BadItem, BadWhy};
 use crate::line::{first_line, line_count};
 use crate::pair::pair_in;
+use jop_base::are_decimal_digits;
 
 /// Whether the value is one to three decimal digits.
 #[tactic(auto, unfolding(crate::specs::Valid::is_type_value))]

@@ -1,8 +1,8 @@
 //! How long an upload in memory takes.
 
-use jop_base::let_go;
 use crate::notes::note_saved;
 use crate::trouble::Trouble;
+use jop_base::let_go;
 use jop_target::MemTarget;
 use std::alloc::Global;
 use std::time::Instant;

@@ -1,6 +1,6 @@
-use jop_base::let_go;
 use crate::named::NOW;
 use crate::steps::{Step, change};
+use jop_base::let_go;
 use local_changes::StoreErr;
 use local_store::Tables;
 use std::alloc::Global;
