@@ -45,7 +45,7 @@ fn page_after(
     context: &Context,
 ) -> Result<Page, AllocError> {
     let listing = listing(alloc, now, ids, stamps)?;
-    delta_of(alloc, &listing, context, &Seq::new(alloc))
+    delta_of(alloc, &listing, None, context, &Seq::new(alloc))
 }
 
 fn takes(page: &Page, ids: &[Id]) -> bool {
@@ -110,9 +110,15 @@ fn base(alloc: Global, ids: [Id; 2]) -> Result<Seq<Id>, AllocError> {
     Ok(synced)
 }
 
-fn gone_is(alloc: Global, shown: &Listing, synced: &Seq<Id>, gone: Id) -> Result<bool, AllocError> {
-    let page = delta_of(alloc, shown, &Context::new(alloc), synced)?;
-    Ok(page.gone.as_slice() == [gone].as_slice())
+fn gone_is(
+    alloc: Global,
+    shown: &Listing,
+    tombs: Option<&Listing>,
+    synced: &Seq<Id>,
+    gone: &[Id],
+) -> Result<bool, AllocError> {
+    let page = delta_of(alloc, shown, tombs, &Context::new(alloc), synced)?;
+    Ok(page.gone.as_slice() == gone)
 }
 
 #[test]
@@ -121,24 +127,80 @@ fn what_is_shown_no_more_is_gone(rt: HostRuntime) -> Result<(), Fail> {
     let (ids, gone) = (shown()?, id(C)?);
     let synced = base(alloc, [gone, ids[1]])?;
     let shown = listing(alloc, 9, ids, [5, 5])?;
-    assert!(rt; gone_is(alloc, &shown, &synced, gone)?);
-    assert!(rt; fail_safe(&shown, &synced).is_none());
+    assert!(rt; gone_is(alloc, &shown, None, &synced, &[gone])?);
+    assert!(rt; fail_safe(&shown, None, &synced).is_none());
+    Ok(())
+}
+
+/// A listing of the folder of deletions that records these.
+fn records(alloc: Global, ids: &[Id]) -> Result<Listing, AllocError> {
+    let mut entries = Seq::new(alloc);
+    for id in ids {
+        entries.push(Entry {
+            path: Path::Tomb(*id),
+            stamp: 3,
+        })?;
+    }
+    Ok(Listing { now: 9, entries })
+}
+
+/// Whether just these items are gone where one deletion is recorded.
+fn gone_by(
+    alloc: Global,
+    shown: &Listing,
+    recorded: Id,
+    synced: &Seq<Id>,
+    gone: &[Id],
+) -> Result<bool, AllocError> {
+    let tombs = records(alloc, &[recorded])?;
+    gone_is(alloc, shown, Some(&tombs), synced, gone)
+}
+
+#[test]
+fn only_what_is_recorded_is_gone(rt: HostRuntime) -> Result<(), Fail> {
+    let alloc = rt.alloc();
+    let (ids, absent) = (shown()?, id(C)?);
+    let synced = base(alloc, [absent, ids[1]])?;
+    let shown = listing(alloc, 9, ids, [5, 5])?;
+    let one = [absent];
+    for (recorded, gone) in [(absent, one.as_slice()), (ids[1], &[]), (ids[0], &[])] {
+        assert!(rt; gone_by(alloc, &shown, recorded, &synced, gone)?);
+    }
     Ok(())
 }
 
 /// How many items a client would lose by a listing that shows nothing.
-fn lost(alloc: Global, synced: &Seq<Id>) -> Option<u64> {
+fn lost(alloc: Global, tombs: Option<&Listing>, synced: &Seq<Id>) -> Option<u64> {
     let empty = Listing {
         now: 9,
         entries: Seq::new(alloc),
     };
-    fail_safe(&empty, synced)
+    fail_safe(&empty, tombs, synced)
 }
 
 #[test]
 fn a_listing_without_items_is_stopped(rt: HostRuntime) -> Result<(), Fail> {
     let synced = base(rt.alloc(), [id(C)?, id(B)?])?;
-    assert!(rt; lost(rt.alloc(), &synced) == Some(2));
-    assert!(rt; lost(rt.alloc(), &Seq::new(rt.alloc())).is_none());
+    assert!(rt; lost(rt.alloc(), None, &synced) == Some(2));
+    assert!(rt; lost(rt.alloc(), None, &Seq::new(rt.alloc())).is_none());
+    Ok(())
+}
+
+/// The same, where these deletions are recorded.
+fn lost_beside(
+    alloc: Global,
+    recorded: &[Id],
+    synced: &Seq<Id>,
+) -> Result<Option<u64>, AllocError> {
+    let tombs = records(alloc, recorded)?;
+    Ok(lost(alloc, Some(&tombs), synced))
+}
+
+#[test]
+fn a_target_that_records_a_deletion_was_not_emptied(rt: HostRuntime) -> Result<(), Fail> {
+    let gone = id(C)?;
+    let synced = base(rt.alloc(), [gone, id(B)?])?;
+    assert!(rt; lost_beside(rt.alloc(), &[], &synced)? == Some(2));
+    assert!(rt; lost_beside(rt.alloc(), &[gone], &synced)?.is_none());
     Ok(())
 }

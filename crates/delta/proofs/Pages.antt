@@ -1,9 +1,9 @@
 -- What pages come to over two listings.
-use Rattle.std.specs.Prelude.{ℕ, ◌≡◌, ◌≤◌, ◌<◌, List, [], ◌∷◌, Bool, true, false, ◌&&◌, ◌||◌, not, nat_lt, nat_eq, max, Contains, filter, refl}
+use Rattle.std.specs.Prelude.{ℕ, ◌≡◌, ◌≤◌, ◌<◌, List, [], ◌∷◌, Bool, true, false, ◌&&◌, ◌||◌, not, nat_lt, nat_eq, max, Contains, filter, refl, Option, Some, None}
 use Rattle.std.proofs.Common.{ap, sym, ◌∙◌, subst, inl, inr, arith}
-use Rattle.std.specs.BTreeSet.{BTreeSet}
+use Rattle.std.specs.BTreeSet.{BTreeSet, contains}
 use Rattle.std.specs.Bool.{Decides}
-use Rattle.std.proofs.lemmas.Bool.{ltb-true, eqb-true, lt-ltb, eq-eqb, or_cases, and_parts, not-true, cases_order, or_left, or_right, both_ways}
+use Rattle.std.proofs.lemmas.Bool.{ltb-true, eqb-true, lt-ltb, eq-eqb, or_cases, and_from, and_parts, not-true, cases_order, or_left, or_right, both_ways}
 use Rattle.std.proofs.lemmas.Map.Made.{is_member-Decides}
 use Rattle.std.proofs.lemmas.Slice.Eq.{bytes_eq-Decides}
 use Rattle.jop_base.specs.declared.context.Context.{Context}
@@ -11,7 +11,8 @@ use Rattle.jop_target.specs.declared.reply.Listing.{Listing}
 use Rattle.delta.specs.Marks.{id_of, ids_of, is_at, is_new, latest, marks_of}
 use Rattle.delta.specs.Order.{IsInOrder, IsSetOf, Lists, has, id_cmp, mark_cmp}
 use Rattle.delta.specs.Page.{IsGoneOf, IsNext, IsPageOf, IsSeenAt, IsTaken, Shows}
-use Rattle.delta.specs.Sets.{is_out, is_past}
+use Rattle.delta.specs.Sets.{IsRecord, is_deleted, is_gone, is_out, is_past}
+use Rattle.delta.specs.Tombs.{counts_as_deleted, recorded_in}
 use Rattle.delta.specs.declared.mark.Mark.{Mark}
 use Rattle.delta.specs.declared.page.Page.{Page}
 use Rattle.delta.proofs.Lists.{in-cases, in-none, kept-in, kept-passes, kept-stood, made-from, made-in}
@@ -19,10 +20,15 @@ use Rattle.delta.proofs.Sorting.{has-by_cmp, lists-as, lists-ids, lists-marks, l
 
 -- ---- each part of a page
 
+-- a set of ids contains those that stand among them
+contains-is : (ids : List (List ℕ)) (set : BTreeSet (List ℕ)) (id : List ℕ) → IsSetOf id_cmp ids set
+    → contains id_cmp set id ≡ has ids id
+contains-is ids set id h = h.0 id ∙ has-by_cmp ids id
+
 -- what is out of a set of ids isn't one of them
 out-is : (ids : List (List ℕ)) (set : BTreeSet (List ℕ)) (id : List ℕ) → IsSetOf id_cmp ids set
     → is_out set id ≡ not (has ids id)
-out-is ids set id h = ap not (h.0 id ∙ has-by_cmp ids id)
+out-is ids set id h = ap not (contains-is ids set id h)
 
 past-is : (context : Context) (seen : BTreeSet (List ℕ)) (m : Mark) → IsSetOf id_cmp context.seen seen
     → is_past context.moment seen m ≡ is_new context m
@@ -44,15 +50,32 @@ taken-is context seen marks new taken s h e =
       ids = e;
     }
 
-pub gone-is : (synced : List (List ℕ)) (shown : BTreeSet (List ℕ)) (marks : List Mark) (gone : List (List ℕ))
-    → IsSetOf id_cmp (ids_of marks) shown
-    → IsInOrder id_cmp (filter (is_out shown) synced) gone → Lists id_cmp (IsGoneOf synced marks) gone
-gone-is synced shown marks gone s h = lists-as gone
-    (λ id c. (
-      kept-stood (is_out shown) synced id c,
-      sym (out-is (ids_of marks) shown id s) ∙ kept-passes (is_out shown) synced id c,
+-- an id counts as deleted by the set of what is recorded just where it does by the listing
+deleted-is : (tombs : Option Listing) (recorded : Option (BTreeSet (List ℕ))) (id : List ℕ)
+    → IsRecord tombs recorded → is_deleted recorded id ≡ counts_as_deleted tombs id
+deleted-is None None id h = refl
+deleted-is (Some tombs) (Some recorded) id h = contains-is (recorded_in tombs.entries) recorded id h
+deleted-is None (Some recorded) id h = absurd h
+deleted-is (Some tombs) None id h = absurd h
+
+pub gone-is : (synced : List (List ℕ)) (shown : BTreeSet (List ℕ))
+    (recorded : Option (BTreeSet (List ℕ))) (marks : List Mark) (tombs : Option Listing)
+    (gone : List (List ℕ))
+    → IsSetOf id_cmp (ids_of marks) shown → IsRecord tombs recorded
+    → IsInOrder id_cmp (filter (is_gone shown recorded) synced) gone
+    → Lists id_cmp (IsGoneOf synced marks tombs) gone
+gone-is synced shown recorded marks tombs gone s r h =
+    let p = is_gone shown recorded in
+    lists-as gone
+    (λ id c.
+    let is = and_parts (is_out shown id) (is_deleted recorded id) (kept-passes p synced id c) in (
+      kept-stood p synced id c,
+      sym (out-is (ids_of marks) shown id s) ∙ is.0,
+      sym (deleted-is tombs recorded id r) ∙ is.1,
     ))
-    (λ id n. kept-in (is_out shown) synced id n.0 (out-is (ids_of marks) shown id s ∙ n.1))
+    (λ id n. kept-in p synced id n.0
+    (and_from (is_out shown id) (is_deleted recorded id)
+    (out-is (ids_of marks) shown id s ∙ n.1) (deleted-is tombs recorded id r ∙ n.2)))
     (lists-ids _ gone h)
 
 marked : (moment : ℕ) (id : List ℕ) (m : Mark) → m.stamp ≡ moment → m.id ≡ id
@@ -148,19 +171,21 @@ next-old now before next marks m n h c l i s new =
           (omega (arith, e, s, l), subst (λ x. Contains marks x) (marked next.moment n.id m (sym (e ∙ s)) (sym i)) c)))
     ]
 
-pub misses : (first later : Listing) (context : Context) (synced ids : List (List ℕ)) (page next : Page) (m : Mark)
-    → IsPageOf first context synced page → IsPageOf later page.next ids next
+pub misses : (first later : Listing) (tombs later_tombs : Option Listing) (context : Context)
+    (synced ids : List (List ℕ)) (page next : Page) (m : Mark)
+    → IsPageOf first tombs context synced page → IsPageOf later later_tombs page.next ids next
     → Shows later m → first.now ≤ m.stamp → page.next.moment ≤ m.stamp → Contains next.taken m.id
-misses first later context synced ids page next m p q c h k =
+misses first later tombs later_tombs context synced ids page next m p q c h k =
     taken-has page.next (marks_of later.entries) next.taken m q.taken c
     (next-new first.now context page.next (marks_of first.entries) m p.next h k)
 
-pub fetches : (first later : Listing) (context : Context) (synced ids : List (List ℕ)) (page next : Page) (m : Mark)
-    → IsPageOf first context synced page → IsPageOf later page.next ids next
+pub fetches : (first later : Listing) (tombs later_tombs : Option Listing) (context : Context)
+    (synced ids : List (List ℕ)) (page next : Page) (m : Mark)
+    → IsPageOf first tombs context synced page → IsPageOf later later_tombs page.next ids next
     → Shows first m → m.stamp < first.now
     → ((n : Mark) → Shows later n → n.id ≡ m.id → n.stamp ≡ m.stamp)
     → Contains next.taken m.id → ⊥
-fetches first later context synced ids page next m p q c l same taken =
+fetches first later tombs later_tombs context synced ids page next m p q c l same taken =
     let k = made-from id_of q.taken.new m.id (subst (λ ids. Contains ids m.id) q.taken.ids taken) in
     let is = q.taken.lists.only k.x k.stood in
     next-old first.now context page.next (marks_of first.entries) m k.x p.next c l k.is (same k.x is.0 k.is) is.1
@@ -179,10 +204,27 @@ one-next now before marks one other a b =
     (subst (λ x. Lists id_cmp (IsSeenAt now x marks) one.seen) m a.seen) b.seen in
     λ k. record { moment = m k; seen = s k }
 
-pub one-page : (listing : Listing) (context : Context) (synced : List (List ℕ)) (one other : Page)
-    → IsPageOf listing context synced one → IsPageOf listing context synced other → one ≡ other
-one-page listing context synced one other a b =
+pub one-page : (listing : Listing) (tombs : Option Listing) (context : Context)
+    (synced : List (List ℕ)) (one other : Page) → IsPageOf listing tombs context synced one
+    → IsPageOf listing tombs context synced other → one ≡ other
+one-page listing tombs context synced one other a b =
     let t = one-taken context (marks_of listing.entries) one.taken other.taken a.taken b.taken in
     let g = lists-one-ids one.gone other.gone a.gone b.gone in
     let n = one-next listing.now context (marks_of listing.entries) one.next other.next a.next b.next in
     λ k. record { taken = t k; gone = g k; next = n k }
+
+-- ---- what is gone
+
+pub gone-recorded : (listing tombs : Listing) (context : Context) (synced : List (List ℕ))
+    (page : Page) (id : List ℕ) → IsPageOf listing (Some tombs) context synced page → Contains page.gone id
+    → Contains (recorded_in tombs.entries) id
+gone-recorded listing tombs context synced page id p c =
+    (has-contains (recorded_in tombs.entries) id).0 (p.gone.only id c).2
+
+pub gone-unshown : (listing : Listing) (tombs : Option Listing) (context : Context)
+    (synced : List (List ℕ)) (page : Page) (m : Mark) → IsPageOf listing tombs context synced page
+    → Shows listing m → Contains page.gone m.id → ⊥
+gone-unshown listing tombs context synced page m p shows c =
+    let ids = ids_of (marks_of listing.entries) in
+    both_ways (has ids m.id) (not-true (has ids m.id) (p.gone.only m.id c).1)
+    ((has-contains ids m.id).1 (made-in id_of (marks_of listing.entries) m shows))
