@@ -11,8 +11,8 @@ use Rattle.desk.specs.Desks.{DeskNow}
 use Rattle.download.proofs.Forgotten.{does_forgot, gives_up_forgot}
 use Rattle.download.specs.Downloading.{Applies, Downloads, Leaves, is_download, is_listing}
 use Rattle.new_files.specs.Taking.{TakesOne, is_taking}
-use Rattle.download.specs.Reading.{HasListed, Lacks, Lists, PageIn, PageOf, Refuses, shown_at}
-use Rattle.new_files.specs.Asked.{AsksFor, IsPage}
+use Rattle.download.specs.Reading.{HasListed, Lacks, Lists, PageIn, PageOf, Refuses}
+use Rattle.new_files.specs.Asked.{AsksFor}
 use Rattle.jop_base.specs.declared.dir.Dir.TheVariants.{Root}
 use Rattle.jop_target.specs.Replies.{IsReplyTo}
 use Rattle.jop_target.specs.declared.call.Call.{Call}
@@ -21,7 +21,8 @@ use Rattle.jop_target.specs.declared.reply.Listing.{Listing}
 use Rattle.jop_target.specs.declared.reply.Reply.{Reply}
 use Rattle.jop_target.specs.declared.reply.Reply.TheVariants.{Listed, Got, GotBlob, Absent, Done, Failed, TooLarge}
 use Rattle.lease.specs.declared.lease.Lease.{Lease}
-use Rattle.licences.specs.Views.{Shown}
+use Rattle.licences.specs.Pages.{IsPage}
+use Rattle.licences.specs.Views.{Shown, shown_to}
 use Rattle.local_store.specs.declared.change.Change.TheVariants.{ContextIs}
 use Rattle.local_store.specs.declared.tables.Tables.{Tables}
 use Rattle.session_steps.proofs.Ending.{does_as, does_starves, gives_up_behind}
@@ -148,11 +149,12 @@ refuses old new NoMemory h = h
 pub downloads : (old : DeskNow) (before : Lease) (r : SyncReport) (page : Page) (mid : DeskNow)
     (after : Lease) (new : DeskNow) (last : Lease) (s : SyncReport)
     → (h : HasListed old before r page mid after)
-    → Finishes (Applies page) is_download (work_by (Some (shown_at old h.listing)) mid after r)
-    (work_by (Some (shown_at old h.listing)) new last s)
+    → Finishes (Applies page) is_download
+    (work_by (Some (shown_to old.tables h.listing)) mid after r)
+    (work_by (Some (shown_to old.tables h.listing)) new last s)
     → Finishes Downloads is_download (work old before r) (work new last s)
 downloads old before r page mid after new last s h k =
-    let known = Some (shown_at old h.listing) in
+    let known = Some (shown_to old.tables h.listing) in
     let all = Then (Hears (ListDir Root) (Listed h.listing)) (Applies page) in
     does_as all Downloads is_download (work old before r) (work new last s)
     (λ shown ds part.
@@ -164,11 +166,11 @@ downloads old before r page mid after new last s h k =
 pub refuses_behind : (old : DeskNow) (before : Lease) (r : SyncReport) (page : Page)
     (mid : DeskNow) (after : Lease) (new : DeskNow) (last : Lease) (s : SyncReport) (e : StepErr)
     → (h : HasListed old before r page mid after)
-    → GivesUp is_download (work_by (Some (shown_at old h.listing)) mid after r) e
-    (work_by (Some (shown_at old h.listing)) new last s)
+    → GivesUp is_download (work_by (Some (shown_to old.tables h.listing)) mid after r) e
+    (work_by (Some (shown_to old.tables h.listing)) new last s)
     → Refuses (work old before r) e (work new last s)
 refuses_behind old before r page mid after new last s e h k =
-    let known = Some (shown_at old h.listing) in
+    let known = Some (shown_to old.tables h.listing) in
     refuses (work old before r) (work new last s) e
     (gives_up_forgot is_download (work old before r) known new last s e
     (gives_up_behind (Hears (ListDir Root) (Listed h.listing)) is_download (work old before r)

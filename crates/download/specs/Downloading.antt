@@ -1,7 +1,6 @@
 -- What a listing of the target asks for is read: new files are taken, and the rows whose files are gone go.
 use Rattle.std.specs.Prelude.{ℕ, ◌≡◌, List, Bool, true, false, ◌&&◌, ◌||◌, not, Option, Some, None}
 use Rattle.conflicts.specs.Rules.{folder_gone_changes}
-use Rattle.delta.specs.Page.{IsPageOf, fail_safe}
 use Rattle.delta.specs.declared.page.Page.{Page}
 use Rattle.jop_base.specs.declared.dir.Dir.{Dir}
 use Rattle.jop_base.specs.declared.dir.Dir.TheVariants.{Root}
@@ -11,7 +10,8 @@ use Rattle.jop_target.specs.declared.reply.Listing.{Listing}
 use Rattle.jop_target.specs.declared.reply.Reply.TheVariants.{Listed}
 use Rattle.licences.specs.Deeds.{Deed}
 use Rattle.licences.specs.Items.{is_folder}
-use Rattle.licences.specs.Views.{View, synced_ids}
+use Rattle.licences.specs.Pages.{IsPage, emptied_by}
+use Rattle.licences.specs.Views.{View, shown_to}
 use Rattle.local_store.specs.Rows.{item_of}
 use Rattle.local_store.specs.Tables.{row_at}
 use Rattle.local_store.specs.declared.change.Change.TheVariants.{ContextIs, Gone}
@@ -78,6 +78,6 @@ Applies page =
 pub record Downloads (v : View) (ds : List Deed) : Type 0 where
   pub listing : Listing
   pub page : Page
-  pub is : IsPageOf listing v.tables.context (synced_ids v.tables) page
-  pub safe : fail_safe listing (synced_ids v.tables) ≡ None
+  pub is : IsPage (shown_to v.tables listing) page
+  pub safe : emptied_by (shown_to v.tables listing) ≡ None
   pub done : Then (Hears (ListDir Root) (Listed listing)) (Applies page) v ds

@@ -2,7 +2,6 @@
 use Rattle.std.specs.Prelude.{ℕ, ◌≡◌, List, Contains, Some, None, Result, Ok, Err}
 use Rattle.conflicts.specs.declared.error.StepErr.{StepErr}
 use Rattle.conflicts.specs.declared.error.StepErr.TheVariants.{Lost, TargetFault, KeeperFault, FailSafe, NoMemory}
-use Rattle.delta.specs.Page.{IsPageOf, fail_safe}
 use Rattle.delta.specs.declared.page.Page.{Page}
 use Rattle.desk.specs.Desks.{DeskNow}
 use Rattle.jop_base.specs.declared.dir.Dir.TheVariants.{Root}
@@ -12,20 +11,15 @@ use Rattle.jop_target.specs.declared.reply.Reply.{Reply}
 use Rattle.jop_target.specs.declared.reply.Reply.TheVariants.{Listed}
 use Rattle.conflicts.specs.declared.report.SyncReport.{SyncReport}
 use Rattle.lease.specs.declared.lease.Lease.{Lease}
-use Rattle.licences.specs.Views.{Shown, synced_ids}
+use Rattle.licences.specs.Pages.{IsPage, emptied_by}
+use Rattle.licences.specs.Views.{Shown, shown_to}
 use Rattle.local_store.specs.declared.tables.Tables.{Tables}
 use Rattle.session_steps.specs.Doing.{Does, Finishes, GivesUp}
 use Rattle.session_steps.specs.Parts.{Hears}
 use Rattle.session_steps.specs.Work.{WorkNow, work, work_by}
-use Rattle.new_files.specs.Asked.{IsPage}
 use Rattle.download.specs.Downloading.{Downloads, is_download}
 
 -- ---- the page
-
--- what a listing of the root shows to a client at this desk
-abbrev pub shown_at : DeskNow → Listing → Shown
-shown_at d listing =
-    record { listing = listing; context = d.tables.context; synced = synced_ids d.tables }
 
 -- by the page this file is gone
 pub record Lacks (known : Shown) (id : List ℕ) : Type 0 where
@@ -38,8 +32,8 @@ pub record Lacks (known : Shown) (id : List ℕ) : Type 0 where
 -- what a listing asks of a client with these tables, unless it looks as if the target were emptied
 abbrev pub PageIn : Tables → Listing → Result Page StepErr → Type 0
 PageIn t listing (Ok page) =
-    IsPageOf listing t.context (synced_ids t) page × (fail_safe listing (synced_ids t) ≡ None)
-PageIn t listing (Err (FailSafe count)) = fail_safe listing (synced_ids t) ≡ Some count
+    IsPage (shown_to t listing) page × (emptied_by (shown_to t listing) ≡ None)
+PageIn t listing (Err (FailSafe count)) = emptied_by (shown_to t listing) ≡ Some count
 PageIn t listing (Err NoMemory) = Unit {0}
 PageIn t listing (Err e) = ⊥
 
@@ -51,10 +45,10 @@ PageOf t reply result = ⊥
 pub record HasListed (old : DeskNow) (before : Lease) (r : SyncReport) (page : Page) (new : DeskNow)
     (after : Lease) : Type 0 where
   pub listing : Listing
-  pub is : IsPageOf listing old.tables.context (synced_ids old.tables) page
-  pub safe : fail_safe listing (synced_ids old.tables) ≡ None
+  pub is : IsPage (shown_to old.tables listing) page
+  pub safe : emptied_by (shown_to old.tables listing) ≡ None
   pub does : Does (Hears (ListDir Root) (Listed listing)) is_download (work old before r)
-      (work_by (Some (shown_at old listing)) new after r)
+      (work_by (Some (shown_to old.tables listing)) new after r)
 
 -- ---- the whole
 
@@ -62,7 +56,7 @@ pub record HasListed (old : DeskNow) (before : Lease) (r : SyncReport) (page : P
 pub record IsEmptied (old : WorkNow) (count : ℕ) (new : WorkNow) : Type 0 where
   pub listing : Listing
   pub listed : Does (Hears (ListDir Root) (Listed listing)) is_download old new
-  pub rows : fail_safe listing (synced_ids old.desk.tables) ≡ Some count
+  pub rows : emptied_by (shown_to old.desk.tables listing) ≡ Some count
 
 -- why a download gives nothing, by each error
 abbrev pub Refuses : WorkNow → StepErr → WorkNow → Type 0

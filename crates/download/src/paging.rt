@@ -4,12 +4,12 @@ ghost use Rattle.delta.specs.declared.page.Page.{Page as Asked};
 ghost use Rattle.desk.specs.Desks.{IsSameDesk, IsTidy};
 ghost use Rattle.download.specs.Downloading.{Applies, Leaves, is_download};
 ghost use Rattle.download.specs.Reading.{EndsDownload, Lists, PageIn, PageOf};
-ghost use Rattle.new_files.specs.Asked.{IsPage};
 ghost use Rattle.jop_target.specs.declared.reply.Reply.TheVariants.{Listed};
 ghost use Rattle.jop_target.specs.declared.reply.Listing.{Listing as Shows};
 ghost use Rattle.jop_target.specs.declared.call.Call.{Call as Asking};
 ghost use Rattle.lease.specs.Standing.{IsHeld, IsSameBut};
 ghost use Rattle.lease.specs.declared.lease.Lease.{Lease as Held};
+ghost use Rattle.licences.specs.Pages.{IsPage};
 ghost use Rattle.licences.specs.Views.{Finished, Shown, synced_ids};
 ghost use Rattle.local_store.specs.declared.change.Change.TheVariants.{ContextIs};
 ghost use Rattle.session_steps.specs.Doing.{EndsAt};
@@ -46,10 +46,10 @@ fn page_in(alloc: Global, tables: &Tables, listing: &Listing) -> Result<Page, St
     ensures { PageIn tables.now listing.entry.now result }
 {
     let synced = synced_ids(alloc, tables)?;
-    if let Some(count) = fail_safe(listing, &synced) {
+    if let Some(count) = fail_safe(listing, None, &synced) {
         return Err(StepErr::FailSafe(count));
     }
-    let page = delta_of(alloc, listing, &tables.context, &synced)?;
+    let page = delta_of(alloc, listing, None, &tables.context, &synced)?;
     Ok(page)
 }
 

@@ -1,6 +1,5 @@
 -- Why a run ends so: the cause of each status.
 use Rattle.std.specs.Prelude.{ℕ, ◌+◌, ◌<◌, ◌≡◌, ◌⊎◌, List, [], ◌∷◌, ◌++◌, true, false, Option, Some, None, Err}
-use Rattle.delta.specs.Page.{fail_safe}
 use Rattle.exit_status.specs.Statuses.{is_refusal}
 use Rattle.exit_status.specs.declared.status.Status.{Status}
 use Rattle.exit_status.specs.declared.status.Status.TheVariants as statuses
@@ -25,7 +24,8 @@ use Rattle.lease.specs.Standing.{StandsIn}
 use Rattle.lease.specs.declared.error.Seen.{Seen}
 use Rattle.lease.specs.declared.lock.Lock.{Lock}
 use Rattle.licences.specs.Trails.{session_calls}
-use Rattle.licences.specs.Views.{Heard, synced_ids}
+use Rattle.licences.specs.Pages.{emptied_by}
+use Rattle.licences.specs.Views.{Heard, shown_to}
 use Rattle.local_commands.specs.declared.local_command.LocalCommand.{LocalCommand}
 use Rattle.local_commands.specs.declared.local_err.LocalErr.{LocalErr}
 use Rattle.local_commands.specs.declared.local_err.LocalErr.TheVariants.{NotFound, Sealed, TimeEnd, TooLarge, NoConflict, NotEmpty, NotText}
@@ -131,7 +131,7 @@ pub record HasListedNone (keeper : KeeperNow) (count : ℕ) (calls : List Heard)
   pub last : IsLast (ListDir Root) (Listed listing) calls
   pub tables : Tables
   pub told : IsOfKept keeper.kept tables
-  pub rows : fail_safe listing (synced_ids tables) ≡ Some count
+  pub rows : emptied_by (shown_to tables listing) ≡ Some count
 
 -- Something waits that is to be sealed with this key, which isn't known. The tables are those that are
 -- kept, if that is told.

@@ -186,7 +186,7 @@ taken = record {
   ids = refl;
 }
 
-gone : Lists id_cmp (IsGoneOf [] (marks_of listing.entries)) []
+gone : Lists id_cmp (IsGoneOf [] (marks_of listing.entries) None) []
 unfolding IsStrictlySortedBy
 gone = record {
   rising = tt;
@@ -217,7 +217,7 @@ next = record {
   };
 }
 
-page_is : IsPageOf listing at_first [] page
+page_is : IsPageOf listing None at_first [] page
 unfolding page listing at_first
 page_is = record { taken = taken; gone = gone; next = next }
 
@@ -225,7 +225,7 @@ absent : None ≡ Some (written theirs) → ⊥
 absent e = cc
 
 was_shown : Shown
-was_shown = record { listing = listing; context = at_first; synced = [] }
+was_shown = record { listing = listing; tombs = None; context = at_first; synced = [] }
 
 has_page : (v : View) → v.shown ≡ Some was_shown → HasPage v page
 unfolding was_shown

@@ -23,9 +23,11 @@ pub record Heard : Type 0 where
   pub call : Call
   pub reply : Option Reply
 
--- what was listed in the root, how far the client had read the target then, and which items it had a base of
+-- What was listed in the root, and in the folder of deletions where they are recorded; how far the
+-- client had read the target then; and which items it had a base of.
 pub record Shown : Type 0 where
   pub listing : Listing
+  pub tombs : Option Listing
   pub context : Context
   pub synced : List (List ℕ)
 
@@ -72,9 +74,13 @@ is_about_locks call = false
 abbrev pub synced_ids : Tables → List (List ℕ)
 synced_ids t = map row_id (filter (λ (r : Row). is_some r.base) t.rows)
 
+-- what a listing of the root shows to a client with these tables, where no deletions are recorded
+abbrev pub shown_to : Tables → Listing → Shown
+shown_to t listing =
+    record { listing = listing; tombs = None; context = t.context; synced = synced_ids t }
+
 abbrev pub shown_by : View → Option Reply → Option Shown
-shown_by v (Some (Listed listing)) =
-    Some (record { listing = listing; context = v.tables.context; synced = synced_ids v.tables })
+shown_by v (Some (Listed listing)) = Some (shown_to v.tables listing)
 shown_by v reply = None
 
 abbrev pub shown_in : View → Dir → Option Reply → Option Shown

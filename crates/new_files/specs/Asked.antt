@@ -1,12 +1,8 @@
 -- Which files a listing asks for.
 use Rattle.std.specs.Prelude.{ℕ, List, Contains}
-use Rattle.delta.specs.Page.{IsPageOf}
 use Rattle.delta.specs.declared.page.Page.{Page}
+use Rattle.licences.specs.Pages.{IsPage}
 use Rattle.licences.specs.Views.{Shown}
-
--- this is the page of what the session was shown
-abbrev pub IsPage : Shown → Page → Type 0
-IsPage known page = IsPageOf known.listing known.context known.synced page
 
 -- the page asks for this file
 pub record AsksFor (known : Shown) (id : List ℕ) : Type 0 where

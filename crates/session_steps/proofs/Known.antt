@@ -13,7 +13,7 @@ use Rattle.jop_target.specs.declared.reply.Reply.{Reply}
 use Rattle.jop_target.specs.declared.reply.Reply.TheVariants.{Listed}
 use Rattle.lease.specs.declared.lease.Lease.{Lease}
 use Rattle.licences.specs.Deeds.{Deed}
-use Rattle.licences.specs.Views.{Shown, Stage, View, shown_after, synced_ids, view_from}
+use Rattle.licences.specs.Views.{Shown, Stage, View, shown_after, shown_to, view_from}
 use Rattle.session_steps.proofs.Seen.{view_from-but_locks}
 use Rattle.session_steps.specs.Doing.{Does, DoesTo, GivesUp, IsTold, Starves, Stops, Went}
 use Rattle.session_steps.specs.Parts.{Hears, but_locks}
@@ -133,19 +133,11 @@ does_known {there} {left} call reply sort known old new before after r s nothing
     (λ shown fits. subst (λ (x : Option Shown). Fits known x)
     (sym (nothing (view_of shown old) (Some reply))) fits) h
 
--- what a listing of the root shows
-abbrev pub shown_at : DeskNow → Listing → Shown
-shown_at d listing = record {
-  listing = listing;
-  context = d.tables.context;
-  synced = synced_ids d.tables;
-}
-
 pub does_listed : (listing : Listing) (sort : Call → Bool) (old new : DeskNow)
     (before after : Lease) (r s : SyncReport)
     → Does (Hears (ListDir Root) (Listed listing)) sort (work old before r) (work new after s)
     → Does (Hears (ListDir Root) (Listed listing)) sort (work old before r)
-    (work_by (Some (shown_at old listing)) new after s)
+    (work_by (Some (shown_to old.tables listing)) new after s)
 does_listed listing sort old new before after r s h =
-    does_knowing _ [] (ListDir Root) (Listed listing) sort None (Some (shown_at old listing)) old
-    new before after r s (λ shown fits. refl) h
+    does_knowing _ [] (ListDir Root) (Listed listing) sort None
+    (Some (shown_to old.tables listing)) old new before after r s (λ shown fits. refl) h

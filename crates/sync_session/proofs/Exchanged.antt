@@ -4,7 +4,6 @@ use Rattle.std.proofs.Common.{sym, ◌∙◌, ap, subst}
 use Rattle.std.proofs.lemmas.Bool.{or_left, or_right}
 use Rattle.conflicts.specs.declared.error.StepErr.{StepErr}
 use Rattle.conflicts.specs.declared.error.StepErr.TheVariants.{Lost, TargetFault, KeeperFault, FailSafe, NoMemory}
-use Rattle.delta.specs.Page.{fail_safe}
 use Rattle.download.specs.Downloading.{Downloads, is_download}
 use Rattle.download.specs.Reading.{IsEmptied, Refuses}
 use Rattle.jop_base.specs.declared.dir.Dir.TheVariants.{Root}
@@ -14,7 +13,8 @@ use Rattle.jop_target.specs.declared.reply.Reply.{Reply}
 use Rattle.jop_target.specs.declared.reply.Reply.TheVariants.{Listed}
 use Rattle.licences.proofs.Told.{tables-view_from}
 use Rattle.licences.specs.Deeds.{Asks, Deed}
-use Rattle.licences.specs.Views.{View, synced_ids, view_from}
+use Rattle.licences.specs.Pages.{emptied_by}
+use Rattle.licences.specs.Views.{View, shown_to, view_from}
 use Rattle.local_store.specs.declared.tables.Tables.{Tables}
 use Rattle.session_steps.proofs.Ending.{gives_up_behind}
 use Rattle.session_steps.proofs.Joins.{does_then}
@@ -89,7 +89,7 @@ emptied_behind a b c count h k =
       listing = k.listing;
       listed =
           does_then (Sends a.desk.keeper.kept) (Hears call reply) is_exchange a b c h wide;
-      rows = subst (λ (t : Tables). fail_safe k.listing (synced_ids t) ≡ Some count)
+      rows = subst (λ (t : Tables). emptied_by (shown_to t k.listing) ≡ Some count)
           (sym (tables_heard call reply is_exchange b c wide)) k.rows;
     }
 

@@ -2,7 +2,6 @@
 use Rattle.std.specs.Prelude.{ℕ, ◌≡◌, ◌<◌, List, [], Bool, true, ◌||◌, Option, Some, Result, Ok, Err}
 use Rattle.conflicts.specs.declared.error.StepErr.{StepErr}
 use Rattle.conflicts.specs.declared.error.StepErr.TheVariants as step_errors
-use Rattle.delta.specs.Page.{fail_safe}
 use Rattle.desk.specs.Desks.{DeskNow}
 use Rattle.download.specs.Downloading.{Downloads, is_download}
 use Rattle.jop_base.specs.declared.dir.Dir.TheVariants.{Root}
@@ -12,7 +11,8 @@ use Rattle.jop_target.specs.declared.reply.Listing.{Listing}
 use Rattle.jop_target.specs.declared.reply.Reply.TheVariants.{Listed}
 use Rattle.lease.specs.Calls.{Fails}
 use Rattle.lease.specs.declared.error.Seen.{Seen}
-use Rattle.licences.specs.Views.{synced_ids}
+use Rattle.licences.specs.Pages.{emptied_by}
+use Rattle.licences.specs.Views.{shown_to}
 use Rattle.table_keeper.specs.Keepers.{Kept}
 use Rattle.opening.specs.Opening.{Opens, ReadsBadInfo, ReadsVersion, is_opening}
 use Rattle.session_steps.specs.Agreeing.{AgreeBut}
@@ -58,7 +58,7 @@ pub record IsEmptiedBehind (sort : Call → Bool) (Before : Listing → Part) (o
     (new : WorkNow) : Type 0 where
   pub listing : Listing
   pub listed : Does (Before listing) sort old new
-  pub rows : fail_safe listing (synced_ids new.desk.tables) ≡ Some count
+  pub rows : emptied_by (shown_to new.desk.tables listing) ≡ Some count
 
 -- What was saved and removed here is settled: each row that waits still has a file that this
 -- session saw and couldn't read, and no deletion is left.
