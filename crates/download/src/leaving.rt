@@ -15,17 +15,10 @@ ghost use Rattle.session_steps.specs.Work.{work_by};
 
 use conflicts::{StepErr, SyncReport, folder_gone_changes};
 use desk::Desk;
-use item_kinds::Kind;
 use jop_base::Id;
-use local_store::{Change, Row, Tables, has_kind};
+use local_store::{Change, Row, Tables, is_folder};
 use session_steps::{make_each, make_shown};
 use std::alloc::Global;
-
-fn is_folder(row: &Row) -> bool
-    ensures { result ≡ is_folder (item_of row.now.content) }
-{
-    has_kind(row.content.item(), Kind::FOLDER)
-}
 
 /// Whether the row of this id doesn't wait, and is no folder.
 fn is_leaf(tables: &Tables, id: &Id) -> bool

@@ -16,7 +16,7 @@ mod store_err;
 mod tag;
 
 pub use book::new_book;
-pub use edit::edited;
+pub use edit::{edited, plain_note};
 pub use free::free_id;
 pub use lookup::has_row;
 pub use note::new_note;

@@ -1,6 +1,7 @@
 ghost use Rattle.std.specs.Prelude.{◌≡◌};
-ghost use Rattle.local_store.specs.Rows.{has_kind};
+ghost use Rattle.local_store.specs.Rows.{has_kind, item_of};
 
+use crate::row::Row;
 use item_kinds::{Kind, kind_of};
 use item_text::Item;
 
@@ -12,4 +13,11 @@ pub fn has_kind(item: &Item, kind: Kind) -> bool
         Some(own) => own.0 == kind.0,
         None => false,
     }
+}
+
+/// Whether the row is a folder, sealed or not.
+pub fn is_folder(row: &Row) -> bool
+    ensures { result ≡ has_kind Kind.FOLDER (item_of row.now.content) }
+{
+    has_kind(row.content.item(), Kind::FOLDER)
 }

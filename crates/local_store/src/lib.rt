@@ -22,7 +22,7 @@ pub use changes::Changes;
 pub use conflict_note::ConflictNote;
 pub use content::Content;
 pub use deletion::Deletion;
-pub use kinds::has_kind;
+pub use kinds::{has_kind, is_folder};
 pub use laws::{
     allowed_changes_keep_sound, runs_make_their_changes, told_tables_are_sound,
     told_tables_follow_changes,

@@ -13,8 +13,7 @@ ghost use Rattle.upload.specs.Uploading.{Clears, ClearsIf};
 
 use conflicts::{StepErr, SyncReport, folder_gone_changes};
 use desk::Desk;
-use item_kinds::Kind;
-use local_store::{Row, has_kind};
+use local_store::{Row, is_folder};
 use session_steps::make_each;
 use std::alloc::Global;
 
@@ -42,12 +41,6 @@ fn move_notes<S: Desk>(
     let moves = folder_gone_changes(alloc, site.tables(), &row.id)?;
     make_each(alloc, site, report, moves.as_slice())?;
     Ok(())
-}
-
-fn is_folder(row: &Row) -> bool
-    ensures { result ≡ is_folder (item_of row.now.content) }
-{
-    has_kind(row.content.item(), Kind::FOLDER)
 }
 
 /// Moves the notes out of a row whose file is gone, if it is a folder.

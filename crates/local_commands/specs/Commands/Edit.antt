@@ -1,6 +1,5 @@
 -- `edit`: another title and body for a note.
 use Rattle.std.specs.Prelude.{ℕ, ◌≡◌, List, [], true, nat_eq, if◌then◌else◌, Option, Some, None, Result, Ok, Err}
-use Rattle.std.specs.Borrow.{Bor}
 use Rattle.item_kinds.specs.Kinds.{IsUpdated}
 use Rattle.item_text.specs.declared.item.Item.{Item}
 use Rattle.jop_base.specs.Times.{last_time}
@@ -44,11 +43,7 @@ edit_plan id title = record {
 
 -- ---- its parts
 
--- the readable note is lent, or the refusal stands for this one
-abbrev pub IsNote : Result Item StoreErr → Result (Bor Item) LocalErr → Type 0
-IsNote due (Ok item) = due ≡ Ok item.now
-IsNote due (Err e) = (refusal : StoreErr) × (due ≡ Err refusal) × (store_refusal refusal ≡ e)
-
+-- the note may be edited, or this refusal is the cause why not
 abbrev pub AllowsNote : List ℕ → Result Item StoreErr → Result (Unit {0}) LocalErr → Type 0
 AllowsNote id note (Ok done) = ChecksNote id note None
 AllowsNote id note (Err e) = ChecksNote id note (Some e)

@@ -3,7 +3,7 @@ ghost use Rattle.item_kinds.specs.Made.{IsLine};
 ghost use Rattle.local_changes.specs.Editing.{plain_note};
 ghost use Rattle.local_store.specs.Tables.{row_at};
 ghost use Rattle.local_commands.specs.Bodies.{body_limit};
-ghost use Rattle.local_commands.specs.Commands.Edit.{AllowsNote, IsNote, edit_plan};
+ghost use Rattle.local_commands.specs.Commands.Edit.{AllowsNote, edit_plan};
 ghost use Rattle.local_commands.specs.Keeping.{AreKept, notes};
 ghost use Rattle.local_commands.specs.Refusals.{said};
 ghost use Rattle.local_commands.specs.Running.{Around, Runs};
@@ -13,13 +13,12 @@ use crate::body::{BODY_LIMIT, BodyErr, take_body};
 use crate::keeping::commit;
 use crate::local_err::LocalErr;
 use crate::stamp::read_clock;
-use item_kinds::{Kind, updated_of};
-use item_text::Item;
+use item_kinds::updated_of;
 use jop_base::{Id, MAX_TIME, Text};
 use jop_outside::{Clock, Source};
 use jop_target::Diary;
-use local_changes::{StoreErr, edited};
-use local_store::{Changes, Content, Tables, has_kind};
+use local_changes::{StoreErr, edited, plain_note};
+use local_store::{Changes, Tables};
 use std::alloc::Global;
 use table_keeper::{Keeper, KeeperErr};
 
@@ -76,17 +75,4 @@ fn check_note(tables: &Tables, id: &Id) -> Result<(), LocalErr>
         return Err(LocalErr::TimeEnd(*id));
     }
     Ok(())
-}
-
-/// The note of an id, which must be readable.
-fn plain_note<'a>(tables: &'a Tables, id: &Id) -> Result<&'a Item, LocalErr>
-    ensures { IsNote (plain_note id.now (row_at tables.now id.now)) result }
-{
-    match tables.rows.at(id) {
-        Some(row) if has_kind(row.content.item(), Kind::NOTE) => match &row.content {
-            Content::Plain(item) => Ok(item),
-            Content::Sealed(_) => Err(LocalErr::Sealed(*id)),
-        },
-        _ => Err(LocalErr::NotFound(*id)),
-    }
 }
