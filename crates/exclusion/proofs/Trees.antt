@@ -5,6 +5,7 @@ use Rattle.std.specs.Prelude.{All}
 use Rattle.std.proofs.lemmas.Bool.{false≢true, eqb-true}
 use Rattle.std.proofs.lemmas.List.Elements.{All-nil, All-cons}
 use Rattle.std.proofs.lemmas.Option.{same_Some}
+use Rattle.jop_base.proofs.Folders.{apart}
 use Rattle.jop_base.specs.declared.path.Path.{Path}
 use Rattle.jop_base.specs.declared.path.Path.TheVariants.{Info as InfoFile, OldVersion, Item, Blob, Lock as LockFile, Temp as TempFile}
 use Rattle.jop_target.specs.History.{is_guarded_call}
@@ -21,7 +22,7 @@ use Rattle.sync_info.specs.Read.{info_in}
 use Rattle.sync_info.specs.declared.info.Info.{Info}
 use Rattle.target_upgrade.specs.Course.{is_info_at, is_known, is_version, keeps_version, version_in}
 use Rattle.upgrade_laws.specs.Target.{info_by, info_of, info_within, version_of}
-use Rattle.upgrade_laws.proofs.Files.{differs, heads_apart, seconds_apart, info_no_item, old_no_item, lock_apart, is_version_file}
+use Rattle.upgrade_laws.proofs.Files.{differs, info_no_item, old_no_item, is_version_file}
 use Rattle.exclusion.specs.Learnt.{Learnt, nothing, with_info, learnt_of_info, learnt_of_old, learnt_by}
 
 -- ---- what a session has read is so
@@ -55,23 +56,15 @@ so_same t u l h so = record {
 
 apart_from_info : (p : Path) → is_version_file p ≡ false → is_same p InfoFile ≡ false
 apart_from_info (Item id) v = info_no_item.right id
-apart_from_info (Blob id) v =
-    differs (Blob id) InfoFile (heads_apart 46 105 _ _ (λ h. omega (arith, h)))
-apart_from_info (LockFile name) v = lock_apart name InfoFile refl
-apart_from_info (TempFile id) v =
-    differs (TempFile id) InfoFile (heads_apart 116 105 _ _ (λ h. omega (arith, h)))
 apart_from_info InfoFile v = cc
 apart_from_info OldVersion v = cc
+apart_from_info p v = differs p InfoFile (apart p InfoFile cc)
 
 apart_from_old : (p : Path) → is_version_file p ≡ false → is_same p OldVersion ≡ false
 apart_from_old (Item id) v = old_no_item.right id
-apart_from_old (Blob id) v =
-    differs (Blob id) OldVersion (seconds_apart 46 46 114 115 _ _ (λ h. omega (arith, h)))
-apart_from_old (LockFile name) v = lock_apart name OldVersion refl
-apart_from_old (TempFile id) v =
-    differs (TempFile id) OldVersion (heads_apart 116 46 _ _ (λ h. omega (arith, h)))
 apart_from_old InfoFile v = cc
 apart_from_old OldVersion v = cc
+apart_from_old p v = differs p OldVersion (apart p OldVersion cc)
 
 -- whether a call puts and deletes neither of the two
 abbrev is_apart : Call → Bool
@@ -147,18 +140,8 @@ keeps_at : (t : Tree) (m : ℕ) (version : ℕ) (call : Call) →
     version_of (tree_after t m call) ≡ Some version
 keeps_at t m v (Put InfoFile content) h is = put_info t m v content h
 keeps_at t m v (Put OldVersion content) h is = cc
-keeps_at t m v (Put (Item id) content) h is = apart_at t m v (Put (Item id) content) refl is
-keeps_at t m v (Put (Blob id) content) h is = apart_at t m v (Put (Blob id) content) refl is
-keeps_at t m v (Put (LockFile name) content) h is =
-    apart_at t m v (Put (LockFile name) content) refl is
-keeps_at t m v (Put (TempFile id) content) h is =
-    apart_at t m v (Put (TempFile id) content) refl is
 keeps_at t m v (Delete InfoFile) h is = cc
 keeps_at t m v (Delete OldVersion) h is = cc
-keeps_at t m v (Delete (Item id)) h is = apart_at t m v (Delete (Item id)) refl is
-keeps_at t m v (Delete (Blob id)) h is = apart_at t m v (Delete (Blob id)) refl is
-keeps_at t m v (Delete (LockFile name)) h is = apart_at t m v (Delete (LockFile name)) refl is
-keeps_at t m v (Delete (TempFile id)) h is = apart_at t m v (Delete (TempFile id)) refl is
 keeps_at t m v call h is = apart_at t m v call refl is
 
 -- a version at which some client may work is told by `info.json` alone
