@@ -14,6 +14,8 @@ mod contents;
 #[cfg(test)]
 mod folder;
 #[cfg(test)]
+mod jobs;
+#[cfg(test)]
 mod lists;
 #[cfg(test)]
 mod names;

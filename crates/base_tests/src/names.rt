@@ -51,25 +51,27 @@ fn lock() -> Result<LockName, Fail> {
 }
 
 /// A file of each kind, in their order.
-fn files_of(id: Id, lock: LockName) -> [Path; 6] {
+fn files_of(id: Id, lock: LockName) -> [Path; 7] {
     [
         Path::Blob(id),
         Path::OldVersion,
         Path::Item(id),
+        Path::Tomb(id),
         Path::Info,
         Path::Lock(lock),
         Path::Temp(id),
     ]
 }
 
-fn files() -> Result<[Path; 6], Fail> {
+fn files() -> Result<[Path; 7], Fail> {
     Ok(files_of(id(ONES)?, lock()?))
 }
 
-const TEXTS: [&str; 6] = [
+const TEXTS: [&str; 7] = [
     ".resource/11111111111111111111111111111111",
     ".sync/version.txt",
     "11111111111111111111111111111111.md",
+    "deleted/11111111111111111111111111111111",
     "info.json",
     "locks/2_3_11111111111111111111111111111111.json",
     "temp/11111111111111111111111111111111.tmp",
@@ -93,6 +95,37 @@ fn each_file_is_read_back(rt: HostRuntime) -> Result<(), Fail> {
         assert_eq!(rt; Path::read(path.dir(), name.as_slice()), Some(*path));
     }
     Ok(())
+}
+
+#[test]
+fn each_file_is_read_from_its_text(rt: HostRuntime) -> Result<(), Fail> {
+    for (path, text) in files()?.iter().zip(TEXTS) {
+        assert_eq!(rt; Path::of_text(text.as_bytes()), Some(*path));
+    }
+    Ok(())
+}
+
+const OTHER_TEXTS: [&str; 5] = [
+    "",
+    "deleted",
+    "deleted/1",
+    "/info.json",
+    "locks/11111111111111111111111111111111.md",
+];
+
+#[test]
+fn other_texts_are_no_files(rt: HostRuntime) {
+    for text in OTHER_TEXTS {
+        assert!(rt; Path::of_text(text.as_bytes()).is_none());
+    }
+}
+
+#[test]
+fn each_folder_is_found_by_what_stands_before_its_files(rt: HostRuntime) {
+    for dir in Dir::ALL {
+        assert_eq!(rt; Dir::of_prefix(dir.prefix().as_bytes()), Some(dir));
+    }
+    assert!(rt; Dir::of_prefix(b"locks").is_none());
 }
 
 #[test]
@@ -124,6 +157,23 @@ fn files_are_in_order(rt: HostRuntime) -> Result<(), Fail> {
     let id = id(ONES)?;
     assert!(rt; are_in_order(&files()?));
     assert!(rt; are_in_order(&[Path::Item(id), Path::Item(id.after())]));
+    Ok(())
+}
+
+/// An item whose id begins as the name of the folder of deletions does, the record of one, and an item behind both.
+fn around_a_record() -> Result<[Path; 3], Fail> {
+    let before = id(b"deffffffffffffffffffffffffffffff")?;
+    let behind = id(b"df000000000000000000000000000000")?;
+    Ok([
+        Path::Item(before),
+        Path::Tomb(id(ONES)?),
+        Path::Item(behind),
+    ])
+}
+
+#[test]
+fn a_record_of_a_deletion_stands_among_the_items(rt: HostRuntime) -> Result<(), Fail> {
+    assert!(rt; are_in_order(&around_a_record()?));
     Ok(())
 }
 

@@ -1,4 +1,4 @@
-use jop_base::{Bytes, Copied, Text, is_time};
+use jop_base::{Bytes, Copied, Text, are_decimal_digits, decimal_text, is_time, read_decimal};
 use jop_outside::Faults;
 use std::alloc::{AllocError, Global};
 use std::test::Fail;
@@ -69,5 +69,31 @@ fn times_and_faults_are_counted(rt: HostRuntime) -> Result<(), Fail> {
     assert_eq!(rt; faults.count(), 1);
     assert!(rt; is_time(253_402_300_799_999));
     assert!(rt; !is_time(253_402_300_800_000));
+    Ok(())
+}
+
+const DECIMALS: [(&str, Option<u64>); 6] = [
+    ("0", Some(0)),
+    ("007", Some(7)),
+    ("18446744073709551615", Some(u64::MAX)),
+    ("18446744073709551616", None),
+    ("", None),
+    ("+1", None),
+];
+
+#[test]
+fn decimal_digits_are_read(rt: HostRuntime) {
+    for (text, number) in DECIMALS {
+        assert_eq!(rt; read_decimal(text.as_bytes()), number);
+    }
+    assert!(rt; are_decimal_digits(b"007"));
+}
+
+#[test]
+fn a_number_is_written_in_decimal(rt: HostRuntime) -> Result<(), Fail> {
+    assert_eq!(rt;
+        decimal_text(rt.alloc(), u64::MAX)?.as_str(),
+        "18446744073709551615"
+    );
     Ok(())
 }
