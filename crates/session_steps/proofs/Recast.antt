@@ -21,7 +21,7 @@ use Rattle.session_steps.specs.Findings.{IsSoundFinding}
 use Rattle.session_steps.specs.Parts.{Hears, Part, but_locks}
 use Rattle.session_steps.specs.Saving.{Told}
 use Rattle.session_steps.specs.Sessions.{Fetches, Finds, HasHeard, HearsOr, LoadsOr}
-use Rattle.session_steps.specs.Work.{Fits, WorkNow, WorkPlace, knowing, placed, view_of}
+use Rattle.session_steps.specs.Work.{Fits, WorkNow, WorkPlace, knowing, nowhere, placed, view_of}
 use Rattle.session_steps.specs.declared.finding.Finding.{Finding}
 
 -- the same session, if it was shown this, by these references
@@ -130,6 +130,12 @@ pub ends_placed : {R : Type 0} (P : Part) (sort : Call → Bool) (p q : WorkPlac
     → Ends P sort (placed p a) result (placed q b)
 ends_placed P sort p q a b (Ok value) stays h = does_placed P sort p q a b stays h
 ends_placed P sort p q a b (Err e) stays h = gives_up_placed sort p q a b e stays h
+
+-- so a function that has the desk, the lease and the report says it of them
+pub ends_nowhere : {R : Type 0} (P : Part) (sort : Call → Bool) (a b : WorkNow)
+    (result : Result R StepErr) → Ends P sort a result b
+    → Ends P sort (placed nowhere a) result (placed nowhere b)
+ends_nowhere P sort a b result h = ends_placed P sort nowhere nowhere a b result refl h
 
 pub ends_at_placed : {R : Type 0} (there : Stage) (P : Part) (sort : Call → Bool)
     (p q : WorkPlace) (a b : WorkNow) (result : Result R StepErr) → q ≡ p

@@ -1,6 +1,7 @@
 -- The steps by which a session does all that it does.
 use Rattle.std.specs.Prelude.{ℕ, ◌≡◌, List, Bool, true, false, Option, Some, Result, Ok, Err}
 use Rattle.conflicts.specs.declared.error.StepErr.{StepErr}
+use Rattle.desk.specs.Desks.{DeskNow}
 use Rattle.jop_base.specs.declared.dir.Dir.{Dir}
 use Rattle.jop_base.specs.declared.dir.Dir.TheVariants.{Root}
 use Rattle.jop_base.specs.declared.path.Path.{Path}
@@ -10,7 +11,9 @@ use Rattle.jop_target.specs.declared.call.Call.{Call}
 use Rattle.jop_target.specs.declared.call.Call.TheVariants.{List as ListDir, Get, Put, Delete, GetBlob}
 use Rattle.jop_target.specs.declared.reply.Reply.{Reply}
 use Rattle.jop_target.specs.declared.reply.Reply.TheVariants.{GotBlob}
+use Rattle.licences.specs.Checks.{last_on}
 use Rattle.licences.specs.Licences.{MayCall}
+use Rattle.licences.specs.Trails.{session_calls}
 use Rattle.licences.specs.Views.{Shown}
 use Rattle.local_store.specs.Tables.{base_of, row_at}
 use Rattle.session_steps.specs.Asking.{IsAnswer}
@@ -78,6 +81,13 @@ Finds id finding v ds =
     (reply : Reply) × IsAnswer (Get (Item id)) reply
     × (finding ≡ finding_of id (base_of (row_at v.tables id)) reply)
     × IsSoundFinding id finding × Hears (Get (Item id)) reply v ds
+
+-- the session's last call on the item's file got this, which is this to the row of its id
+pub record IsFound (id : List ℕ) (finding : Finding) (d : DeskNow) : Type 0 where
+  pub reply : Reply
+  pub found : finding ≡ finding_of id (base_of (row_at d.tables id)) reply
+  pub last : last_on id (session_calls d.line.trail)
+      ≡ Some (record { call = Get (Item id); reply = Some reply })
 
 -- the reply gave the bytes of a resource
 abbrev pub gave_bytes : Reply → Bool

@@ -1,4 +1,4 @@
-ghost use Rattle.std.specs.Prelude.{◌≡◌, ◌×◌, All, Bool, List, None, Option, Some, length, true};
+ghost use Rattle.std.specs.Prelude.{◌≡◌, All, Bool, List, None, Option, Some, length, true};
 ghost use Rattle.desk.specs.Desks.{IsSameDesk};
 ghost use Rattle.jop_target.specs.Trail.{EndsWith};
 ghost use Rattle.jop_target.specs.declared.call.Call.{Call};
