@@ -29,17 +29,3 @@ pub record IsFound (row : Row) (finding : Finding) (d : DeskNow) : Type 0 where
   pub at : row_at d.tables row.id ≡ Some row
   pub pending : row.pending ≡ true
   pub last : last_on row.id (session_calls d.line.trail) ≡ Some (got row reply)
-
--- the file was got, which is a part of the session, and is this to the row
-pub record HasChecked (row : Row) (old new : WorkNow) (finding : Finding) : Type 0 where
-  pub reply : Reply
-  pub answer : IsAnswer (Get (Item row.id)) reply
-  pub found : finding ≡ finding_of row.id row.base reply
-  pub calls : session_calls new.desk.line.trail
-      ≡ got row reply ∷ session_calls old.desk.line.trail
-  pub does : Does (Hears (Get (Item row.id)) reply) is_upload old new
-
--- each answer, by its cause
-abbrev pub Checks : Row → WorkNow → Result Finding StepErr → WorkNow → Type 0
-Checks row old (Ok finding) new = HasChecked row old new finding
-Checks row old (Err e) new = GivesUp is_upload old e new

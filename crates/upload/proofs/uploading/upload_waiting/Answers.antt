@@ -4,11 +4,11 @@ use Rattle.std.proofs.lemmas.Result.{err_from_is_err_and}
 use Rattle.local_store.specs.declared.tables.Tables.{Tables}
 use Rattle.session_steps.proofs.Ending.{does_nothing, does_starves}
 use Rattle.session_steps.specs.Work.{work}
-use Rattle.upload.proofs.Left.{all_of_them, left_first}
+use Rattle.upload.proofs.Left.{ends_all, left_first}
 use Rattle.upload.specs.Conditions.{CanPut}
 use Rattle.upload.specs.Settled.{AreLeft}
 use Rattle.upload.specs.Uploading.{is_upload, pending_ids}
-use Rattle.upload.proofs.uploading.upload_all.Goals as goal
+use Rattle.upload.proofs.uploading.upload_waiting.Goals as goal
 
 pub returns-in_err-ids-clause-ends : goal.returns-in_err-ids-clause-ends
 returns-in_err-ids-clause-ends g c =
@@ -17,22 +17,21 @@ returns-in_err-ids-clause-ends g c =
 
 pub upload_each-requires-clause-readable : goal.upload_each-requires-clause-readable
 upload_each-requires-clause-readable g c =
-    subst (λ (ids : List (List ℕ)). CanPut (g.S.Desk.desk c.args.site.now).tables ids)
+    subst (λ (ids : List (List ℕ)). CanPut (g.W.Session.now c.args.s.now).desk.tables ids)
     (sym (c.as_slice.ensures ∙ (c.in_ok-ids.ensures
     ∙ ap (λ (t : Tables). pending_ids t) c.tables.ensures)))
     c.requires.readable
 
 pub upload_each-requires-clause-left : goal.upload_each-requires-clause-left
 upload_each-requires-clause-left g c =
-    subst (λ (ids : List (List ℕ)). AreLeft (g.S.Desk.desk c.args.site.now) ids)
+    subst (λ (ids : List (List ℕ)). AreLeft (g.W.Session.now c.args.s.now).desk ids)
     (sym (c.as_slice.ensures ∙ (c.in_ok-ids.ensures
     ∙ ap (λ (t : Tables). pending_ids t) c.tables.ensures)))
-    (left_first (g.S.Desk.desk c.args.site.now))
+    (left_first (g.W.Session.now c.args.s.now).desk)
 
 pub returns-clause-ends : goal.returns-clause-ends
 returns-clause-ends g c =
-    all_of_them c.as_slice.result.now
-    (work (g.S.Desk.desk c.args.site.now) c.args.lease.now c.args.report.now) _
+    ends_all c.as_slice.result.now (g.W.Session.now c.args.s.now) _ c.upload_each.result
     (c.as_slice.ensures ∙ (c.in_ok-ids.ensures
     ∙ ap (λ (t : Tables). pending_ids t) c.tables.ensures))
-    c.in_ok-upload_each.ensures.uploads
+    c.upload_each.ensures.ends
