@@ -1,5 +1,5 @@
 -- What deletes come to.
-use Rattle.std.specs.Prelude.{ℕ, ◌≡◌, List, [], ◌∷◌, Bool, true, false, if◌then◌else◌, Option, Some, Result, Ok, Err, OnOk, refl}
+use Rattle.std.specs.Prelude.{◌≡◌, List, [], ◌∷◌, Bool, true, false, if◌then◌else◌, Option, Some, Result, Ok, Err, OnOk, refl}
 use Rattle.std.proofs.Common.{sym, ap, subst, ◌∙◌, inl, inr}
 use Rattle.conflicts.specs.declared.error.StepErr.{StepErr}
 use Rattle.desk.specs.Desks.{DeskNow}
@@ -17,7 +17,6 @@ use Rattle.licences.specs.Deletions.{IsDeleted, MayDrop, WasDeleted}
 use Rattle.licences.specs.Views.{Heard, Shown, View, Working, is_about_locks, view_from}
 use Rattle.local_store.specs.Rows.{deletion_id}
 use Rattle.local_store.specs.Tables.{deletion_at}
-use Rattle.local_store.specs.declared.change.Change.TheVariants.{Dropped}
 use Rattle.local_store.specs.declared.deletion.Deletion.{Deletion}
 use Rattle.local_store.specs.declared.tables.Tables.{Tables}
 use Rattle.session_steps.proofs.Behind.{behind}

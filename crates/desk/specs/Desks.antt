@@ -1,6 +1,5 @@
 -- A client at work: its target and what it did, its tables, its keeper, and the changes that it has made.
 use Rattle.std.specs.Prelude.{ℕ, ◌≡◌, ◌⊎◌, List, [], ◌∷◌, ◌++◌, length, option_map, Result, Ok, Err}
-use Rattle.jop_outside.specs.Outside.{HasRisen}
 use Rattle.jop_target.specs.Trail.{LineNow}
 use Rattle.jop_target.specs.declared.event.Event.TheVariants.{Made}
 use Rattle.local_store.specs.Changing.{after}

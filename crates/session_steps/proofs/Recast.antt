@@ -1,5 +1,5 @@
 -- A part of a session, by other references, or when something else is known of what it was shown.
-use Rattle.std.specs.Prelude.{ℕ, ◌≡◌, List, [], Bool, Option, Some, None, Result, Ok, Err, refl}
+use Rattle.std.specs.Prelude.{ℕ, ◌≡◌, List, Bool, Option, Some, None, Result, Ok, Err, refl}
 use Rattle.std.proofs.Common.{sym, ap, subst, ◌∙◌}
 use Rattle.conflicts.specs.declared.error.StepErr.{StepErr}
 use Rattle.conflicts.specs.declared.error.StepErr.TheVariants.{Lost, TargetFault, KeeperFault, FailSafe, NoMemory}
@@ -13,14 +13,13 @@ use Rattle.jop_target.specs.declared.reply.Reply.{Reply}
 use Rattle.jop_target.specs.declared.reply.Reply.TheVariants.{Listed}
 use Rattle.licences.specs.Deeds.{Deed}
 use Rattle.licences.specs.Views.{Shown, Stage, View, view_from}
-use Rattle.session_steps.proofs.Behind.{place_behind, place_given_up}
+use Rattle.session_steps.proofs.Behind.{place_given_up}
 use Rattle.session_steps.proofs.Known.{ShowsNothing, shown_at}
 use Rattle.session_steps.proofs.Seen.{view_from-but_locks}
-use Rattle.session_steps.specs.Doing.{Does, DoesTo, Ends, EndsAt, EndsIn, GivesUp, IsTold, Starves, Stops, Went}
-use Rattle.session_steps.specs.Findings.{IsSoundFinding}
+use Rattle.session_steps.specs.Doing.{Does, DoesTo, Ends, EndsAt, EndsIn, GivesUp, IsTold, Stops, Went}
 use Rattle.session_steps.specs.Parts.{Hears, Part, but_locks}
 use Rattle.session_steps.specs.Saving.{Told}
-use Rattle.session_steps.specs.Sessions.{Fetches, Finds, HasHeard, HearsOr, LoadsOr}
+use Rattle.session_steps.specs.Sessions.{Fetches, Finds, HearsOr, LoadsOr}
 use Rattle.session_steps.specs.Work.{Fits, WorkNow, WorkPlace, knowing, nowhere, placed, view_of}
 use Rattle.session_steps.specs.declared.finding.Finding.{Finding}
 

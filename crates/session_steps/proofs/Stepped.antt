@@ -23,7 +23,7 @@ use Rattle.session_steps.proofs.Found.{bad_is_unreadable}
 use Rattle.session_steps.proofs.Paid.{ends_saved}
 use Rattle.session_steps.specs.Agreeing.{IsKeptFor}
 use Rattle.session_steps.specs.Asking.{AreBytesOf, Asks, IsAnswered, IsHeardBy}
-use Rattle.session_steps.specs.Doing.{Does, DoesTo, Ends, GivesUp, Starves}
+use Rattle.session_steps.specs.Doing.{Does, DoesTo, Ends, Starves}
 use Rattle.session_steps.specs.Findings.{IsSoundFinding, finding_of, is_unreadable}
 use Rattle.session_steps.specs.Kept.{Saves}
 use Rattle.session_steps.specs.Parts.{Hears}

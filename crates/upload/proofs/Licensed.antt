@@ -1,6 +1,6 @@
 -- Which licences a row has by what was found in its file.
-use Rattle.std.specs.Prelude.{ℕ, ◌≡◌, List, ◌∷◌, Bool, true, false, bytes_eq, is_none, if◌then◌else◌, Option, Some, None, Result, refl}
-use Rattle.std.proofs.Common.{sym, ap, subst, ◌∙◌}
+use Rattle.std.specs.Prelude.{ℕ, ◌≡◌, List, Bool, true, false, bytes_eq, is_none, if◌then◌else◌, Option, Some, None, Result, refl}
+use Rattle.std.proofs.Common.{ap, subst, ◌∙◌}
 use Rattle.std.proofs.lemmas.Bool.{and_parts}
 use Rattle.conflicts.specs.declared.error.StepErr.{StepErr}
 use Rattle.desk.specs.Desks.{DeskNow}
@@ -35,14 +35,14 @@ use Rattle.session_steps.proofs.Found.{base_found, other_found}
 use Rattle.session_steps.specs.Asking.{IsAnswer}
 use Rattle.session_steps.specs.Doing.{Does, Ends}
 use Rattle.session_steps.specs.Findings.{finding_of}
-use Rattle.session_steps.specs.Parts.{Hears, Nothing}
+use Rattle.session_steps.specs.Parts.{Hears}
 use Rattle.session_steps.specs.Sessions.{Finds}
 use Rattle.session_steps.specs.Work.{IsReady, WorkNow, view_of}
 use Rattle.session_steps.specs.declared.finding.Finding.{Finding}
 use Rattle.session_steps.specs.declared.finding.Finding.TheVariants.{Same, Other}
 use Rattle.table_keeper.specs.declared.blob.Blob.{Blob}
 use Rattle.upload.specs.Found.{IsFound}
-use Rattle.upload.specs.Uploading.{PutsIfNew, PutsKept, PutsText, PutsThese, is_new_resource, is_upload}
+use Rattle.upload.specs.Uploading.{PutsIfNew, PutsKept, PutsText, is_new_resource, is_upload}
 
 -- ---- what was found
 

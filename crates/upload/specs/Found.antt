@@ -1,6 +1,5 @@
 -- A row that waits, and what its file is to it.
-use Rattle.std.specs.Prelude.{◌≡◌, ◌∷◌, true, Some, Result, Ok, Err}
-use Rattle.conflicts.specs.declared.error.StepErr.{StepErr}
+use Rattle.std.specs.Prelude.{◌≡◌, true, Some}
 use Rattle.desk.specs.Desks.{DeskNow}
 use Rattle.jop_base.specs.declared.path.Path.TheVariants.{Item}
 use Rattle.jop_target.specs.declared.call.Call.TheVariants.{Get}
@@ -10,13 +9,8 @@ use Rattle.licences.specs.Trails.{session_calls}
 use Rattle.licences.specs.Views.{Heard}
 use Rattle.local_store.specs.Tables.{row_at}
 use Rattle.local_store.specs.declared.row.Row.{Row}
-use Rattle.session_steps.specs.Asking.{IsAnswer}
-use Rattle.session_steps.specs.Doing.{Does, GivesUp}
 use Rattle.session_steps.specs.Findings.{finding_of}
-use Rattle.session_steps.specs.Parts.{Hears}
-use Rattle.session_steps.specs.Work.{WorkNow}
 use Rattle.session_steps.specs.declared.finding.Finding.{Finding}
-use Rattle.upload.specs.Uploading.{is_upload}
 
 -- a get of the row's file
 abbrev pub got : Row → Reply → Heard

@@ -6,7 +6,6 @@ use Rattle.item_text.specs.Valid.{IsItem}
 use Rattle.item_text.specs.declared.item.Item.{Item}
 use Rattle.jop_base.specs.declared.path.Path.TheVariants as paths
 use Rattle.jop_target.specs.declared.call.Call.TheVariants.{Put}
-use Rattle.session_steps.proofs.Behind.{hears_as}
 use Rattle.session_steps.proofs.Ending.{does_as, does_nothing, does_starves}
 use Rattle.session_steps.specs.Doing.{Does}
 use Rattle.session_steps.specs.Parts.{Hears}

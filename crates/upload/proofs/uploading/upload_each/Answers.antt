@@ -4,11 +4,9 @@ use Rattle.std.proofs.lemmas.List.{drop_all}
 use Rattle.std.proofs.lemmas.Result.{err_from_is_err_and}
 use Rattle.table_keeper.specs.declared.blob.Blob.{Blob}
 use Rattle.session_steps.proofs.Ending.{does_nothing, gives_up_behind}
-use Rattle.session_steps.proofs.Joins.{same_but}
 use Rattle.session_steps.proofs.Repeating.{does_all, does_here, here_and_left}
 use Rattle.session_steps.specs.Doing.{Does}
 use Rattle.session_steps.specs.Parts.{ForEach}
-use Rattle.session_steps.specs.Work.{work}
 use Rattle.sync_info.specs.declared.info.Info.{Info}
 use Rattle.upload.proofs.Left.{can_put, left_on, same_blobs, settled, tended, unput_on}
 use Rattle.upload.specs.Settled.{AreLeft}

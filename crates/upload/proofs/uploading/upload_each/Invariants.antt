@@ -1,8 +1,6 @@
 use Rattle.std.proofs.Common.{◌≡◌, take, drop}
-use Rattle.lease.specs.Standing.{IsSameBut}
 use Rattle.session_steps.specs.Doing.{Does}
 use Rattle.session_steps.specs.Parts.{ForEach}
-use Rattle.session_steps.specs.Work.{IsReady, work}
 use Rattle.upload.specs.Conditions.{AreUnput}
 use Rattle.upload.specs.Settled.{AreLeft}
 use Rattle.upload.specs.Uploading.{UploadsOne, blobs_of, is_upload}

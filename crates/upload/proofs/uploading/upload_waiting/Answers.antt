@@ -3,7 +3,6 @@ use Rattle.std.proofs.Common.{◌∙◌, ap, subst, sym}
 use Rattle.std.proofs.lemmas.Result.{err_from_is_err_and}
 use Rattle.local_store.specs.declared.tables.Tables.{Tables}
 use Rattle.session_steps.proofs.Ending.{does_nothing, does_starves}
-use Rattle.session_steps.specs.Work.{work}
 use Rattle.upload.proofs.Left.{ends_all, left_first}
 use Rattle.upload.specs.Conditions.{CanPut}
 use Rattle.upload.specs.Settled.{AreLeft}

@@ -1,4 +1,4 @@
-use Rattle.std.specs.Prelude.{length, true, ◌≡◌, ℕ, refl}
+use Rattle.std.specs.Prelude.{true, ◌≡◌, ℕ, refl}
 use Rattle.std.proofs.Common.{subst, sym}
 use Rattle.jop_target.specs.declared.call.Call.TheVariants.{PutBlob}
 use Rattle.session_steps.proofs.Recast.{at_desk, hears_placed, still_at}
