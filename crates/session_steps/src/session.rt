@@ -88,7 +88,8 @@ pub trait Session {
     fn make(&mut self, alloc: Global, change: Change) -> Result<(), StepErr>
         requires ready { IsAtWork (now self.old) }
         requires allowed { IsAllowed change }
-        requires may { (shown : Option Shown) → MayChange (view_of shown (now self.old).desk) change }
+        requires may { (shown : Option Shown)
+            → MayChange (view_of shown (now self.old).desk) change }
         requires more { stage_after Working change ≡ Working }
 
         ensures ends { (sort : Call → Bool)
