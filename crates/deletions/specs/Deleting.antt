@@ -9,13 +9,9 @@ use Rattle.licences.specs.Deletions.{IsDeleted}
 use Rattle.local_store.specs.declared.change.Change.TheVariants.{Dropped}
 use Rattle.local_store.specs.declared.deletion.Deletion.{Deletion}
 use Rattle.session_steps.specs.Parts.{Changes, ForEach, Hears, Nothing, Part, Then}
+use Rattle.session_steps.specs.Sessions.{is_data}
 
 -- a delete of an item or of the bytes of a resource
-abbrev pub is_data : Path → Bool
-is_data (Item id) = true
-is_data (Blob id) = true
-is_data path = false
-
 abbrev pub is_deletion : Call → Bool
 is_deletion (Delete path) = is_data path
 is_deletion call = false

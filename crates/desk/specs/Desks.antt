@@ -1,6 +1,5 @@
 -- A client at work: its target and what it did, its tables, its keeper, and the changes that it has made.
-use Rattle.std.specs.Prelude.{◌≡◌, ◌⊎◌, List, [], ◌∷◌, ◌++◌, length, option_map, Result, Ok, Err}
-use Rattle.jop_outside.specs.Outside.{HasRisen}
+use Rattle.std.specs.Prelude.{ℕ, ◌≡◌, ◌⊎◌, List, [], ◌∷◌, ◌++◌, length, option_map, Result, Ok, Err}
 use Rattle.jop_target.specs.Trail.{LineNow}
 use Rattle.jop_target.specs.declared.event.Event.TheVariants.{Made}
 use Rattle.local_store.specs.Changing.{after}
@@ -27,6 +26,14 @@ pub record IsSameDesk (old new : DeskNow) : Type 0 where
 pub record IsTidy (d : DeskNow) : Type 0 where
   pub sound : IsSound d.tables
   pub told : IsOfKept d.keeper.kept d.tables
+
+-- the references by which a client is at work, by their names
+pub record Place : Type 0 where
+  pub target : ℕ
+  pub keeper : ℕ
+  pub tables : ℕ
+  pub diary : ℕ
+  pub made : ℕ
 
 -- ---- changes
 

@@ -1,5 +1,5 @@
 ghost use Rattle.std.specs.Prelude.{◌≡◌, IfOk, OnOk, OnErr, option_map};
-ghost use Rattle.desk.specs.Desks.{Commits, DeskNow, IsSameDesk, IsTidy, IsUnmade};
+ghost use Rattle.desk.specs.Desks.{Commits, DeskNow, IsSameDesk, IsTidy, IsUnmade, Place};
 ghost use Rattle.table_keeper.specs.Keepers.{HasCause, IsBlobOfKept, with_blob};
 ghost use Rattle.local_store.specs.Sound.{IsAllowed};
 
@@ -13,6 +13,9 @@ use table_keeper::KeeperErr;
 pub trait Desk: Line {
     /// What is known of it.
     ghost desk: { Self → DeskNow };
+
+    /// The references by which it is at work.
+    ghost place: { Self → Place };
 
     /// It is still at work on the same things.
     ghost stays: { Self → Self → Type 0 };
@@ -52,6 +55,10 @@ pub trait Desk: Line {
     ghost keeps_desk: { (a b : Self) → Self.keeps a b → IsSameDesk (desk a) (desk b) };
 
     ghost keeps_stays: { (a b : Self) → Self.keeps a b → stays a b };
+
+    ghost stays_place: { (a b : Self) → stays a b → place b ≡ place a };
+
+    ghost place_stays: { (a b : Self) → place b ≡ place a → stays a b };
 
     ghost stays_same: { (a : Self) → stays a a };
 

@@ -62,6 +62,14 @@ impl<'a, T: Target, K: Keeper> Desk for Site<'a, T, K> {
       made = s.made.now.changes;
     } };
 
+    ghost place = { λ s. record {
+      target = s.target.ghost_name;
+      keeper = s.keeper.ghost_name;
+      tables = s.tables.ghost_name;
+      diary = s.diary.ghost_name;
+      made = s.made.ghost_name;
+    } };
+
     ghost stays = { λ a b.
         (b.target.ghost_name ≡ a.target.ghost_name)
         × (b.keeper.ghost_name ≡ a.keeper.ghost_name)
@@ -79,6 +87,22 @@ impl<'a, T: Target, K: Keeper> Desk for Site<'a, T, K> {
 
     ghost keeps_stays = { λ a b h.
         (h.3, ap (λ k. k.ghost_name) h.1, ap (λ t. t.ghost_name) h.0, h.4, ap (λ m. m.ghost_name) h.2) };
+
+    ghost stays_place = { λ a b h. λ i. record {
+      target = h.0 i;
+      keeper = h.1 i;
+      tables = h.2 i;
+      diary = h.3 i;
+      made = h.4 i;
+    } };
+
+    ghost place_stays = { λ a b h. (
+      ap (λ p. p.target) h,
+      ap (λ p. p.keeper) h,
+      ap (λ p. p.tables) h,
+      ap (λ p. p.diary) h,
+      ap (λ p. p.made) h,
+    ) };
 
     ghost stays_same = { λ a. (refl, refl, refl, refl, refl) };
 

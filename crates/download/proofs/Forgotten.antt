@@ -29,6 +29,7 @@ went_forgot sort a known d l r w = record {
   sorted = w.sorted;
   later = w.later;
   same = w.same;
+  place = w.place;
 }
 
 told_forgot : (a : WorkNow) (known : Option Shown) (d : DeskNow) (l : Lease) (r : SyncReport)

@@ -126,6 +126,7 @@ went_made known sort old new lease r s change made later allowed may held =
       sorted = refl;
       later = later;
       same = refl;
+      place = refl;
     }
 
 pub does_made : (known : Option Shown) (sort : Call → Bool) (old new : DeskNow) (lease : Lease)
@@ -185,6 +186,7 @@ went_nowhere sort old new lease r s h later held =
       sorted = refl;
       later = later;
       same = refl;
+      place = refl;
     }
 
 pub tidy_unmade : (old new : DeskNow) → IsUnmade old new → IsTidy old → IsTidy new

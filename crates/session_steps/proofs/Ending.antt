@@ -154,6 +154,7 @@ does_nothing sort a ready = record {
     sorted = refl;
     later = omega arith;
     same = refl;
+    place = refl;
   };
   told = record { tidy = ready.tidy; tables = refl; report = λ shown. refl };
   part = λ shown. refl;
@@ -183,6 +184,7 @@ went_report sort a d l r s h = record {
   sorted = h.sorted;
   later = h.later;
   same = h.same;
+  place = h.place;
 }
 
 pub starves_report : (sort : Call → Bool) (a : WorkNow) (d : DeskNow) (l : Lease)

@@ -158,6 +158,7 @@ went_on P sort a b c h k =
           of_a k.sorted)));
       later = omega (arith, h.went.later, k.later);
       same = same_but a.lease b.lease c.lease h.went.same k.same;
+      place = k.place ∙ h.went.place;
     }
 
 -- and its tables and report are those of both

@@ -39,6 +39,7 @@ went_known sort known then old new before after r s w = record {
   sorted = w.sorted;
   later = w.later;
   same = w.same;
+  place = w.place;
 }
 
 told_known : (known then : Option Shown) (old new : DeskNow) (before after : Lease)

@@ -138,6 +138,7 @@ went_by sort old new mid before after r s last same but h locks l =
           l.sorted));
       later = let e = ap (λ (k : KeeperNow). k.faults) same.keeper in omega (arith, e);
       same = but;
+      place = refl;
     }
 
 -- ---- what is told

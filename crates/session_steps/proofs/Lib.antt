@@ -15,3 +15,6 @@ pub mod Wider
 pub mod Turns
 pub mod Folders
 pub mod Found
+pub mod Behind
+pub mod Recast
+pub mod Stepped

@@ -82,6 +82,7 @@ went_paid sort known a mid new lease r id bytes len w owes is h = record {
   sorted = w.sorted;
   later = let e = h.well in omega (arith, w.later, e);
   same = w.same;
+  place = w.place;
 }
 
 pub does_paid : (P : Part) (sort : Call → Bool) (known : Option Shown) (a : WorkNow)
@@ -130,6 +131,7 @@ went_unpaid sort known a mid new lease r w h later = record {
   sorted = w.sorted;
   later = omega (arith, w.later, later);
   same = w.same;
+  place = w.place;
 }
 
 fails_unpaid : (P : Part) (sort : Call → Bool) (known : Option Shown) (left : List Told)

@@ -92,6 +92,7 @@ went_within sort wide a b within h = record {
   sorted = works_within sort wide a.lease.client _ _ within h.sorted;
   later = h.later;
   same = h.same;
+  place = h.place;
 }
 
 pub does_within : {there : Stage} {left : List Told} {P : Part} (sort wide : Call → Bool)

@@ -29,7 +29,8 @@ use Rattle.session_steps.specs.Work.{Fits, IsReady, WorkNow, view_of}
 -- A session has gone on by these deeds: calls and changes, each with its licence. Its work is of
 -- this sort, and else only its lease calls. The changes are kept, if the keeper tells, and the
 -- bytes of resources that were saved: those that were got, in that order, but for the last ones,
--- which are still owed.
+-- which are still owed. It works
+-- by the same references.
 pub record Went (sort : Call → Bool) (old new : WorkNow) : Type 0 where
   pub deeds : List Deed
   pub saves : List Blob
@@ -50,6 +51,7 @@ pub record Went (sort : Call → Bool) (old new : WorkNow) : Type 0 where
       (events_of (length old.desk.made) deeds) ≡ true
   pub later : old.desk.keeper.faults ≤ new.desk.keeper.faults
   pub same : IsSameBut old.lease new.lease
+  pub place : new.place ≡ old.place
 
 -- its tables are those after the changes, and its report says what was done
 pub record IsTold (old new : WorkNow) (deeds : List Deed) : Type 0 where
@@ -127,3 +129,9 @@ abbrev pub Ends : {R : Type 0} → Part → (Call → Bool) → WorkNow → Resu
     Type 0
 Ends P sort old (Ok value) new = Does P sort old new
 Ends P sort old (Err e) new = GivesUp sort old e new
+
+-- the same of a part that hands something on, of which the part tells
+abbrev pub EndsIn : {R : Type 0} → (R → Part) → (Call → Bool) → WorkNow → Result R StepErr →
+    WorkNow → Type 0
+EndsIn P sort old (Ok value) new = Does (P value) sort old new
+EndsIn P sort old (Err e) new = GivesUp sort old e new

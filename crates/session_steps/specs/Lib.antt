@@ -9,3 +9,4 @@ pub mod Agreeing
 pub mod Making
 pub mod Doing
 pub mod Asking
+pub mod Sessions

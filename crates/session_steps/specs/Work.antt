@@ -1,23 +1,48 @@
 -- A session at work.
-use Rattle.std.specs.Prelude.{◌≡◌, Option, Some, None}
+use Rattle.std.specs.Prelude.{ℕ, ◌≡◌, Option, Some, None}
 use Rattle.conflicts.specs.declared.report.SyncReport.{SyncReport}
-use Rattle.desk.specs.Desks.{DeskNow, IsTidy}
+use Rattle.desk.specs.Desks.{DeskNow, IsTidy, Place}
 use Rattle.lease.specs.Standing.{IsHeld}
 use Rattle.lease.specs.declared.lease.Lease.{Lease}
 use Rattle.licences.specs.Trails.{session_calls}
 use Rattle.licences.specs.Views.{Shown, View, Working}
 
--- the client at its desk, the lease under which it works, what it has done so far, and what its
--- session was shown, if that matters
+-- the references by which it works, by their names: those of its desk, and its own to the desk, the lease and the report
+pub record WorkPlace : Type 0 where
+  pub desk : Place
+  pub site : ℕ
+  pub lease : ℕ
+  pub report : ℕ
+
+-- whatever the references are
+abbrev pub nowhere : WorkPlace
+nowhere = record {
+  desk = record { target = 0; keeper = 0; tables = 0; diary = 0; made = 0 };
+  site = 0;
+  lease = 0;
+  report = 0;
+}
+
+-- the client at its desk, the lease under which it works, what it has done so far, what its session was shown, if that
+-- matters, and the references by which it works
 pub record WorkNow : Type 0 where
   pub desk : DeskNow
   pub lease : Lease
   pub report : SyncReport
   pub known : Option Shown
+  pub place : WorkPlace
 
 abbrev pub work_by : Option Shown → DeskNow → Lease → SyncReport → WorkNow
 work_by known desk lease report =
-    record { desk = desk; lease = lease; report = report; known = known }
+    record { desk = desk; lease = lease; report = report; known = known; place = nowhere }
+
+-- if its session was shown this
+abbrev pub knowing : Option Shown → WorkNow → WorkNow
+knowing known w = record w { known = known }
+
+-- the same, by these references
+abbrev pub placed : WorkPlace → WorkNow → WorkNow
+placed place w = record w { place = place }
 
 -- whatever it was shown
 abbrev pub work : DeskNow → Lease → SyncReport → WorkNow
@@ -41,3 +66,7 @@ view_of shown d = record {
   shown = shown;
   stage = Working;
 }
+
+-- it holds its lease, and its tables are in order
+abbrev pub IsAtWork : WorkNow → Type 0
+IsAtWork w = IsReady w.desk w.lease

@@ -1,7 +1,8 @@
 -- A folder whose file was found to be gone, and what its clearing comes to.
-use Rattle.std.specs.Prelude.{ℕ, ◌≡◌, List, filter, Bool, true, false, Option, None, refl}
+use Rattle.std.specs.Prelude.{ℕ, ◌≡◌, List, filter, Bool, true, false, Option, None, Result, OnOk, Ok, Err, refl}
 use Rattle.std.proofs.Common.{ap, subst, ◌∙◌, inr}
 use Rattle.conflicts.specs.Rules.{folder_gone_changes}
+use Rattle.conflicts.specs.declared.error.StepErr.{StepErr}
 use Rattle.desk.specs.Desks.{DeskNow}
 use Rattle.jop_base.specs.Keyed.{IsSorted}
 use Rattle.jop_target.specs.declared.call.Call.{Call}
@@ -17,9 +18,10 @@ use Rattle.local_store.specs.Tables.{row_at}
 use Rattle.local_store.specs.declared.change.Change.{Change}
 use Rattle.local_store.specs.declared.row.Row.{Row}
 use Rattle.local_store.specs.declared.tables.Tables.{Tables}
-use Rattle.session_steps.proofs.Ending.{does_as, does_nothing}
+use Rattle.session_steps.proofs.Behind.{calls_each, tables_each}
+use Rattle.session_steps.proofs.Ending.{does_nothing, ends_as}
 use Rattle.session_steps.proofs.Folders.{IsGoing, goes_on}
-use Rattle.session_steps.specs.Doing.{Does}
+use Rattle.session_steps.specs.Doing.{Does, Ends}
 use Rattle.session_steps.specs.Parts.{Changes, ForEach}
 use Rattle.session_steps.specs.Work.{IsReady, WorkNow, view_of}
 use Rattle.session_steps.specs.declared.finding.Finding.TheVariants.{Missing}
@@ -68,12 +70,22 @@ found_still row a b changes h is ordered are tables calls =
       last = ap (last_on row.id) calls ∙ h.last;
     }
 
+pub found_behind_moves : (row : Row) (changes : List Change) (sort : Call → Bool) (a b : WorkNow)
+    (result : Result (Unit {0}) StepErr) → IsFound row Missing a.desk
+    → is_folder (item_of row.content) ≡ true → IsSorted row_id a.desk.tables.rows
+    → changes ≡ folder_gone_changes a.desk.tables row.id
+    → Ends (ForEach Changes changes) sort a result b → OnOk result (IsFound row Missing b.desk)
+found_behind_moves row changes sort a b (Ok done) h is ordered are k =
+    found_still row a.desk b.desk changes h is ordered are (tables_each changes sort a b k)
+    (calls_each changes sort a b k)
+found_behind_moves row changes sort a b (Err e) h is ordered are k = tt
+
 -- all moves are the clearing of the folder
 pub clears_if : (folder : List ℕ) (changes : List Change) (sort : Call → Bool) (a b : WorkNow)
-    → changes ≡ folder_gone_changes a.desk.tables folder
-    → Does (ForEach Changes changes) sort a b → Does (ClearsIf folder true) sort a b
-clears_if folder changes sort a b are h =
-    does_as (ForEach Changes changes) (ClearsIf folder true) sort a b
+    (result : Result (Unit {0}) StepErr) → changes ≡ folder_gone_changes a.desk.tables folder
+    → Ends (ForEach Changes changes) sort a result b → Ends (ClearsIf folder true) sort a result b
+clears_if folder changes sort a b result are h =
+    ends_as (ForEach Changes changes) (ClearsIf folder true) sort a b result
     (λ shown deeds. subst (λ (cs : List Change).
     ForEach Changes cs (view_of shown a.desk) deeds) are)
     h
@@ -84,7 +96,8 @@ pub clears_nothing : (folder : List ℕ) (is : Bool) (sort : Call → Bool) (a :
 clears_nothing folder true sort a e ready = absurd cc
 clears_nothing folder false sort a e ready = does_nothing sort a ready
 
-pub clears_all : (folder : List ℕ) (is : Bool) (sort : Call → Bool) (a b : WorkNow)
-    → is ≡ true → Does (ClearsIf folder true) sort a b → Does (ClearsIf folder is) sort a b
-clears_all folder true sort a b e h = h
-clears_all folder false sort a b e h = absurd cc
+pub ends_all : (folder : List ℕ) (is : Bool) (sort : Call → Bool) (a b : WorkNow)
+    (result : Result (Unit {0}) StepErr) → is ≡ true → Ends (ClearsIf folder true) sort a result b
+    → Ends (ClearsIf folder is) sort a result b
+ends_all folder true sort a b result e h = h
+ends_all folder false sort a b result e h = absurd cc

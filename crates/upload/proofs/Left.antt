@@ -1,7 +1,8 @@
 -- What is left of an upload: each row that waits is still to be looked at, or its file can't be read.
-use Rattle.std.specs.Prelude.{ℕ, ◌<◌, ◌≡◌, ◌⊎◌, List, [], ◌∷◌, length, map, filter, Bool, true, false, ◌&&◌, bytes_eq, is_none, if◌then◌else◌, Option, Some, None, option_map, refl}
+use Rattle.std.specs.Prelude.{ℕ, ◌<◌, ◌≡◌, ◌⊎◌, List, [], ◌∷◌, length, map, filter, Bool, true, false, ◌&&◌, bytes_eq, is_none, if◌then◌else◌, Option, Some, None, option_map, Result, refl}
 use Rattle.std.proofs.Common.{sym, ap, subst, ◌∙◌, arith, inl, inr}
 use Rattle.std.proofs.lemmas.Bool.{or_cases, or_left, or_right}
+use Rattle.conflicts.specs.declared.error.StepErr.{StepErr}
 use Rattle.delta.specs.Order.{has}
 use Rattle.desk.specs.Desks.{DeskNow}
 use Rattle.jop_base.proofs.KeyedLaws.{bytes_eq-refl, same_text}
@@ -19,11 +20,11 @@ use Rattle.table_keeper.specs.declared.blob.Blob.{Blob}
 use Rattle.local_store.specs.declared.change.Change.{Change}
 use Rattle.local_store.specs.declared.row.Row.{Row}
 use Rattle.local_store.specs.declared.tables.Tables.{Tables}
-use Rattle.session_steps.proofs.Ending.{does_as}
+use Rattle.session_steps.proofs.Ending.{ends_as}
 use Rattle.session_steps.proofs.Joins.{view_at}
 use Rattle.session_steps.proofs.Saves.{GetsNone, saves_none}
 use Rattle.session_steps.proofs.Seen.{view_from-but_locks}
-use Rattle.session_steps.specs.Doing.{Does}
+use Rattle.session_steps.specs.Doing.{Does, Ends}
 use Rattle.session_steps.specs.Saving.{kept_after, saved_all}
 use Rattle.session_steps.specs.Parts.{ForEach, Part, but_locks}
 use Rattle.session_steps.specs.Work.{WorkNow, view_of}
@@ -179,11 +180,12 @@ can_put t ids i within (inr none) =
     let e : length ids ≡ 0 = ap (λ (xs : List (List ℕ)). length xs) none in
     absurd (omega (arith, e))
 
-pub all_of_them : (ids : List (List ℕ)) (a b : WorkNow) → ids ≡ pending_ids a.desk.tables
-    → Does (ForEach (UploadsOne (blobs_of a.desk.keeper.kept)) ids) is_upload a b
-    → Does (Uploads a.desk.keeper.kept) is_upload a b
-all_of_them ids a b is h =
+pub ends_all : (ids : List (List ℕ)) (a b : WorkNow) (result : Result (Unit {0}) StepErr)
+    → ids ≡ pending_ids a.desk.tables
+    → Ends (ForEach (UploadsOne (blobs_of a.desk.keeper.kept)) ids) is_upload a result b
+    → Ends (Uploads a.desk.keeper.kept) is_upload a result b
+ends_all ids a b result is h =
     let P = UploadsOne (blobs_of a.desk.keeper.kept) in
-    does_as (ForEach P ids) (Uploads a.desk.keeper.kept) is_upload a b
+    ends_as (ForEach P ids) (Uploads a.desk.keeper.kept) is_upload a b result
     (λ shown deeds. subst (λ (xs : List (List ℕ)). ForEach P xs (view_of shown a.desk) deeds) is)
     h

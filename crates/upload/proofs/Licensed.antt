@@ -1,87 +1,48 @@
 -- Which licences a row has by what was found in its file.
-use Rattle.std.specs.Prelude.{ℕ, ◌≡◌, List, Bool, true, false, bytes_eq, is_none, if◌then◌else◌, Option, Some, None, refl}
-use Rattle.std.proofs.Common.{sym, ap, subst, ◌∙◌}
+use Rattle.std.specs.Prelude.{ℕ, ◌≡◌, List, Bool, true, false, bytes_eq, is_none, if◌then◌else◌, Option, Some, None, Result, refl}
+use Rattle.std.proofs.Common.{ap, subst, ◌∙◌}
 use Rattle.std.proofs.lemmas.Bool.{and_parts}
-use Rattle.conflicts.specs.Reports.{with_bad}
-use Rattle.conflicts.specs.declared.report.SyncReport.{SyncReport}
+use Rattle.conflicts.specs.declared.error.StepErr.{StepErr}
 use Rattle.desk.specs.Desks.{DeskNow}
 use Rattle.item_text.specs.Grammar.{written}
 use Rattle.item_text.specs.Valid.{IsItem}
 use Rattle.jop_base.proofs.KeyedLaws.{All-at, bytes_eq-refl}
+use Rattle.jop_base.specs.declared.path.Path.{Path}
 use Rattle.jop_base.specs.declared.path.Path.TheVariants.{Item}
-use Rattle.jop_target.specs.declared.call.Call.TheVariants.{Get, Put}
+use Rattle.jop_target.specs.Replies.{IsReplyTo}
+use Rattle.jop_target.specs.declared.call.Call.{Call}
+use Rattle.jop_target.specs.declared.call.Call.TheVariants.{Put}
 use Rattle.jop_target.specs.declared.reply.Reply.{Reply}
-use Rattle.lease.specs.declared.lease.Lease.{Lease}
+use Rattle.jop_target.specs.declared.reply.Reply.TheVariants.{Listed, Got, GotBlob, Absent, Done, Failed, TooLarge}
 use Rattle.licences.specs.Checks.{last_on}
 use Rattle.licences.specs.Conflicts.{MayConflict}
 use Rattle.licences.specs.Copies.{copies_for}
+use Rattle.licences.specs.Deeds.{Deed}
 use Rattle.licences.specs.Items.{is_resource}
 use Rattle.licences.specs.Puts.{MayPut, MayPutBlob, MayUpload, has_put}
 use Rattle.licences.specs.Trails.{session_calls}
-use Rattle.licences.specs.Views.{Heard, Shown}
+use Rattle.licences.specs.Views.{Heard, Shown, View, view_from}
 use Rattle.local_store.specs.Rows.{item_of, row_id}
 use Rattle.local_store.specs.Sound.{IsContentOf, IsSound, IsSoundRow}
 use Rattle.local_store.specs.Tables.{base_of, row_at}
-use Rattle.table_keeper.specs.declared.blob.Blob.{Blob}
 use Rattle.local_store.specs.declared.content.Content.{Content}
 use Rattle.local_store.specs.declared.content.Content.TheVariants.{Plain, Sealed}
 use Rattle.local_store.specs.declared.row.Row.{Row}
 use Rattle.local_store.specs.declared.tables.Tables.{Tables}
-use Rattle.session_steps.proofs.Ending.{does_as, does_nothing, does_starves, starves_report}
-use Rattle.session_steps.specs.Asking.{IsAnswered, IsHeardBy}
-use Rattle.session_steps.specs.Doing.{Does, Starves}
-use Rattle.session_steps.specs.Findings.{finding_of, is_unreadable}
+use Rattle.session_steps.proofs.Behind.{behind, found_behind}
+use Rattle.session_steps.proofs.Ending.{does_nothing}
+use Rattle.session_steps.proofs.Found.{base_found, other_found}
+use Rattle.session_steps.specs.Asking.{IsAnswer}
+use Rattle.session_steps.specs.Doing.{Does, Ends}
+use Rattle.session_steps.specs.Findings.{finding_of}
 use Rattle.session_steps.specs.Parts.{Hears}
-use Rattle.session_steps.specs.Reported.{after_call, is_bad}
-use Rattle.session_steps.specs.Work.{IsReady, WorkNow, view_of, work}
+use Rattle.session_steps.specs.Sessions.{Finds}
+use Rattle.session_steps.specs.Work.{IsReady, WorkNow, view_of}
 use Rattle.session_steps.specs.declared.finding.Finding.{Finding}
 use Rattle.session_steps.specs.declared.finding.Finding.TheVariants.{Same, Other}
-use Rattle.session_steps.proofs.Found.{bad_is_unreadable, base_found, other_found}
-use Rattle.upload.proofs.Loaded.{put_done}
-use Rattle.upload.specs.Found.{HasChecked, IsFound}
+use Rattle.table_keeper.specs.declared.blob.Blob.{Blob}
+use Rattle.upload.specs.Found.{IsFound}
 use Rattle.upload.specs.Uploading.{PutsIfNew, PutsKept, PutsText, is_new_resource, is_upload}
-
--- ---- the check
-
--- what can't be read is noted
-noted : (row : Row) (old : DeskNow) (r s : SyncReport) (finding : Finding) (reply : Reply)
-    (same : is_bad row.id row.base reply ≡ is_unreadable (finding_of row.id row.base reply))
-    → row_at old.tables row.id ≡ Some row → finding ≡ finding_of row.id row.base reply
-    → s ≡ (if is_unreadable finding then with_bad r row.id else r)
-    → (shown : Option Shown)
-    → s ≡ after_call (view_of shown old) r (Get (Item row.id)) (Some reply)
-noted row old r s finding reply same at found is shown =
-    let bad : is_bad row.id (base_of (row_at old.tables row.id)) reply ≡ is_unreadable finding =
-    ap (λ (o : Option Row). is_bad row.id (base_of o) reply) at
-    ∙ (same ∙ ap is_unreadable (sym found)) in
-    is ∙ ap (λ (b : Bool). if b then with_bad r row.id else r) (sym bad)
-
-pub checked : (row : Row) (old new : DeskNow) (before after : Lease) (r s : SyncReport)
-    (finding : Finding)
-    → (a : IsAnswered (Get (Item row.id)) old new)
-    → IsHeardBy is_upload (Get (Item row.id)) old before new after
-    → row_at old.tables row.id ≡ Some row → finding ≡ finding_of row.id row.base a.reply
-    → s ≡ (if is_unreadable finding then with_bad r row.id else r)
-    → HasChecked row (work old before r) (work new after s) finding
-checked row old new before after r s finding a heard at found is = record {
-  reply = a.reply;
-  answer = (a.shape, a.heard);
-  found = found;
-  calls = a.calls;
-  does = heard a.reply r s a.ends
-      (noted row old r s finding a.reply
-      (bad_is_unreadable row.id row.base a.reply a.shape a.heard) at found is);
-}
-
--- memory ran out once the file was got, whatever the report says of it
-pub starves_got : (id : List ℕ) (old new : DeskNow) (before after : Lease) (r s : SyncReport)
-    → IsAnswered (Get (Item id)) old new
-    → IsHeardBy is_upload (Get (Item id)) old before new after
-    → Starves is_upload (work old before r) (work new after s)
-starves_got id old new before after r s a heard =
-    let q = after_call (view_of None old) r (Get (Item id)) (Some a.reply) in
-    starves_report is_upload (work old before r) new after q s
-    (does_starves (heard a.reply r q a.ends (λ shown. refl)))
 
 -- ---- what was found
 
@@ -97,34 +58,31 @@ still_found row finding a b tables last h = record {
   last = last ∙ h.last;
 }
 
-last_here : (id : List ℕ) (h : Heard) (calls : List Heard) (on : Bool) → on ≡ true
-    → (if on then Some h else last_on id calls) ≡ Some h
-last_here id h calls true e = refl
-last_here id h calls false e = absurd cc
+-- a row that waits, of which the file was found
+pub found_row : (row : Row) (finding : Finding) (sort : Call → Bool) (a b : WorkNow)
+    → b.desk.tables ≡ a.desk.tables → row_at a.desk.tables row.id ≡ Some row
+    → row.pending ≡ true → Does (Finds row.id finding) sort a b → IsFound row finding b.desk
+found_row row finding sort a b same at pending h =
+    let f = found_behind row.id finding sort a b h in
+    let still : row_at b.desk.tables row.id ≡ Some row =
+    ap (λ (t : Tables). row_at t row.id) same ∙ at in
+    record {
+      reply = f.reply;
+      found = f.found ∙ ap (λ (o : Option Row). finding_of row.id (base_of o) f.reply) still;
+      at = still;
+      pending = pending;
+      last = f.last;
+    }
 
--- the check of a row that waits
-pub found_by_check : (row : Row) (old new : WorkNow) (finding : Finding)
-    → new.desk.tables ≡ old.desk.tables → row_at old.desk.tables row.id ≡ Some row
-    → row.pending ≡ true → HasChecked row old new finding → IsFound row finding new.desk
-unfolding last_on
-found_by_check row old new finding tables at pending h = record {
-  reply = h.reply;
-  found = h.found;
-  at = ap (λ (t : Tables). row_at t row.id) tables ∙ at;
-  pending = pending;
-  last =
-      ap (last_on row.id) h.calls
-      ∙ last_here row.id (record { call = Get (Item row.id); reply = Some h.reply })
-      (session_calls old.desk.line.trail) (bytes_eq row.id row.id) (bytes_eq-refl row.id);
-}
-
--- a check is no put
-pub unput_by_check : (row : Row) (old new : WorkNow) (finding : Finding)
-    → HasChecked row old new finding
-    → has_put row.id (session_calls old.desk.line.trail) ≡ false
-    → has_put row.id (session_calls new.desk.line.trail) ≡ false
-unfolding has_put
-unput_by_check row old new finding h unput = ap (has_put row.id) h.calls ∙ unput
+-- a get is no put
+pub unput_row : (id : List ℕ) (finding : Finding) (sort : Call → Bool) (a b : WorkNow)
+    → Does (Finds id finding) sort a b → has_put id (session_calls a.desk.line.trail) ≡ false
+    → has_put id (session_calls b.desk.line.trail) ≡ false
+unfolding has_put view_from
+unput_row id finding sort a b h unput =
+    behind (λ t cs u us. has_put id us ≡ has_put id cs) (Finds id finding) sort a b
+    (λ v ds it. ap (λ (x : List Deed). has_put id (view_from v x).calls) it.4) h
+    ∙ unput
 
 -- ---- puts
 
@@ -169,35 +127,47 @@ may_put row d text shown h readable is = record {
   text = record { readable = readable; text = is };
 }
 
-pub may_upload : (id text : List ℕ) (old new : DeskNow) (shown : Option Shown)
-    → IsAnswered (Put (Item id) text) old new → MayUpload (view_of shown new) id text
-unfolding last_on
-may_upload id text old new shown a =
-    let d = put_done (Item id) text a.reply a.shape a.heard in
-    record {
-      now = d.0;
-      put =
-          ap (last_on id) a.calls
-          ∙ (last_here id (record { call = Put (Item id) text; reply = Some a.reply })
-          (session_calls old.line.trail) (bytes_eq id id) (bytes_eq-refl id)
-          ∙ ap (λ (reply : Reply). Some (record { call = Put (Item id) text; reply = Some reply }))
-          d.1);
-    }
+last_here : (id : List ℕ) (h : Heard) (calls : List Heard) (on : Bool) → on ≡ true
+    → (if on then Some h else last_on id calls) ≡ Some h
+last_here id h calls true e = refl
+last_here id h calls false e = absurd cc
 
-pub puts_text : (id text : List ℕ) (old new : DeskNow) (before after : Lease) (r : SyncReport)
-    → IsAnswered (Put (Item id) text) old new
-    → IsHeardBy is_upload (Put (Item id) text) old before new after
-    → Does (PutsText id text) is_upload (work old before r) (work new after r)
-puts_text id text old new before after r a heard =
-    let d = put_done (Item id) text a.reply a.shape a.heard in
-    does_as (Hears (Put (Item id) text) a.reply) (PutsText id text) is_upload (work old before r)
-    (work new after r)
-    (λ shown ds h. (
-      d.0,
-      subst (λ (reply : Reply). Hears (Put (Item id) text) reply
-          (view_of shown old) ds) d.1 h,
-    ))
-    (heard a.reply r r a.ends (λ shown. refl))
+put_here : (id text : List ℕ) (v : View) (ds : List Deed) → PutsText id text v ds
+    → (now : ℕ) × (last_on id (view_from v ds).calls
+    ≡ Some (record { call = Put (Item id) text; reply = Some (Done now) }))
+unfolding last_on view_from
+put_here id text v ds h = (
+  h.0,
+  ap (λ (x : List Deed). last_on id (view_from v x).calls) h.1
+      ∙ last_here id (record { call = Put (Item id) text; reply = Some (Done h.0) }) v.calls
+      (bytes_eq id id) (bytes_eq-refl id),
+)
+
+pub may_upload : (id text : List ℕ) (sort : Call → Bool) (a b : WorkNow) (shown : Option Shown)
+    → Does (PutsText id text) sort a b → MayUpload (view_of shown b.desk) id text
+may_upload id text sort a b shown h =
+    let put = behind
+    (λ t cs u us. (now : ℕ) × (last_on id us
+    ≡ Some (record { call = Put (Item id) text; reply = Some (Done now) })))
+    (PutsText id text) sort a b (put_here id text) h in
+    record { now = put.0; put = put.1 }
+
+-- a put of a file that didn't fail was done
+put_done : (path : Path) (content : List ℕ) (reply : Reply) → IsReplyTo (Put path content) reply
+    → ¬ (reply ≡ Failed) → (now : ℕ) × (reply ≡ Done now)
+put_done path content (Done now) shape heard = (now, refl)
+put_done path content Failed shape heard = absurd (heard refl)
+put_done path content (Absent now) shape heard = absurd shape
+put_done path content (Listed listing) shape heard = absurd shape
+put_done path content (Got now bytes) shape heard = absurd shape
+put_done path content (GotBlob now size) shape heard = absurd shape
+put_done path content (TooLarge size) shape heard = absurd shape
+
+pub text_put : (id text : List ℕ) (reply : Reply) → IsAnswer (Put (Item id) text) reply
+    → (v : View) (ds : List Deed) → Hears (Put (Item id) text) reply v ds → PutsText id text v ds
+text_put id text reply answer v ds h =
+    let d = put_done (Item id) text reply answer.0 answer.1 in
+    (d.0, subst (λ (r : Reply). Hears (Put (Item id) text) r v ds) d.1 h)
 
 -- ---- the bytes of a new resource
 
@@ -207,10 +177,11 @@ puts_no_bytes blobs id true a e ready = absurd cc
 puts_no_bytes blobs id false a e ready = does_nothing is_upload a ready
 
 pub puts_bytes : (blobs : Option (List Blob)) (id : List ℕ) (new : Bool) (a b : WorkNow)
-    → new ≡ true → Does (PutsKept blobs id) is_upload a b
-    → Does (PutsIfNew blobs id new) is_upload a b
-puts_bytes blobs id true a b e h = h
-puts_bytes blobs id false a b e h = absurd cc
+    (result : Result (Unit {0}) StepErr) → new ≡ true
+    → Ends (PutsKept blobs id) is_upload a result b
+    → Ends (PutsIfNew blobs id new) is_upload a result b
+puts_bytes blobs id true a b result e h = h
+puts_bytes blobs id false a b result e h = absurd cc
 
 -- ---- another file
 

@@ -1,35 +1,24 @@
 -- What is kept of a resource, and what putting it comes to.
-use Rattle.std.specs.Prelude.{ℕ, ◌≡◌, List, length, Option, Some, None, refl}
+use Rattle.std.specs.Prelude.{ℕ, ◌≡◌, List, length, Bool, true, false, Option, Some, None, refl}
 use Rattle.std.proofs.Common.{ap, subst, inl, inr}
-use Rattle.conflicts.specs.declared.report.SyncReport.{SyncReport}
-use Rattle.desk.specs.Desks.{DeskNow, IsUnmade}
-use Rattle.jop_base.specs.declared.path.Path.{Path}
 use Rattle.jop_target.specs.Replies.{IsReplyTo}
-use Rattle.jop_target.specs.declared.call.Call.TheVariants.{Put, PutBlob}
+use Rattle.jop_target.specs.declared.call.Call.{Call}
+use Rattle.jop_target.specs.declared.call.Call.TheVariants.{PutBlob}
 use Rattle.jop_target.specs.declared.reply.Reply.{Reply}
 use Rattle.jop_target.specs.declared.reply.Reply.TheVariants.{Listed, Got, GotBlob, Absent, Done, Failed, TooLarge}
-use Rattle.lease.specs.declared.lease.Lease.{Lease}
 use Rattle.licences.specs.Checks.{last_on}
 use Rattle.licences.specs.Deeds.{Deed}
 use Rattle.licences.specs.Trails.{session_calls}
-use Rattle.licences.specs.Views.{View}
-use Rattle.table_keeper.specs.Keepers.{IsBlobOfKept, Kept}
+use Rattle.licences.specs.Views.{View, view_from}
+use Rattle.session_steps.proofs.Behind.{behind}
 use Rattle.session_steps.proofs.Ending.{does_as}
-use Rattle.session_steps.specs.Asking.{IsAnswered, IsHeardBy}
+use Rattle.session_steps.specs.Asking.{IsAnswer}
 use Rattle.session_steps.specs.Doing.{Does}
 use Rattle.session_steps.specs.Parts.{Hears, Nothing}
-use Rattle.session_steps.specs.Work.{WorkNow, view_of, work}
-use Rattle.upload.specs.Uploading.{PutsKept, PutsThese, blobs_of, is_upload}
-
--- a load that gave an answer leaves the desk as it was
-pub same_desk : (old new : DeskNow) → IsUnmade old new → new.keeper.faults ≡ old.keeper.faults
-    → new ≡ old
-same_desk old new h faults = λ i. record {
-  line = h.line i;
-  keeper = record { kept = h.kept i; faults = faults i };
-  tables = h.tables i;
-  made = h.made i;
-}
+use Rattle.session_steps.specs.Work.{WorkNow, view_of}
+use Rattle.table_keeper.specs.Keepers.{IsBlobOfKept, Kept}
+use Rattle.table_keeper.specs.declared.blob.Blob.{Blob}
+use Rattle.upload.specs.Uploading.{PutsIfNew, PutsKept, PutsThese, blobs_of, bytes_of, is_upload}
 
 none_put : (kept : Option Kept) (id : List ℕ) (v : View) (ds : List Deed)
     → IsBlobOfKept kept id None → Nothing v ds → PutsKept (blobs_of kept) id v ds
@@ -62,35 +51,67 @@ blob_done id len (Got now content) shape heard = absurd shape
 blob_done id len (GotBlob now size) shape heard = absurd shape
 blob_done id len (TooLarge size) shape heard = absurd shape
 
--- a put of a file that didn't fail was done
-pub put_done : (path : Path) (content : List ℕ) (reply : Reply)
-    → IsReplyTo (Put path content) reply → ¬ (reply ≡ Failed)
-    → (now : ℕ) × (reply ≡ Done now)
-put_done path content (Done now) shape heard = (now, refl)
-put_done path content Failed shape heard = absurd (heard refl)
-put_done path content (Absent now) shape heard = absurd shape
-put_done path content (Listed listing) shape heard = absurd shape
-put_done path content (Got now bytes) shape heard = absurd shape
-put_done path content (GotBlob now size) shape heard = absurd shape
-put_done path content (TooLarge size) shape heard = absurd shape
+pub bytes_put : (kept : Option Kept) (id bytes : List ℕ) (reply : Reply)
+    → IsBlobOfKept kept id (Some bytes) → IsAnswer (PutBlob id (length bytes)) reply
+    → (v : View) (ds : List Deed) → Hears (PutBlob id (length bytes)) reply v ds
+    → PutsKept (blobs_of kept) id v ds
+bytes_put kept id bytes reply told answer v ds h =
+    let d = blob_done id (length bytes) reply answer.0 answer.1 in
+    these_put kept id bytes (length bytes) d.0 v ds refl told
+    (subst (λ (r : Reply). Hears (PutBlob id (length bytes)) r v ds) d.1 h)
 
-pub puts_these : (kept : Option Kept) (id bytes : List ℕ) (len : ℕ) (old new : DeskNow)
-    (before after : Lease) (r : SyncReport)
-    → len ≡ length bytes → IsBlobOfKept kept id (Some bytes)
-    → IsAnswered (PutBlob id len) old new
-    → IsHeardBy is_upload (PutBlob id len) old before new after
-    → Does (PutsKept (blobs_of kept) id) is_upload (work old before r) (work new after r)
-puts_these kept id bytes len old new before after r e told a heard =
-    let d = blob_done id len a.reply a.shape a.heard in
-    does_as (Hears (PutBlob id len) a.reply) (PutsKept (blobs_of kept) id) is_upload
-    (work old before r) (work new after r)
-    (λ shown ds h. these_put kept id bytes len d.0 (view_of shown old) ds e told
-    (subst (λ (reply : Reply). Hears (PutBlob id len) reply (view_of shown old) ds) d.1 h))
-    (heard a.reply r r a.ends (λ shown. refl))
+-- ---- what is seen behind them
 
--- the last call on an item's file is as before
-pub same_last : (id other : List ℕ) (len : ℕ) (old new : DeskNow)
-    → IsAnswered (PutBlob id len) old new
-    → last_on other (session_calls new.line.trail) ≡ last_on other (session_calls old.line.trail)
-unfolding last_on
-same_last id other len old new a = ap (last_on other) a.calls
+-- tables are as they were, and so is the last call on an item's file
+record Leaves (other : List ℕ) (v w : View) : Type 0 where
+  tables : w.tables ≡ v.tables
+  last : last_on other w.calls ≡ last_on other v.calls
+
+leaves_nothing : (other : List ℕ) (v : View) (ds : List Deed) → Nothing v ds
+    → Leaves other v (view_from v ds)
+unfolding view_from
+leaves_nothing other v ds h = record {
+  tables = ap (λ (x : List Deed). (view_from v x).tables) h;
+  last = ap (λ (x : List Deed). last_on other (view_from v x).calls) h;
+}
+
+leaves_put : (other id : List ℕ) (len now : ℕ) (v : View) (ds : List Deed)
+    → Hears (PutBlob id len) (Done now) v ds → Leaves other v (view_from v ds)
+unfolding view_from last_on
+leaves_put other id len now v ds h = record {
+  tables = ap (λ (x : List Deed). (view_from v x).tables) h;
+  last = ap (λ (x : List Deed). last_on other (view_from v x).calls) h;
+}
+
+leaves_these : (other id : List ℕ) (bytes : Option (List ℕ)) (v : View) (ds : List Deed)
+    → PutsThese id bytes v ds → Leaves other v (view_from v ds)
+leaves_these other id None v ds h = leaves_nothing other v ds h
+leaves_these other id (Some bytes) v ds h = leaves_put other id (length bytes) h.0 v ds h.1
+
+leaves_kept : (other : List ℕ) (blobs : Option (List Blob)) (id : List ℕ) (v : View)
+    (ds : List Deed) → PutsKept blobs id v ds → Leaves other v (view_from v ds)
+leaves_kept other (Some blobs) id v ds h = leaves_these other id (bytes_of blobs id) v ds h
+leaves_kept other None id v ds h =
+    elim h [
+      | inl none ↦ leaves_nothing other v ds none
+      | inr some ↦ leaves_put other id some.0 some.1.0 v ds some.1.1
+    ]
+
+leaves_new : (other : List ℕ) (blobs : Option (List Blob)) (id : List ℕ) (new : Bool) (v : View)
+    (ds : List Deed) → PutsIfNew blobs id new v ds → Leaves other v (view_from v ds)
+leaves_new other blobs id true v ds h = leaves_kept other blobs id v ds h
+leaves_new other blobs id false v ds h = leaves_nothing other v ds h
+
+pub tables_new : (blobs : Option (List Blob)) (id : List ℕ) (new : Bool) (sort : Call → Bool)
+    (a b : WorkNow) → Does (PutsIfNew blobs id new) sort a b → b.desk.tables ≡ a.desk.tables
+tables_new blobs id new sort a b h =
+    behind (λ t cs u us. u ≡ t) (PutsIfNew blobs id new) sort a b
+    (λ v ds it. (leaves_new id blobs id new v ds it).tables) h
+
+pub last_new : (other : List ℕ) (blobs : Option (List Blob)) (id : List ℕ) (new : Bool)
+    (sort : Call → Bool) (a b : WorkNow) → Does (PutsIfNew blobs id new) sort a b
+    → last_on other (session_calls b.desk.line.trail)
+    ≡ last_on other (session_calls a.desk.line.trail)
+last_new other blobs id new sort a b h =
+    behind (λ t cs u us. last_on other us ≡ last_on other cs) (PutsIfNew blobs id new) sort a b
+    (λ v ds it. (leaves_new other blobs id new v ds it).last) h

@@ -4,44 +4,58 @@ use Rattle.std.proofs.Common.{sym, ap, subst, ◌∙◌}
 use Rattle.conflicts.specs.declared.error.StepErr.{StepErr}
 use Rattle.desk.specs.Desks.{DeskNow}
 use Rattle.jop_base.proofs.KeyedLaws.{key-at}
-use Rattle.jop_base.specs.declared.path.Path.TheVariants.{Item}
-use Rattle.jop_target.specs.declared.call.Call.TheVariants.{Get}
+use Rattle.licences.specs.Deeds.{Deed}
 use Rattle.licences.specs.Puts.{has_put}
 use Rattle.licences.specs.Trails.{session_calls}
+use Rattle.licences.specs.Views.{View, view_from}
 use Rattle.local_store.specs.Rows.{row_id}
-use Rattle.local_store.specs.Tables.{row_at}
-use Rattle.table_keeper.specs.declared.blob.Blob.{Blob}
+use Rattle.local_store.specs.Tables.{base_of, row_at}
 use Rattle.local_store.specs.declared.row.Row.{Row}
 use Rattle.local_store.specs.declared.tables.Tables.{Tables}
-use Rattle.session_steps.proofs.Ending.{does_as, does_nothing}
-use Rattle.session_steps.proofs.Joins.{does_then}
+use Rattle.session_steps.proofs.Ending.{does_as, does_nothing, ends_as, ends_then}
 use Rattle.session_steps.specs.Doing.{Does, Ends}
-use Rattle.session_steps.specs.Parts.{Hears, Then}
+use Rattle.session_steps.specs.Findings.{finding_of, waiting}
+use Rattle.session_steps.specs.Parts.{Then}
+use Rattle.session_steps.specs.Sessions.{Finds}
 use Rattle.session_steps.specs.Work.{IsReady, WorkNow, view_of}
 use Rattle.session_steps.specs.declared.finding.Finding.{Finding}
 use Rattle.session_steps.specs.declared.finding.Finding.TheVariants.{Unreadable}
+use Rattle.table_keeper.specs.declared.blob.Blob.{Blob}
 use Rattle.upload.specs.Conditions.{AreUnput, is_new}
-use Rattle.upload.specs.Found.{HasChecked}
-use Rattle.session_steps.specs.Findings.{waiting}
 use Rattle.upload.specs.Uploading.{Settles, UploadsFound, UploadsOne, UploadsRow, is_upload}
 
--- the check, and then what is done
-pub uploads_row : (blobs own : Option (List Blob)) (row : Row) (finding : Finding)
-    (a b c : WorkNow) → own ≡ blobs → HasChecked row a b finding
-    → Does (Settles own row finding) is_upload b c → Does (UploadsRow blobs row) is_upload a c
-uploads_row blobs own row finding a b c same h k =
-    let get = Hears (Get (Item row.id)) h.reply in
-    does_as (Then get (Settles blobs row finding)) (UploadsRow blobs row) is_upload a c
-    (λ shown ds part. (
-      h.reply,
+-- the file is got, and then that is done
+row_told : (blobs : Option (List Blob)) (row : Row) (finding : Finding) (v : View)
+    (ds : List Deed) → row_at v.tables row.id ≡ Some row
+    → Then (Finds row.id finding) (Settles blobs row finding) v ds → UploadsRow blobs row v ds
+row_told blobs row finding v ds at h =
+    let f = h.before in
+    let is : finding ≡ finding_of row.id row.base f.0 =
+    f.2 ∙ ap (λ (o : Option Row). finding_of row.id (base_of o) f.0) at in (
+      f.0,
       (
-        h.answer,
-        subst (λ (f : Finding).
-            Then get (Settles blobs row f) (view_of shown a.desk) ds) h.found part,
+        f.1,
+        record {
+          first = h.first;
+          second = h.second;
+          both = h.both;
+          before = f.4;
+          behind = subst (λ (x : Finding). Settles blobs row x (view_from v h.first) h.second) is h.behind;
+        },
       ),
-    ))
-    (does_then get (Settles blobs row finding) is_upload a b c h.does
-    (subst (λ (x : Option (List Blob)). Does (Settles x row finding) is_upload b c) same k))
+    )
+
+pub ends_row : (blobs own : Option (List Blob)) (row : Row) (finding : Finding)
+    (a b c : WorkNow) (result : Result (Unit {0}) StepErr) → own ≡ blobs
+    → row_at a.desk.tables row.id ≡ Some row → Does (Finds row.id finding) is_upload a b
+    → Ends (Settles own row finding) is_upload b result c
+    → Ends (UploadsRow blobs row) is_upload a result c
+ends_row blobs own row finding a b c result same at h k =
+    ends_as (Then (Finds row.id finding) (Settles blobs row finding)) (UploadsRow blobs row)
+    is_upload a c result
+    (λ shown ds it. row_told blobs row finding (view_of shown a.desk) ds at it)
+    (ends_then (Finds row.id finding) (Settles blobs row finding) is_upload a b c result h
+    (subst (λ (x : Option (List Blob)). Ends (Settles x row finding) is_upload b result c) same k))
 
 -- what is done, told by what was found
 pub settles_as : {R : Type 0} (blobs : Option (List Blob)) (row : Row) (finding f : Finding)

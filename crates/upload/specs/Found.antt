@@ -1,6 +1,5 @@
 -- A row that waits, and what its file is to it.
-use Rattle.std.specs.Prelude.{◌≡◌, ◌∷◌, true, Some, Result, Ok, Err}
-use Rattle.conflicts.specs.declared.error.StepErr.{StepErr}
+use Rattle.std.specs.Prelude.{◌≡◌, true, Some}
 use Rattle.desk.specs.Desks.{DeskNow}
 use Rattle.jop_base.specs.declared.path.Path.TheVariants.{Item}
 use Rattle.jop_target.specs.declared.call.Call.TheVariants.{Get}
@@ -10,13 +9,8 @@ use Rattle.licences.specs.Trails.{session_calls}
 use Rattle.licences.specs.Views.{Heard}
 use Rattle.local_store.specs.Tables.{row_at}
 use Rattle.local_store.specs.declared.row.Row.{Row}
-use Rattle.session_steps.specs.Asking.{IsAnswer}
-use Rattle.session_steps.specs.Doing.{Does, GivesUp}
 use Rattle.session_steps.specs.Findings.{finding_of}
-use Rattle.session_steps.specs.Parts.{Hears}
-use Rattle.session_steps.specs.Work.{WorkNow}
 use Rattle.session_steps.specs.declared.finding.Finding.{Finding}
-use Rattle.upload.specs.Uploading.{is_upload}
 
 -- a get of the row's file
 abbrev pub got : Row → Reply → Heard
@@ -29,17 +23,3 @@ pub record IsFound (row : Row) (finding : Finding) (d : DeskNow) : Type 0 where
   pub at : row_at d.tables row.id ≡ Some row
   pub pending : row.pending ≡ true
   pub last : last_on row.id (session_calls d.line.trail) ≡ Some (got row reply)
-
--- the file was got, which is a part of the session, and is this to the row
-pub record HasChecked (row : Row) (old new : WorkNow) (finding : Finding) : Type 0 where
-  pub reply : Reply
-  pub answer : IsAnswer (Get (Item row.id)) reply
-  pub found : finding ≡ finding_of row.id row.base reply
-  pub calls : session_calls new.desk.line.trail
-      ≡ got row reply ∷ session_calls old.desk.line.trail
-  pub does : Does (Hears (Get (Item row.id)) reply) is_upload old new
-
--- each answer, by its cause
-abbrev pub Checks : Row → WorkNow → Result Finding StepErr → WorkNow → Type 0
-Checks row old (Ok finding) new = HasChecked row old new finding
-Checks row old (Err e) new = GivesUp is_upload old e new

@@ -1,14 +1,13 @@
 //! The first part of a session: items that were saved here are uploaded.
 //!
-//! Begin with [`upload_all`]; `specs/Uploading.antt` tells it as sentences, and
+//! Begin with [`upload_waiting`]; `specs/Uploading.antt` tells it as sentences, and
 //! `specs/Settled.antt` says what it leaves.
 #![tactic(auto)]
 
-mod checking;
 mod loading;
 mod moving;
 mod putting;
 mod uploading;
 mod yielding;
 
-pub use uploading::upload_all;
+pub use uploading::{upload_all, upload_waiting};

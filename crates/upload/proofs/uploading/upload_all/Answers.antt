@@ -1,38 +1,43 @@
-use Rattle.std.specs.Prelude.{List, ℕ}
-use Rattle.std.proofs.Common.{◌∙◌, ap, subst, sym}
-use Rattle.std.proofs.lemmas.Result.{err_from_is_err_and}
-use Rattle.local_store.specs.declared.tables.Tables.{Tables}
-use Rattle.session_steps.proofs.Ending.{does_nothing, does_starves}
-use Rattle.session_steps.specs.Work.{work}
-use Rattle.upload.proofs.Left.{all_of_them, left_first}
-use Rattle.upload.specs.Conditions.{CanPut}
-use Rattle.upload.specs.Settled.{AreLeft}
-use Rattle.upload.specs.Uploading.{is_upload, pending_ids}
+use Rattle.std.proofs.Common.{rules}
+use Rattle.session_steps.proofs.Behind.{lease_behind, place_behind, ready_behind}
+use Rattle.session_steps.proofs.Recast.{ends_nowhere}
+use Rattle.upload.specs.Uploading.{Uploads, is_upload}
 use Rattle.upload.proofs.uploading.upload_all.Goals as goal
 
-pub returns-in_err-ids-clause-ends : goal.returns-in_err-ids-clause-ends
-returns-in_err-ids-clause-ends g c =
-    let p = err_from_is_err_and c.from_residual.result c.from_residual.ensures.1 in
-    rw (p.1, p.2) (does_starves (does_nothing is_upload _ c.requires.ready))
+pub returns-clause-ready : goal.returns-clause-ready
+returns-clause-ready g c =
+    let P = Uploads (g.S.Desk.desk c.args.site.now).keeper.kept in
+    let ends = c.upload_waiting.ensures.ends in
+    let stays = place_behind P is_upload _ _ c.upload_waiting.result ends in
+    let ready = ready_behind P is_upload _ _ c.upload_waiting.result ends in
+    search rules
 
-pub upload_each-requires-clause-readable : goal.upload_each-requires-clause-readable
-upload_each-requires-clause-readable g c =
-    subst (λ (ids : List (List ℕ)). CanPut (g.S.Desk.desk c.args.site.now).tables ids)
-    (sym (c.as_slice.ensures ∙ (c.in_ok-ids.ensures
-    ∙ ap (λ (t : Tables). pending_ids t) c.tables.ensures)))
-    c.requires.readable
+pub returns-clause-lease : goal.returns-clause-lease
+returns-clause-lease g c =
+    let P = Uploads (g.S.Desk.desk c.args.site.now).keeper.kept in
+    let ends = c.upload_waiting.ensures.ends in
+    let stays = place_behind P is_upload _ _ c.upload_waiting.result ends in
+    let same = lease_behind P is_upload _ _ c.upload_waiting.result ends in
+    search rules
 
-pub upload_each-requires-clause-left : goal.upload_each-requires-clause-left
-upload_each-requires-clause-left g c =
-    subst (λ (ids : List (List ℕ)). AreLeft (g.S.Desk.desk c.args.site.now) ids)
-    (sym (c.as_slice.ensures ∙ (c.in_ok-ids.ensures
-    ∙ ap (λ (t : Tables). pending_ids t) c.tables.ensures)))
-    (left_first (g.S.Desk.desk c.args.site.now))
+pub returns-clause-settled : goal.returns-clause-settled
+returns-clause-settled g c =
+    let P = Uploads (g.S.Desk.desk c.args.site.now).keeper.kept in
+    let stays = place_behind P is_upload _ _ c.upload_waiting.result
+    c.upload_waiting.ensures.ends in
+    search rules
 
 pub returns-clause-ends : goal.returns-clause-ends
 returns-clause-ends g c =
-    all_of_them c.as_slice.result.now
-    (work (g.S.Desk.desk c.args.site.now) c.args.lease.now c.args.report.now) _
-    (c.as_slice.ensures ∙ (c.in_ok-ids.ensures
-    ∙ ap (λ (t : Tables). pending_ids t) c.tables.ensures))
-    c.in_ok-upload_each.ensures.uploads
+    let P = Uploads (g.S.Desk.desk c.args.site.now).keeper.kept in
+    let ends = c.upload_waiting.ensures.ends in
+    let stays = place_behind P is_upload _ _ c.upload_waiting.result ends in
+    let here = ends_nowhere P is_upload _ _ c.upload_waiting.result ends in
+    search rules
+
+pub returns-clause-stays : goal.returns-clause-stays
+returns-clause-stays g c =
+    let P = Uploads (g.S.Desk.desk c.args.site.now).keeper.kept in
+    let stays = place_behind P is_upload _ _ c.upload_waiting.result
+    c.upload_waiting.ensures.ends in
+    search rules

@@ -4,11 +4,9 @@ use Rattle.std.proofs.lemmas.List.{drop_all}
 use Rattle.std.proofs.lemmas.Result.{err_from_is_err_and}
 use Rattle.table_keeper.specs.declared.blob.Blob.{Blob}
 use Rattle.session_steps.proofs.Ending.{does_nothing, gives_up_behind}
-use Rattle.session_steps.proofs.Joins.{same_but}
 use Rattle.session_steps.proofs.Repeating.{does_all, does_here, here_and_left}
 use Rattle.session_steps.specs.Doing.{Does}
 use Rattle.session_steps.specs.Parts.{ForEach}
-use Rattle.session_steps.specs.Work.{work}
 use Rattle.sync_info.specs.declared.info.Info.{Info}
 use Rattle.upload.proofs.Left.{can_put, left_on, same_blobs, settled, tended, unput_on}
 use Rattle.upload.specs.Settled.{AreLeft}
@@ -18,19 +16,19 @@ use Rattle.upload.proofs.uploading.upload_each.Goals as goal
 pub loop-index-init : goal.loop-index-init
 unfolding ForEach
 loop-index-init g c = record {
-  ready = c.requires.ready;
-  lease = refl;
   info = refl;
   unput = c.requires.unput;
   left = c.requires.left;
   does = does_nothing is_upload _ c.requires.ready;
-  stays = g.met.S.Desk.stays_same _;
 }
+
+pub upload_one-requires-clause-ready : goal.upload_one-requires-clause-ready
+upload_one-requires-clause-ready g c = c.loop-index.invariant.does.ready
 
 pub upload_one-requires-clause-readable : goal.upload_one-requires-clause-readable
 upload_one-requires-clause-readable g c =
     ap (λ (info : Info). info.e2ee.value) c.loop-index.invariant.info
-    ∙ can_put (g.S.Desk.desk c.args.site.now).tables c.args.ids.now c.loop-index.index (omega arith)
+    ∙ can_put (g.W.Session.now c.args.s.now).desk.tables c.args.ids.now c.loop-index.index (omega arith)
     c.requires.readable
 
 pub loop-index-preserved : goal.loop-index-preserved
@@ -40,16 +38,14 @@ loop-index-preserved g c =
     let id = c.index-ids-index.result in
     let before = c.loop-index.invariant in
     let done = c.in_ok-upload_one.ensures in
-    let a = work (g.S.Desk.desk c.args.site.now) c.args.lease.now c.args.report.now in
-    let b = work (g.S.Desk.desk c.loop-index.site) c.loop-index.lease c.loop-index.report in
-    let n = work (g.S.Desk.desk c.upload_one.new.site) c.upload_one.new.lease
-    c.upload_one.new.report in
+    let now = g.W.Session.now in
+    let a = now c.args.s.now in
+    let b = now c.loop-index.s in
+    let n = now c.upload_one.new.s in
     let blobs = blobs_of a.desk.keeper.kept in
     let t = tended (blobs_of b.desk.keeper.kept) is_upload id b n
-    before.ready.tidy.sound.rows_ordered done.uploads in
+    before.does.ready.tidy.sound.rows_ordered done.ends in
     record {
-      ready = done.ready;
-      lease = same_but a.lease b.lease n.lease before.lease c.upload_one.ensures.lease;
       info = t.tended.tends.keeps.info ∙ before.info;
       unput = unput_on id b.desk n.desk t before.unput;
       left = left_on b.desk n.desk id (drop (i + 1) ids) t
@@ -59,23 +55,22 @@ loop-index-preserved g c =
           c.index-ids-index.is before.does
           (subst (λ (own : Option (List Blob)). Does (UploadsOne own id) is_upload b n)
           (same_blobs (ForEach (UploadsOne blobs) (take i ids)) is_upload a b (λ id. refl) before.does)
-          done.uploads);
-      stays = g.met.S.Desk.stays_on _ _ _ before.stays c.upload_one.ensures.stays;
+          done.ends);
     }
 
-pub returns-in_err-upload_one-clause-uploads : goal.returns-in_err-upload_one-clause-uploads
-returns-in_err-upload_one-clause-uploads g c =
+pub returns-in_err-upload_one-clause-ends : goal.returns-in_err-upload_one-clause-ends
+returns-in_err-upload_one-clause-ends g c =
     let p = err_from_is_err_and c.from_residual.result c.from_residual.ensures.1 in
     rw (p.1, p.2) (gives_up_behind _ _ _ _ _ _ c.loop-index.invariant.does
-    c.in_err-upload_one.ensures.uploads)
+    c.in_err-upload_one.ensures.ends)
 
 pub returns-clause-settled : goal.returns-clause-settled
 returns-clause-settled g c =
-    let now = g.S.Desk.desk c.loop-index.site in
+    let now = (g.W.Session.now c.loop-index.s).desk in
     settled now (subst (λ (rest : List (List ℕ)). AreLeft now rest)
     (drop_all c.loop-index.index c.args.ids.now (omega arith)) c.loop-index.invariant.left)
 
-pub returns-clause-uploads : goal.returns-clause-uploads
-returns-clause-uploads g c =
-    does_all (UploadsOne (blobs_of (g.S.Desk.desk c.args.site.now).keeper.kept)) is_upload
+pub returns-clause-ends : goal.returns-clause-ends
+returns-clause-ends g c =
+    does_all (UploadsOne (blobs_of (g.W.Session.now c.args.s.now).desk.keeper.kept)) is_upload
     c.args.ids.now c.loop-index.index _ _ (omega arith) c.loop-index.invariant.does

@@ -1,0 +1,10 @@
+use Rattle.std.proofs.lemmas.Result.{err_from_is_err_and}
+use Rattle.session_steps.proofs.Ending.{does_nothing, does_starves}
+use Rattle.deletions.specs.Deleting.{is_deletion}
+use Rattle.deletions.proofs.deleting.delete_listed.Goals as goal
+
+pub returns-in_err-deletions : goal.returns-in_err-deletions
+returns-in_err-deletions g c = record {
+  ends = let p = err_from_is_err_and c.from_residual.result c.from_residual.ensures.1 in
+      rw (p.1, p.2) (does_starves (does_nothing is_deletion _ c.requires.ready));
+}
