@@ -43,10 +43,7 @@ gone_by path (TooLarge len) shape heard = shape
 no-lock : (path : Path) → is_data path ≡ true → is_about_locks (Delete path) ≡ false
 no-lock (Item id) h = refl
 no-lock (Blob id) h = refl
-no-lock Info h = absurd cc
-no-lock OldVersion h = absurd cc
-no-lock (Lock name) h = absurd cc
-no-lock (Temp id) h = absurd cc
+no-lock path h = absurd cc
 
 kept_if : (about : Bool) (h : Heard) (calls : List Heard) → about ≡ false
     → (if about then calls else h ∷ calls) ≡ h ∷ calls

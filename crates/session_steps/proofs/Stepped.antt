@@ -102,25 +102,7 @@ plainly (Delete (Blob id)) h = record {
   got = λ reply. refl;
   noted = λ v r reply. refl;
 }
-plainly (ListDir Resources) h = absurd cc
-plainly (ListDir OldSync) h = absurd cc
-plainly (ListDir Locks) h = absurd cc
-plainly (ListDir Temp) h = absurd cc
-plainly (Get (Item id)) h = absurd cc
-plainly (Get (Blob id)) h = absurd cc
-plainly (Get (Lock name)) h = absurd cc
-plainly (Get (TempFile id)) h = absurd cc
-plainly (Put OldVersion content) h = absurd cc
-plainly (Put (Blob id) content) h = absurd cc
-plainly (Put (Lock name) content) h = absurd cc
-plainly (Put (TempFile id) content) h = absurd cc
-plainly (Delete Info) h = absurd cc
-plainly (Delete OldVersion) h = absurd cc
-plainly (Delete (Lock name)) h = absurd cc
-plainly (Delete (TempFile id)) h = absurd cc
-plainly (MakeDir dir) h = absurd cc
-plainly (GetBlob id) h = absurd cc
-plainly (PutBlob id len) h = absurd cc
+plainly call h = absurd cc
 
 -- behind a call nothing is to be saved or noted
 pub asked : (sort : Call → Bool) (call : Call) (old new : DeskNow) (before after : Lease)
