@@ -118,7 +118,7 @@ All-entries_in P (f ∷ fs) dir all =
     (λ same. All-cons P (entry_of f) (entries_in fs dir) (All-head of_file f fs all) rest)
     (λ apart. rest)
 
-same_dir : (d e : Dir) → is_same_dir d e ≡ true → d ≡ e
+pub same_dir : (d e : Dir) → is_same_dir d e ≡ true → d ≡ e
 same_dir Root Root same = refl
 same_dir Resources Resources same = refl
 same_dir OldSync OldSync same = refl

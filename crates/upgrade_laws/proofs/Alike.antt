@@ -1,9 +1,9 @@
 -- What a tree comes to is the upgraded tree.
 use Rattle.std.proofs.Common.{◌≡◌, ◌∙◌, refl, sym, ap, ℕ, zero, suc, codes, false, Option, Some, None, option_map}
 use Rattle.jop_base.specs.declared.dir.Dir.{Dir}
-use Rattle.jop_base.specs.declared.dir.Dir.TheVariants.{Root, Resources, OldSync, Locks, Temp}
+use Rattle.jop_base.specs.declared.dir.Dir.TheVariants.{Resources, OldSync, Locks, Temp}
 use Rattle.jop_base.specs.declared.path.Path.{Path}
-use Rattle.jop_base.specs.declared.path.Path.TheVariants.{Info as InfoFile, OldVersion, Item, Blob, Lock as LockFile, Temp as TempFile}
+use Rattle.jop_base.specs.declared.path.Path.TheVariants.{Info as InfoFile, OldVersion, Lock as LockFile}
 use Rattle.jop_target.specs.declared.tree.File.{File}
 use Rattle.jop_target.specs.declared.tree.Tree.{Tree}
 use Rattle.jop_target.specs.Store.{is_same_dir}
@@ -13,7 +13,7 @@ use Rattle.target_upgrade.specs.Steps.{SUPPORTED}
 use Rattle.upgrade_laws.specs.Target.{info_of, upgraded_info, file_of, files_from, steps_from, upgraded_from, upgraded_with, upgraded, is_lock, content_at, has_dir, IsAlike}
 use Rattle.jop_target.proofs.Files.{file_at-other_put, file_at-put}
 use Rattle.upgrade_laws.proofs.Files.{has_dir-with, info_apart_old, info_apart, old_apart}
-use Rattle.upgrade_laws.proofs.InTune.{Final, as_is, final_at, final_with, final, final_same, HasSameRest, ComesToSame}
+use Rattle.upgrade_laws.proofs.InTune.{Final, as_is, final_at, final_with, final, final_same, left_with, untouched, HasSameRest, ComesToSame}
 
 at_from : (v : ℕ) (info : Info) (t : Tree) → as_is (upgraded_from v info t) ≡ final_at v info t
 at_from zero info t = final_same (as_is (steps_from 0 info t)) (final_at 0 info t)

@@ -2,14 +2,13 @@
 use Rattle.std.proofs.Common.{◌≡◌, ◌∙◌, refl, sym, ap, ℕ, List, Bool, true, false, cond, bytes_eq, Option, Some, None}
 use Rattle.std.proofs.lemmas.Bool.{and_parts, false≢true}
 use Rattle.std.proofs.lemmas.Slice.Eq.{bytes_eq-Decides}
-use Rattle.jop_base.specs.declared.dir.Dir.{Dir}
-use Rattle.jop_base.specs.declared.dir.Dir.TheVariants.{Root, Resources, OldSync, Locks, Temp, Tombs}
+use Rattle.jop_base.specs.declared.dir.Dir.TheVariants.{Locks}
 use Rattle.jop_base.specs.declared.lock_name.LockKind.TheVariants.{Sync, Exclusive}
 use Rattle.jop_base.specs.declared.path.Path.{Path}
 use Rattle.jop_base.specs.declared.path.Path.TheVariants.{Info as InfoFile, OldVersion, Item, Blob, Lock as LockFile, Temp as TempFile}
 use Rattle.jop_target.specs.declared.call.Call.{Call}
 use Rattle.jop_target.specs.declared.call.Call.TheVariants.{List as ListDir, Get, Put, Delete, MakeDir, GetBlob, PutBlob}
-use Rattle.jop_target.specs.Store.{is_same_dir}
+use Rattle.jop_target.proofs.Files.{same_dir}
 use Rattle.lease.specs.Discipline.{keeps_lock_order}
 use Rattle.lease.specs.Idle.{is_work}
 use Rattle.lease.specs.Phase.{Phase, Free, Looked, Asked, Held, Renewing, Leaving, Over, Broken, Role, MakesLocks, ListsLocks, PutsOwn, DeletesOwn, Plain, Foreign, role_of, allows}
@@ -79,15 +78,6 @@ exclusive_work Broken role w n = cc
 
 -- ---- the awaited call is the one that is made
 
-same_dir-is : (d e : Dir) → is_same_dir d e ≡ true → d ≡ e
-same_dir-is Root Root h = refl
-same_dir-is Resources Resources h = refl
-same_dir-is OldSync OldSync h = refl
-same_dir-is Locks Locks h = refl
-same_dir-is Temp Temp h = refl
-same_dir-is Tombs Tombs h = refl
-same_dir-is d e h = cc
-
 same_file-is : (p q : Path) → is_file p q ≡ true → p ≡ q
 same_file-is InfoFile InfoFile h = refl
 same_file-is OldVersion OldVersion h = refl
@@ -95,13 +85,13 @@ same_file-is (Item id) (Item other) h = ap Item ((bytes_eq-Decides id other).0 h
 same_file-is p q h = cc
 
 is_call-is : (c d : Call) → is_call c d ≡ true → c ≡ d
-is_call-is (ListDir d) (ListDir e) h = ap ListDir (same_dir-is d e h)
+is_call-is (ListDir d) (ListDir e) h = ap ListDir (same_dir d e h)
 is_call-is (Get p) (Get q) h = ap Get (same_file-is p q h)
 is_call-is (Put p x) (Put q y) h =
     let parts = and_parts (is_file p q) (bytes_eq x y) h in
     ap (λ (r : Path). Put r x) (same_file-is p q parts.0) ∙ ap (λ (z : List ℕ). Put q z)
     ((bytes_eq-Decides x y).0 parts.1)
-is_call-is (MakeDir d) (MakeDir e) h = ap MakeDir (same_dir-is d e h)
+is_call-is (MakeDir d) (MakeDir e) h = ap MakeDir (same_dir d e h)
 is_call-is c d h = cc
 
 pub record IsNext (o : Option Call) (call : Call) : Type 0 where

@@ -2,9 +2,9 @@
 use Rattle.std.proofs.Common.{◌≡◌, ◌∙◌, refl, sym, ap, inl, inr, ℕ, zero, suc, true, false, Option, Some, None, option_map}
 use Rattle.std.proofs.lemmas.Bool.{false≢true}
 use Rattle.jop_base.specs.declared.dir.Dir.{Dir}
-use Rattle.jop_base.specs.declared.dir.Dir.TheVariants.{Root, Resources, OldSync, Locks, Temp}
+use Rattle.jop_base.specs.declared.dir.Dir.TheVariants.{Resources, OldSync, Locks, Temp}
 use Rattle.jop_base.specs.declared.path.Path.{Path}
-use Rattle.jop_base.specs.declared.path.Path.TheVariants.{Info as InfoFile, OldVersion, Item, Blob, Lock as LockFile, Temp as TempFile}
+use Rattle.jop_base.specs.declared.path.Path.TheVariants.{Info as InfoFile, OldVersion, Lock as LockFile}
 use Rattle.jop_target.specs.declared.call.Call.{Call}
 use Rattle.jop_target.specs.declared.call.Call.TheVariants.{List as ListDir, Get, Put, Delete, MakeDir, GetBlob, PutBlob}
 use Rattle.jop_target.specs.declared.tree.Content.TheVariants.{Whole}
@@ -21,7 +21,7 @@ use Rattle.target_upgrade.specs.declared.step.Step.{Step as UpgradeStep}
 use Rattle.target_upgrade.specs.declared.step.Step.TheVariants.{MakesResources, MakesOldSync, PutsOne, MakesLocks as MakesLockFolder, MakesTemp, PutsTwo, PutsInfo, ListsRoot}
 use Rattle.jop_target.proofs.Files.{file_at-other_delete, file_at-other_put}
 use Rattle.upgrade_laws.proofs.Files.{HasSameItems, same_items, same_with, same_without, with_keys-same, upgraded_info-same, has_dir-with, lock_apart, lock_no_item}
-use Rattle.upgrade_laws.proofs.InTune.{as_is, final_at, final_with, final_same, ComesToSame, IsEarly, IsNew, IsAtStep, IsInTune}
+use Rattle.upgrade_laws.proofs.InTune.{as_is, final_at, final_with, final_same, made_apart, ComesToSame, IsEarly, IsNew, IsAtStep, IsInTune}
 
 -- ---- calls that are aside
 
@@ -119,7 +119,7 @@ module _ (t u : Tree) (like : IsLike t u) where
     final = ap (λ (o : Option Info). final_with o u) info_like ∙ with_like (info_of t);
     rest = record {
       files = λ p l v. like.files p l;
-      folders = λ d left. like.dirs d (left_no_lock d left);
+      folders = λ d left. like.dirs d (made_apart Locks d refl left);
     };
   }
 

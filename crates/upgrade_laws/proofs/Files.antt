@@ -1,13 +1,13 @@
 -- What a put of a file and a new folder change in a tree, and what they leave.
 use Rattle.std.proofs.Common.{◌≡◌, ◌∙◌, refl, sym, ap, arith, ℕ, List, [], ◌∷◌, ◌++◌, append_assoc, codes, Bool, true, false, ◌||◌, cond, ◌≢◌, ◌+◌}
 use Rattle.std.specs.Prelude.{bytes_eq}
-use Rattle.jop_base.proofs.Folders.{apart}
+use Rattle.jop_base.proofs.Folders.{apart, dir_shown, prefix_shown}
 use Rattle.jop_base.proofs.KeyedLaws.{same_text, bytes_eq-refl}
 use Rattle.jop_base.specs.Keyed.{put, cut, text_lt}
 use Rattle.jop_base.specs.LockNames.{Name, kind_digit}
-use Rattle.jop_base.specs.Paths.{dir_text, path_text}
+use Rattle.jop_base.specs.Paths.{dir_text, path_text, with_slash}
 use Rattle.jop_base.specs.declared.dir.Dir.{Dir}
-use Rattle.jop_base.specs.declared.dir.Dir.TheVariants.{Root, Resources, OldSync, Locks, Temp, Tombs}
+use Rattle.jop_base.specs.declared.dir.Dir.TheVariants.{Root}
 use Rattle.jop_base.specs.declared.path.Path.{Path}
 use Rattle.jop_base.specs.declared.path.Path.TheVariants.{Info as InfoFile, OldVersion, Item, Blob, Lock as LockFile, Temp as TempFile, Tomb}
 use Rattle.jop_target.specs.Store.{file_key, is_same, file_at, with_file, without_file, entries_in, is_same_dir}
@@ -182,14 +182,11 @@ upgraded_info-same fs gs info same = ap (λ (ids : List (List ℕ)). with_keys g
 
 -- ---- folders
 
-same_dir : (d e : Dir) → bytes_eq (dir_text d) (dir_text e) ≡ true → d ≡ e
-same_dir Root Root h = refl
-same_dir Resources Resources h = refl
-same_dir OldSync OldSync h = refl
-same_dir Locks Locks h = refl
-same_dir Temp Temp h = refl
-same_dir Tombs Tombs h = refl
-same_dir d e h = cc
+-- a folder's name is its own
+same_name : (d e : Dir) → bytes_eq (dir_text d) (dir_text e) ≡ true → d ≡ e
+same_name d e h = sym (prefix_shown d)
+    ∙ ap (λ (name : List ℕ). dir_shown (with_slash name)) (same_text (dir_text d) (dir_text e) h)
+    ∙ prefix_shown e
 
 twice : (a b c : Bool) → a ≡ b → (a || c) ≡ (b || (a || c))
 twice true true c h = refl
@@ -211,7 +208,7 @@ has_dir_if : (g d e : Dir) (gs : List Dir) (same before : Bool) →
 unfolding has_dir
 has_dir_if g d e gs true before same later =
     twice (is_same_dir d e) (is_same_dir g e) (has_dir gs e)
-    (ap (λ (x : Dir). is_same_dir x e) (sym (same_dir g d same)))
+    (ap (λ (x : Dir). is_same_dir x e) (sym (same_name g d same)))
     ∙ (swapped (is_same_dir g e) (is_same_dir d e) (has_dir gs e))
 has_dir_if g d e gs false true same later = refl
 has_dir_if g d e gs false false same later =

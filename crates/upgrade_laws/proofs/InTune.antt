@@ -1,21 +1,24 @@
 -- What a tree comes to in the end, and how it is where an upgrade stands.
-use Rattle.std.proofs.Common.{◌≡◌, ◌⊎◌, ◌∙◌, refl, ap, ℕ, zero, suc, List, codes, Bool, true, false, Option, Some, None}
+use Rattle.std.proofs.Common.{◌≡◌, ◌⊎◌, ◌∙◌, refl, sym, ap, ℕ, zero, suc, List, codes, Bool, true, false, Option, Some, None}
 use Rattle.jop_base.specs.declared.dir.Dir.{Dir}
-use Rattle.jop_base.specs.declared.dir.Dir.TheVariants.{Root, Resources, OldSync, Temp, Tombs}
+use Rattle.jop_base.specs.declared.dir.Dir.TheVariants.{Resources, OldSync, Locks, Temp}
 use Rattle.jop_base.specs.declared.path.Path.{Path}
 use Rattle.jop_base.specs.declared.path.Path.TheVariants.{Info as InfoFile, OldVersion}
 use Rattle.jop_target.specs.declared.tree.Content.{Content}
 use Rattle.jop_target.specs.declared.tree.Content.TheVariants.{Whole}
 use Rattle.jop_target.specs.declared.tree.Tree.{Tree}
-use Rattle.jop_target.specs.Store.{file_at}
+use Rattle.jop_target.specs.Store.{file_at, is_same_dir}
+use Rattle.jop_target.proofs.Files.{same_dir}
+use Rattle.lease.proofs.LockFiles.{never}
+use Rattle.std.proofs.lemmas.Bool.{false≢true}
 use Rattle.sync_info.specs.Info.{IsInfo}
 use Rattle.sync_info.specs.Json.{info_text}
 use Rattle.sync_info.specs.declared.info.Info.{Info}
 use Rattle.target_upgrade.specs.Steps.{Stage, Reads, ReadsOld, At, Gets, Upgraded, Stuck, SUPPORTED, at_version}
-use Rattle.upgrade_laws.specs.Target.{info_of, with_keys, upgraded_info, content_at, has_dir, is_lock}
+use Rattle.upgrade_laws.specs.Target.{info_of, with_keys, upgraded_info, content_at, has_dir, with_dir, is_lock}
 use Rattle.target_upgrade.specs.declared.step.Step.{Step}
 use Rattle.target_upgrade.specs.declared.step.Step.TheVariants.{MakesResources, MakesOldSync, PutsOne, MakesLocks, MakesTemp, PutsTwo, PutsInfo, ListsRoot}
-use Rattle.upgrade_laws.proofs.Files.{is_version_file}
+use Rattle.upgrade_laws.proofs.Files.{has_dir-with, is_version_file}
 
 -- ---- what an upgrade changes, and what it leaves
 
@@ -89,11 +92,22 @@ final_same x y h k l m n = λ i. record {
       n i;
 }
 
--- whether an upgrade leaves the folder as it is; that of the locks is set aside
+-- whether an upgrade leaves the folder as it is: it makes these, and sets that of the locks aside
 abbrev pub is_left : Dir → Bool
-is_left Root = true
-is_left Tombs = true
-is_left dir = false
+is_left Resources = false
+is_left OldSync = false
+is_left Locks = false
+is_left Temp = false
+is_left dir = true
+
+-- a folder that an upgrade makes is none that it leaves as it is
+pub made_apart : (made d : Dir) → is_left made ≡ false → is_left d ≡ true → is_same_dir made d ≡ false
+made_apart made d m left = never (is_same_dir made d) (λ same.
+    false≢true (sym m ∙ ap is_left (same_dir made d same) ∙ left))
+
+pub left_with : (ds : List Dir) (made d : Dir) → is_left made ≡ false → is_left d ≡ true →
+    has_dir (with_dir ds made) d ≡ has_dir ds d
+left_with ds made d m left = has_dir-with ds made d ∙ rw (made_apart made d m left) refl
 
 -- all else is as it was
 pub record HasSameRest (t u : Tree) : Type 0 where

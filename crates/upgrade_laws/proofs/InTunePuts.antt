@@ -2,7 +2,7 @@
 use Rattle.std.proofs.Common.{◌≡◌, ◌⊎◌, ◌∙◌, ◌++◌, refl, sym, ap, inl, inr, arith, ℕ, List, [], ◌∷◌, codes, Bool, true, false, ◌||◌, cond, Option, Some, None, option_map}
 use Rattle.std.proofs.lemmas.Option.{same_Some}
 use Rattle.jop_base.specs.declared.dir.Dir.{Dir}
-use Rattle.jop_base.specs.declared.dir.Dir.TheVariants.{Root, Resources, OldSync, Locks, Temp, Tombs}
+use Rattle.jop_base.specs.declared.dir.Dir.TheVariants.{Resources, OldSync}
 use Rattle.jop_base.specs.declared.path.Path.{Path}
 use Rattle.jop_base.specs.declared.path.Path.TheVariants.{Info as InfoFile, OldVersion}
 use Rattle.jop_target.specs.declared.tree.Content.TheVariants.{Whole}
@@ -25,7 +25,7 @@ use Rattle.target_upgrade.specs.declared.step.Step.TheVariants.{PutsInfo, ListsR
 use Rattle.jop_target.proofs.Files.{file_at-other_put, file_at-put}
 use Rattle.target_upgrade.proofs.Infos.{at_version-valid}
 use Rattle.upgrade_laws.proofs.Files.{HasSameItems, same_with, upgraded_info-same, has_dir-with, info_no_item, old_no_item, old_apart_info, info_apart_old, info_apart, old_apart}
-use Rattle.upgrade_laws.proofs.InTune.{as_is, last_info, final_at, final_is, final_same, is_left, HasSameRest, ComesToSame, IsEarly, IsNew, IsAtStep, IsGetting, IsOnItsWay}
+use Rattle.upgrade_laws.proofs.InTune.{as_is, last_info, final_at, final_is, final_same, is_left, left_with, HasSameRest, ComesToSame, IsEarly, IsNew, IsAtStep, IsGetting, IsOnItsWay}
 
 -- ---- folders
 
@@ -38,23 +38,6 @@ still ds d e h = has_dir-with ds d e ∙ or_true (is_same_dir d e) (has_dir ds e
 
 abbrev pub with_folder : Tree → Dir → Tree
 with_folder t d = record t { folders = with_dir t.folders d }
-
--- a folder that an upgrade makes is none that it leaves as it is
-made_apart : (made d : Dir) → is_left made ≡ false → is_left d ≡ true → is_same_dir made d ≡ false
-made_apart Root d made left = absurd cc
-made_apart Tombs d made left = absurd cc
-made_apart made Root m left = refl
-made_apart made Tombs m left = refl
-made_apart made d m left = absurd cc
-
-pub left_with : (ds : List Dir) (made d : Dir) → is_left made ≡ false → is_left d ≡ true →
-    has_dir (with_dir ds made) d ≡ has_dir ds d
-left_with ds made d m left = has_dir-with ds made d ∙ rw (made_apart made d m left) refl
-
-pub left_no_lock : (d : Dir) → is_left d ≡ true → is_same_dir d Locks ≡ false
-left_no_lock Root left = refl
-left_no_lock Tombs left = refl
-left_no_lock d left = absurd cc
 
 rest_folder : (t : Tree) (d : Dir) → is_left d ≡ false → HasSameRest t (with_folder t d)
 rest_folder t d made = record {
