@@ -23,7 +23,7 @@ use Rattle.target_upgrade.specs.Steps.{Stage, Reads, Stuck, awaited, stage_after
 
 -- whether it is a version at which some client may work
 abbrev pub is_known : ℕ → Bool
-is_known version = nat_eq version 3 || nat_eq version 4
+is_known version = nat_eq version 3
 
 abbrev pub if_known : ℕ → Option ℕ
 if_known version = if is_known version then Some version else None
