@@ -24,7 +24,7 @@ use Rattle.lease.proofs.Written.{is_honest, is_timely, all_keep_locks, orderly_e
 use Rattle.target_upgrade.specs.Course.{allowed_from}
 use Rattle.exclusion.specs.Exclusive.{AllKeepVersions}
 use Rattle.exclusion.proofs.Written.{all_keep_versions, put_writes}
-use Rattle.exclusion.specs.Stories.{HasSync, begun_again, between_syncs, info_at, three}
+use Rattle.exclusion.specs.Stories.{HasSync, at_version_four, begun_again, between_syncs, info_at, three}
 
 orderly : IsOrderly between_syncs.opening
 orderly = record {
@@ -84,6 +84,40 @@ sync = record {
   place = 28;
   stamp = 32;
   writes = put_writes between_syncs 28 three 35 (Item three) [] refl refl;
+  holds = refl;
+}
+
+-- ---- a sync at version 4
+
+orderly_four : IsOrderly at_version_four.opening
+orderly_four = record {
+  paths = All-cons (λ (f : File). IsPath f.path) _ [] tt (All-nil (λ (f : File). IsPath f.path));
+  ordered = (tt, tt);
+}
+
+pub honest_four : IsHonest at_version_four
+unfolding reply_of tree_after at put cut entries_in escape_byte digits
+honest_four = is_honest at_version_four orderly_four refl
+
+pub timely_four : IsTimely at_version_four
+unfolding session_from
+timely_four = is_timely at_version_four refl
+
+pub locks_four : AllKeepLocks at_version_four
+unfolding lawful_from
+locks_four = all_keep_locks at_version_four refl
+
+pub versions_four : AllKeepVersions at_version_four
+unfolding allowed_from escape_byte digits is_utf8 chars encode value punctuate lex content word after_number
+    number_of scan_numeral
+versions_four = all_keep_versions at_version_four refl
+
+pub sync_four : HasSync at_version_four three
+unfolding session_from
+sync_four = record {
+  place = 5;
+  stamp = 32;
+  writes = put_writes at_version_four 5 three 35 (Item three) [] refl refl;
   holds = refl;
 }
 

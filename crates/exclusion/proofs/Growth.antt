@@ -14,7 +14,6 @@ use Rattle.lease.proofs.Law.{plain_lease}
 use Rattle.lease.proofs.Moves.{kind_held}
 use Rattle.sync_info.specs.Read.{info_in}
 use Rattle.sync_info.specs.declared.info.Info.{Info}
-use Rattle.target_upgrade.specs.Steps.{SUPPORTED}
 use Rattle.exclusion.specs.Learnt.{Learnt, with_info, learnt_of_info, learnt_of_old, learnt_by, learnt_after, learnt_from}
 
 -- ---- the fold
@@ -42,37 +41,37 @@ leaseless_learns client p l call reply a none = refl
 
 -- ---- what is read is never forgotten in a session
 
-abbrev pub has_supported : List ℕ → Bool
-has_supported [] = false
-has_supported (v ∷ vs) = nat_eq v SUPPORTED || has_supported vs
+abbrev pub has_version : ℕ → List ℕ → Bool
+has_version version [] = false
+has_version version (v ∷ vs) = nat_eq v version || has_version version vs
 
-pub of_supported : (P : ℕ → Type 0) (vs : List ℕ) → All P vs → has_supported vs ≡ true →
-    P SUPPORTED
-of_supported P [] all h = cc
-of_supported P (v ∷ vs) all h =
-    go (nat_eq v SUPPORTED) refl (λ later. of_supported P vs (λ k d lt. all (suc k) d (omega arith))
-    later)
+pub of_version : (P : ℕ → Type 0) (version : ℕ) (vs : List ℕ) → All P vs →
+    has_version version vs ≡ true → P version
+of_version P version [] all h = cc
+of_version P version (v ∷ vs) all h =
+    go (nat_eq v version) refl
+    (λ later. of_version P version vs (λ k d lt. all (suc k) d (omega arith)) later)
   where
-    go : (b : Bool) → nat_eq v SUPPORTED ≡ b → (has_supported vs ≡ true → P SUPPORTED) →
-        P SUPPORTED
-    go true is on = subst P (eqb-true v SUPPORTED is) (all 0 v (omega arith))
+    go : (b : Bool) → nat_eq v version ≡ b → (has_version version vs ≡ true → P version) →
+        P version
+    go true is on = subst P (eqb-true v version is) (all 0 v (omega arith))
     go false is on = on (rw is at h)
 
 -- what holds of a list, and of each that is longer
 pub record Grows (l m : Learnt) : Type 0 where
-  pub supported : has_supported l.versions ≡ true → has_supported m.versions ≡ true
+  pub version : (v : ℕ) → has_version v l.versions ≡ true → has_version v m.versions ≡ true
   pub read : l.versions ≢ [] → m.versions ≢ []
   pub none : l.no_info ≡ true → m.no_info ≡ true
 
 grows_same : (l : Learnt) → Grows l l
-grows_same l = record { supported = λ h. h; read = λ h. h; none = λ h. h }
+grows_same l = record { version = λ v h. h; read = λ h. h; none = λ h. h }
 
 pub not_empty : (v : ℕ) (vs : List ℕ) → v ∷ vs ≢ []
 not_empty v vs h = cc
 
 grows_by : (l : Learnt) (v : ℕ) → Grows l (record { no_info = l.no_info; versions = v ∷ l.versions })
 grows_by l v = record {
-  supported = λ h. or_right (nat_eq v SUPPORTED) (has_supported l.versions) h;
+  version = λ w h. or_right (nat_eq v w) (has_version w l.versions) h;
   read = λ h. not_empty v l.versions;
   none = λ h. h;
 }
@@ -84,7 +83,7 @@ grows_with l (Some info) = grows_by l info.version
 
 grows_info : (l : Learnt) (reply : Reply) → Grows l (learnt_of_info l reply)
 grows_info l (Got now content) = grows_with l (info_in content)
-grows_info l (Absent now) = record { supported = λ h. h; read = λ h. h; none = λ h. refl }
+grows_info l (Absent now) = record { version = λ v h. h; read = λ h. h; none = λ h. refl }
 grows_info l reply = grows_same l
 
 grows_old_if : (b : Bool) (versions : List ℕ) (reply : Reply) →

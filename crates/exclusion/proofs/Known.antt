@@ -18,9 +18,9 @@ use Rattle.lease.proofs.World.{World, happens, opening, run}
 use Rattle.upgrade_laws.specs.Target.{version_of}
 use Rattle.exclusion.specs.Exclusive.{AllKeepVersions}
 use Rattle.exclusion.specs.Learnt.{Learnt, learnt_from, learnt_of, nothing}
-use Rattle.exclusion.proofs.Growth.{learnt_from-append, of_supported}
+use Rattle.exclusion.proofs.Growth.{learnt_from-append, of_version}
 use Rattle.exclusion.proofs.Moved.{HasUnspent}
-use Rattle.exclusion.proofs.Own.{KeepsSupported, Knows, LandsKeeping, own_knows, other_knows}
+use Rattle.exclusion.proofs.Own.{KeepsTold, Knows, LandsKeeping, own_knows, other_knows}
 use Rattle.exclusion.proofs.Trees.{IsSo}
 use Rattle.exclusion.proofs.Places.{part-other, run-next, take_next, take_past}
 use Rattle.exclusion.proofs.Landed.{excludes_none, landed_begins, not_exclusive, session-other, session-own}
@@ -77,15 +77,17 @@ module _ (h : History) (honest : IsHonest h) (timely : IsTimely h) (keep : AllKe
   keeping : (place : ℕ) (s : Step) (call : Call) (stamp : ℕ) → KnowsAt place s.client →
       slice_get h.steps place ≡ Some s → landed_call s.happens ≡ Some call →
       is_guarded_call call ≡ true → phase_at s.client (take place h.steps) ≡ Held Sync stamp →
-      KeepsSupported (world place).tree call
+      KeepsTold (world place).tree call
   keeping place s call stamp knows here landed guarded held =
       let told = sync_told h versions place s call stamp here landed guarded held in
       let so = sync_so place s.client stamp knows (written place s call here landed guarded) held in
+      let read = (matched h versions place s.client).told told.version told.is in
       record {
+        version = told.version;
+        known = read.known;
         keeps = told.keeps;
-        at = of_supported (λ (v : ℕ). version_of (world place).tree ≡ Some v)
-            (learnt_of (part_at place s.client)).versions so.versions
-            ((matched h versions place s.client).told told.told);
+        at = of_version (λ (v : ℕ). version_of (world place).tree ≡ Some v) told.version
+            (learnt_of (part_at place s.client)).versions so.versions read.read;
       }
 
   -- ---- from a place to the next
@@ -104,7 +106,7 @@ module _ (h : History) (honest : IsHonest h) (timely : IsTimely h) (keep : AllKe
 
     sync_keeping : (call : Call) → landed_call s.happens ≡ Some call →
         is_guarded_call call ≡ true → (lease : HasLease (phase_at s.client (take place h.steps))) →
-        lease.kind ≡ Sync → KeepsSupported (world place).tree call
+        lease.kind ≡ Sync → KeepsTold (world place).tree call
     sync_keeping call landed guarded lease sync =
         keeping place s call lease.stamp (knows s.client) here landed guarded
         (subst (λ (k : LockKind). phase_at s.client (take place h.steps) ≡ Held k lease.stamp) sync

@@ -1,5 +1,5 @@
 -- What a call that lands says of its session: what it may be, and that no session begins by it.
-use Rattle.std.proofs.Common.{◌≡◌, ◌+◌, ◌∙◌, refl, ap, subst, arith, ℕ, List, [], ◌∷◌, ◌++◌, Bool, true, false, cond, Some}
+use Rattle.std.proofs.Common.{◌≡◌, ◌+◌, ◌∙◌, refl, ap, subst, arith, ℕ, List, [], ◌∷◌, ◌++◌, true, cond, Option, Some, None}
 use Rattle.std.specs.Prelude.{count_by}
 use Rattle.std.proofs.lemmas.Bool.{and_parts}
 use Rattle.std.proofs.lemmas.List.Sums.{sum_by-append}
@@ -38,22 +38,23 @@ pub sync_keeps : (client : List ℕ) (c : Course) (stamp : ℕ) (call : Call) �
 sync_keeps client c stamp call guarded phase allowed =
     rw (phase, guarded_plain client call guarded) at allowed
 
--- it is made by a session that was told the supported one
-pub record IsToldCall (is_told : Bool) (call : Call) : Type 0 where
-  pub told : is_told ≡ true
-  pub keeps : keeps_version true call ≡ true
+-- the session that makes it was told a version
+pub record IsToldCall (told : Option ℕ) (call : Call) : Type 0 where
+  pub version : ℕ
+  pub is : told ≡ Some version
+  pub keeps : keeps_version (Some version) call ≡ true
 
-pub told_call : (told : Bool) (call : Call) → is_guarded_call call ≡ true →
+pub told_call : (told : Option ℕ) (call : Call) → is_guarded_call call ≡ true →
     keeps_version told call ≡ true → IsToldCall told call
-told_call true call guarded h = record { told = refl; keeps = h }
-told_call false (Put InfoFile content) guarded h = cc
-told_call false (Put OldVersion content) guarded h = cc
-told_call false (Put path content) guarded h = cc
-told_call false (Delete InfoFile) guarded h = cc
-told_call false (Delete OldVersion) guarded h = cc
-told_call false (Delete path) guarded h = cc
-told_call false (PutBlob id len) guarded h = cc
-told_call false call guarded h = cc
+told_call (Some version) call guarded h = record { version = version; is = refl; keeps = h }
+told_call None (Put InfoFile content) guarded h = cc
+told_call None (Put OldVersion content) guarded h = cc
+told_call None (Put path content) guarded h = cc
+told_call None (Delete InfoFile) guarded h = cc
+told_call None (Delete OldVersion) guarded h = cc
+told_call None (Delete path) guarded h = cc
+told_call None (PutBlob id len) guarded h = cc
+told_call None call guarded h = cc
 
 pub excludes_none : (k l : LockKind) → ¬ (excludes k l ≡ true) → l ≡ Sync
 excludes_none Sync Sync n = refl

@@ -19,14 +19,14 @@ use Rattle.exclusion.specs.Exclusive.{AllKeepVersions, IsAsReadAt, IsExclusive, 
 use Rattle.exclusion.specs.Learnt.{Learnt, learnt_of}
 use Rattle.exclusion.proofs.Known.{IsUnwritten, knows_at, part_at, sync_so, world}
 use Rattle.exclusion.proofs.Sessions.{course_at, course_phase, matched, may_call, sync_told}
-use Rattle.exclusion.proofs.Growth.{has_supported, not_empty}
+use Rattle.exclusion.proofs.Growth.{has_version, not_empty}
 use Rattle.exclusion.proofs.Learning.{IsReadAt}
 use Rattle.exclusion.proofs.Places.{tree-run}
 use Rattle.exclusion.proofs.Trees.{IsSo}
 
-supported_read : (vs : List ℕ) → has_supported vs ≡ true → vs ≢ []
-supported_read [] h = cc
-supported_read (v ∷ vs) h = not_empty v vs
+version_read : (version : ℕ) (vs : List ℕ) → has_version version vs ≡ true → vs ≢ []
+version_read version [] h = cc
+version_read version (v ∷ vs) h = not_empty v vs
 
 -- an upgrade writes behind what it has read
 write_read : (s : Stage) (call : Call) (l : Learnt) → awaited s ≡ Some call →
@@ -61,8 +61,8 @@ module _ (h : History) (honest : IsHonest h) (timely : IsTimely h) (keep : AllKe
       ap (λ (c : List ℕ). phase_at c (take place h.steps)) write.by ∙ held in
       let told = sync_told h versions place s write.call stamp write.here
       write.landed write.guarded own in
-      let read = supported_read (learnt place s.client).versions
-      ((matched h versions place s.client).told told.told) in
+      let read = version_read told.version (learnt place s.client).versions
+      ((matched h versions place s.client).told told.version told.is).read in
       as_read place client
       (subst (λ (c : List ℕ). (learnt place c).versions ≢ []) write.by read)
       (sync_so h honest timely keep versions place client stamp

@@ -1,6 +1,8 @@
 -- What a session has read, beside what the monitor of its course says of it.
-use Rattle.std.proofs.Common.{◌≡◌, ◌≢◌, ◌∙◌, refl, sym, subst, ℕ, zero, suc, List, [], ◌∷◌, ◌++◌, Bool, true, false, ◌||◌, cond, nat_eq, Option, Some, None, option_map}
-use Rattle.std.proofs.lemmas.Bool.{and_from, and_parts, false≢true}
+use Rattle.std.proofs.Common.{◌≡◌, ◌≢◌, ◌∙◌, refl, sym, subst, ℕ, zero, suc, List, [], ◌∷◌, ◌++◌, Bool, true, false, cond, Option, Some, None, option_map, option_and_then}
+use Rattle.std.specs.Option.{option_or}
+use Rattle.std.proofs.lemmas.Bool.{and_from, and_parts, eq-eqb}
+use Rattle.std.proofs.lemmas.Option.{same_Some}
 use Rattle.jop_base.specs.declared.lock_name.LockKind.TheVariants.{Sync, Exclusive}
 use Rattle.jop_base.specs.declared.path.Path.TheVariants.{Info as InfoFile, OldVersion}
 use Rattle.jop_target.specs.declared.call.Call.{Call}
@@ -13,12 +15,12 @@ use Rattle.lease.specs.Idle.{is_work}
 use Rattle.lease.specs.Phase.{Phase, Held, role_of}
 use Rattle.sync_info.specs.Read.{info_in}
 use Rattle.sync_info.specs.declared.info.Info.{Info}
-use Rattle.target_upgrade.specs.Course.{Course, begun_course, is_allowed, is_supported, course_after, course_from, allowed_from, told_after, told_by, stage_by, stage_lost}
-use Rattle.target_upgrade.specs.Steps.{SUPPORTED, Stage, Reads, ReadsOld, At, Gets, Upgraded, Stuck, awaited, starts_from, starts_with, after_info, after_old, stage_after}
+use Rattle.target_upgrade.specs.Course.{Course, begun_course, is_allowed, is_known, if_known, known_in, course_after, course_from, allowed_from, told_after, told_by, stage_by, stage_lost}
+use Rattle.target_upgrade.specs.Steps.{Stage, Reads, ReadsOld, At, Gets, Upgraded, Stuck, awaited, starts_from, starts_with, after_info, after_old, stage_after}
 use Rattle.upgrade_laws.proofs.UnderWay.{is_under_way, under_way_on}
 use Rattle.upgrade_laws.proofs.Walked.{next_call, allowed_so_far}
 use Rattle.exclusion.specs.Learnt.{Learnt, nothing, with_info, learnt_of_info, learnt_of_old, learnt_by, learnt_after, learnt_from}
-use Rattle.exclusion.proofs.Growth.{Grows, grows, has_supported, not_empty}
+use Rattle.exclusion.proofs.Growth.{Grows, grows, has_version, not_empty}
 
 -- ---- the monitors beside each other
 
@@ -29,8 +31,17 @@ IsReadAt (At step info) l = l.versions ≢ []
 IsReadAt (Gets ids info) l = l.versions ≢ []
 IsReadAt stage l = Unit {0}
 
+-- some client may work at this version, and it was read
+pub record IsTold (version : ℕ) (versions : List ℕ) : Type 0 where
+  pub known : is_known version ≡ true
+  pub read : has_version version versions ≡ true
+
+-- the version that a session was told is such a one
+abbrev pub HasRead : Option ℕ → Learnt → Type 0
+HasRead told l = (version : ℕ) → told ≡ Some version → IsTold version l.versions
+
 pub record Matches (c : Course) (l : Learnt) : Type 0 where
-  pub told : c.told ≡ true → has_supported l.versions ≡ true
+  pub told : HasRead c.told l
   pub stage : IsReadAt c.stage l
 
 read_grows : (s : Stage) (l m : Learnt) → Grows l m → IsReadAt s l → IsReadAt s m
@@ -41,29 +52,47 @@ read_grows s l m g h = tt
 
 -- ---- a synchroniser is told
 
-or_told : (told is : Bool) (v : ℕ) (vs : List ℕ) → (told ≡ true → has_supported vs ≡ true) →
-    nat_eq v SUPPORTED ≡ is → (told || is) ≡ true → (is || has_supported vs) ≡ true
-or_told told true v vs h e k = refl
-or_told true false v vs h e k = h refl
-or_told false false v vs h e k = cc
+pub none_told : (l : Learnt) → HasRead None l
+none_told l version is = cc
 
-told_with : (told : Bool) (o : Option Info) (vs : List ℕ) →
-    (told ≡ true → has_supported vs ≡ true) →
-    (told || is_supported (option_map (λ (i : Info). i.version) o)) ≡ true →
-    has_supported (with_info o vs) ≡ true
-told_with true None vs h k = h refl
-told_with false None vs h k = cc
-told_with told (Some info) vs h k =
-    or_told told (nat_eq info.version SUPPORTED) info.version vs h refl k
+told_grows : (told : Option ℕ) (l m : Learnt) → Grows l m → HasRead told l → HasRead told m
+told_grows told l m g h version is = record {
+  known = (h version is).known;
+  read = g.version version (h version is).read;
+}
 
-told_next : (told : Bool) (l : Learnt) (call : Call) (reply : Reply) →
-    (told ≡ true → has_supported l.versions ≡ true) → told_after told call reply ≡ true →
-    has_supported (learnt_by l call reply).versions ≡ true
-told_next told l (Get InfoFile) (Got now content) h k =
-    told_with told (info_in content) l.versions h k
-told_next told l (Get InfoFile) (Absent now) h k = h k
-told_next told l (Get InfoFile) reply h k = h k
-told_next told l call reply h k = (grows l call reply).supported (h k)
+-- what is told of a version is that version, if it is known
+known_is : (v version : ℕ) → if_known v ≡ Some version → (is_known v ≡ true) × (v ≡ version)
+known_is v version h = go (is_known v) refl where
+  go : (b : Bool) → is_known v ≡ b → (is_known v ≡ true) × (v ≡ version)
+  go true is = (is, same_Some v version (rw is at h))
+  go false is = let none : None ≡ Some version = rw is at h in cc
+
+told_with : (o : Option Info) (vs : List ℕ) (version : ℕ) →
+    option_and_then if_known (option_map (λ (i : Info). i.version) o) ≡ Some version →
+    IsTold version (with_info o vs)
+told_with None vs version h = cc
+told_with (Some info) vs version h =
+    let parts = known_is info.version version h in
+    record {
+      known = subst (λ (v : ℕ). is_known v ≡ true) parts.1 parts.0;
+      read = rw (eq-eqb info.version version parts.1) refl;
+    }
+
+-- what was told before stays told where an info tells nothing
+told_last : (told last : Option ℕ) (l m : Learnt) → Grows l m → HasRead told l → HasRead last m →
+    HasRead (option_or last told) m
+told_last told None l m g before h = told_grows told l m g before
+told_last told (Some version) l m g before h = h
+
+told_next : (told : Option ℕ) (l : Learnt) (call : Call) (reply : Reply) → HasRead told l →
+    HasRead (told_after told call reply) (learnt_by l call reply)
+told_next told l (Get InfoFile) (Got now content) h =
+    let m = learnt_by l (Get InfoFile) (Got now content) in
+    told_last told (known_in content) l m (grows l (Get InfoFile) (Got now content)) h
+    (told_with (info_in content) l.versions)
+told_next told l call reply h =
+    told_grows told l (learnt_by l call reply) (grows l call reply) h
 
 -- ---- an upgrade makes its steps behind what it has read
 
@@ -129,26 +158,25 @@ next_read Stuck call reply l next h = cc
 still_matches : (c d : Course) (l m : Learnt) → d.told ≡ c.told → d.stage ≡ c.stage → Grows l m →
     Matches c l → Matches d m
 still_matches c d l m told stage g h = record {
-  told = λ k. g.supported (h.told (sym told ∙ k));
+  told = λ version is. told_grows c.told l m g h.told version (sym told ∙ is);
   stage = subst (λ (s : Stage). IsReadAt s m) (sym stage) (read_grows c.stage l m g h.stage);
 }
 
 -- a course that has come on to this
-abbrev Comes : Course → Learnt → Bool → Stage → Type 0
-Comes c l told stage =
-    (told ≡ true → has_supported l.versions ≡ true) × IsReadAt stage l
+abbrev Comes : Learnt → Option ℕ → Stage → Type 0
+Comes l told stage = HasRead told l × IsReadAt stage l
 
 worked : (c : Course) (p : Phase) (call : Call) (reply : Reply) (l : Learnt) → Matches c l →
     ((stamp : ℕ) → p ≡ Held Exclusive stamp → awaited c.stage ≡ Some call) →
-    Comes c (learnt_by l call reply) (told_by c p call reply) (stage_by c p reply)
+    Comes (learnt_by l call reply) (told_by c p call reply) (stage_by c p reply)
 worked c (Held Sync stamp) call reply l h next =
-    (λ k. told_next c.told l call reply h.told k, read_grows c.stage l _ (grows l call reply) h.stage)
+    (told_next c.told l call reply h.told, read_grows c.stage l _ (grows l call reply) h.stage)
 worked c (Held Exclusive stamp) call reply l h next = (
-  λ k. (grows l call reply).supported (h.told k),
+  told_grows c.told l (learnt_by l call reply) (grows l call reply) h.told,
   next_read c.stage call reply l (next stamp refl) h.stage,
 )
 worked c p call reply l h next = (
-  λ k. (grows l call reply).supported (h.told k),
+  told_grows c.told l (learnt_by l call reply) (grows l call reply) h.told,
   read_grows c.stage l _ (grows l call reply) h.stage,
 )
 
@@ -166,7 +194,7 @@ matches_called client c call reply l h allowed =
     go true work =
         let both = worked c c.lease.phase call reply l h
         (λ stamp phase. (next_call client c call stamp phase work allowed).next) in
-        record { told = λ k. both.0 (rw work at k); stage = rw work both.1 }
+        record { told = rw work both.0; stage = rw work both.1 }
 
 lost_read : (c : Course) (p : Phase) (l : Learnt) → IsReadAt c.stage l →
     IsReadAt (stage_lost c p) l
@@ -180,7 +208,7 @@ lost_if c p l false h = h
 
 matches_after : (client : List ℕ) (c : Course) (e : Event) (l : Learnt) → Matches c l →
     (course_after client c e).lawful ≡ true → Matches (course_after client c e) (learnt_after l e)
-matches_after client c Began l h lawful = record { told = λ k. absurd (false≢true k); stage = tt }
+matches_after client c Began l h lawful = record { told = none_told nothing; stage = tt }
 matches_after client c (Sent call) l h lawful = record {
   told = h.told;
   stage = lost_if c c.lease.phase l (is_work c.lease.phase (role_of client call)) h.stage;
@@ -196,7 +224,7 @@ unfolding allowed_from course_from learnt_from
 matches_from client c l [] h allowed = h
 matches_from client c l (Began ∷ es) h allowed =
     matches_from client begun_course nothing es
-    (record { told = λ k. absurd (false≢true k); stage = tt })
+    (record { told = none_told nothing; stage = tt })
     (and_parts c.lawful (allowed_from client begun_course es) allowed).1
 matches_from client c l (e ∷ es) h allowed =
     matches_from client (course_after client c e) (learnt_after l e) es

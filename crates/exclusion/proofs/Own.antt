@@ -16,8 +16,7 @@ use Rattle.lease.specs.Phase.{Phase}
 use Rattle.lease.proofs.Invariant.{IsSpent, no_kind}
 use Rattle.lease.proofs.Moves.{Move, kind_held}
 use Rattle.lease.proofs.World.{landed_allowed, turn}
-use Rattle.target_upgrade.specs.Course.{keeps_version}
-use Rattle.target_upgrade.specs.Steps.{SUPPORTED}
+use Rattle.target_upgrade.specs.Course.{is_known, keeps_version}
 use Rattle.upgrade_laws.specs.Target.{version_of}
 use Rattle.exclusion.specs.Learnt.{Learnt, nothing, learnt_of_old, learnt_by, learnt_from}
 use Rattle.exclusion.proofs.Growth.{leaseless_learns}
@@ -34,23 +33,27 @@ pub record Knows (t : Tree) (now : ℕ) (client : List ℕ) (p : Phase) (l : Lea
   pub early : IsEarly p → l ≡ nothing
   pub so : (k : LockKind) → HasUnspent t.files now client p k → Reliable k → IsSo t l
 
--- a call that keeps the version, on a tree that has the supported one
-pub record KeepsSupported (t : Tree) (call : Call) : Type 0 where
-  pub keeps : keeps_version true call ≡ true
-  pub at : version_of t ≡ Some SUPPORTED
+-- the tree has the version that the call's session was told, and the call keeps it
+pub record KeepsTold (t : Tree) (call : Call) : Type 0 where
+  pub version : ℕ
+  pub known : is_known version ≡ true
+  pub keeps : keeps_version (Some version) call ≡ true
+  pub at : version_of t ≡ Some version
 
 -- ---- the tree after a step
 
 changed_by : (t : Tree) (m : ℕ) (call : Call) (l : Learnt) (guarded : Bool) →
-    is_guarded_call call ≡ guarded → (guarded ≡ true → KeepsSupported t call) → IsSo t l →
+    is_guarded_call call ≡ guarded → (guarded ≡ true → KeepsTold t call) → IsSo t l →
     IsSo (tree_after t m call) l
 changed_by t m call l false is keeps so = so_unguarded t m call l is so
-changed_by t m call l true is keeps so = so_kept t m call l (keeps refl).keeps (keeps refl).at so
+changed_by t m call l true is keeps so =
+    let k = keeps refl in
+    so_kept t m call l k.version k.known k.keeps k.at so
 
--- what lands is no write, or keeps the supported version
+-- what lands is no write, or keeps the version
 abbrev pub LandsKeeping : Tree → Option Call → Type 0
 LandsKeeping t o =
-    (call : Call) → o ≡ Some call → is_guarded_call call ≡ true → KeepsSupported t call
+    (call : Call) → o ≡ Some call → is_guarded_call call ≡ true → KeepsTold t call
 
 changed : (t : Tree) (m : ℕ) (o : Option Call) (l : Learnt) → LandsKeeping t o → IsSo t l →
     IsSo (tree_with t m o) l

@@ -2,7 +2,6 @@
 -- and that it has read what its course goes by.
 use Rattle.std.proofs.Common.{◌≡◌, ◌∙◌, sym, ap, ℕ, suc, List, ◌++◌, drop, true, Some}
 use Rattle.std.specs.Prelude.{take, slice_get}
-use Rattle.std.proofs.lemmas.Bool.{false≢true}
 use Rattle.jop_base.specs.declared.lock_name.LockKind.TheVariants.{Sync}
 use Rattle.jop_target.specs.History.{History, Step, is_guarded_call, landed_call, noted, part_of}
 use Rattle.jop_target.specs.declared.call.Call.{Call}
@@ -14,7 +13,7 @@ use Rattle.target_upgrade.specs.Course.{Course, allowed_from, course_of, is_allo
 use Rattle.target_upgrade.proofs.Courses.{lease-is}
 use Rattle.exclusion.specs.Exclusive.{AllKeepVersions}
 use Rattle.exclusion.specs.Learnt.{learnt_of, nothing}
-use Rattle.exclusion.proofs.Learning.{Matches, allowed_from-append, matches_from}
+use Rattle.exclusion.proofs.Learning.{Matches, allowed_from-append, matches_from, none_told}
 use Rattle.exclusion.proofs.Places.{part-front, part-own, take_next}
 use Rattle.exclusion.proofs.Landed.{IsToldCall, landed_may, sync_keeps, told_call}
 
@@ -43,7 +42,7 @@ module _ (h : History) (versions : AllKeepVersions h) where
       Matches (course_at place client) (learnt_of (part_at place client))
   matched place client =
       matches_from client outside_course nothing (part_at place client)
-      (record { told = λ k. absurd (false≢true k); stage = tt }) (front place client).0
+      (record { told = none_told nothing; stage = tt }) (front place client).0
 
   pub part-next : (place : ℕ) (s : Step) → slice_get h.steps place ≡ Some s →
       part_at (suc place) s.client ≡ part_at place s.client ++ noted s.happens

@@ -1,6 +1,6 @@
 -- What calls do to the two files that tell the version of a tree, and so to what a session has read
 -- of it.
-use Rattle.std.proofs.Common.{◌≡◌, ◌∙◌, refl, sym, ap, arith, ℕ, List, ◌∷◌, length, Bool, true, false, not, cond, nat_lt, Option, Some, None, option_map}
+use Rattle.std.proofs.Common.{◌≡◌, ◌≤◌, ◌∙◌, refl, sym, ap, arith, ℕ, zero, suc, List, ◌∷◌, length, Bool, true, false, not, cond, nat_lt, Option, Some, None, option_map}
 use Rattle.std.specs.Prelude.{All}
 use Rattle.std.proofs.lemmas.Bool.{false≢true, eqb-true}
 use Rattle.std.proofs.lemmas.List.Elements.{All-nil, All-cons}
@@ -19,8 +19,7 @@ use Rattle.jop_target.specs.declared.tree.Tree.{Tree}
 use Rattle.jop_target.proofs.Files.{file_at-put, file_at-other_put, file_at-other_delete}
 use Rattle.sync_info.specs.Read.{info_in}
 use Rattle.sync_info.specs.declared.info.Info.{Info}
-use Rattle.target_upgrade.specs.Course.{is_supported, is_current, keeps_version}
-use Rattle.target_upgrade.specs.Steps.{SUPPORTED}
+use Rattle.target_upgrade.specs.Course.{is_info_at, is_known, is_version, keeps_version, version_in}
 use Rattle.upgrade_laws.specs.Target.{info_by, info_of, info_within, version_of}
 use Rattle.upgrade_laws.proofs.Files.{differs, heads_apart, seconds_apart, info_no_item, old_no_item, lock_apart, is_version_file}
 use Rattle.exclusion.specs.Learnt.{Learnt, nothing, with_info, learnt_of_info, learnt_of_old, learnt_by}
@@ -125,62 +124,67 @@ so_unguarded t m call l h so =
 
 -- ---- a synchroniser's writes
 
-supported_is : (o : Option ℕ) → is_supported o ≡ true → o ≡ Some SUPPORTED
-supported_is None h = cc
-supported_is (Some version) h = ap Some (eqb-true version SUPPORTED h)
+version_is : (version : ℕ) (o : Option ℕ) → is_version version o ≡ true → o ≡ Some version
+version_is version None h = cc
+version_is version (Some found) h = ap Some (eqb-true found version h)
 
-put_info : (t : Tree) (m : ℕ) (content : List ℕ) → is_current content ≡ true →
-    version_of (tree_after t m (Put InfoFile content)) ≡ Some SUPPORTED
+put_info : (t : Tree) (m : ℕ) (version : ℕ) (content : List ℕ) →
+    is_info_at version content ≡ true →
+    version_of (tree_after t m (Put InfoFile content)) ≡ Some version
 unfolding tree_after info_of
-put_info t m content h =
+put_info t m version content h =
     let f : File = record { path = InfoFile; content = Whole content; stamp = m } in
-    rw (file_at-put t.files f)
-    (supported_is (option_map (λ (i : Info). i.version) (info_in content)) h)
+    rw (file_at-put t.files f) (version_is version (version_in content) h)
 
-apart_supported : (t : Tree) (m : ℕ) (call : Call) → is_apart call ≡ true →
-    version_of t ≡ Some SUPPORTED → version_of (tree_after t m call) ≡ Some SUPPORTED
-apart_supported t m call h is =
+apart_at : (t : Tree) (m : ℕ) (version : ℕ) (call : Call) → is_apart call ≡ true →
+    version_of t ≡ Some version → version_of (tree_after t m call) ≡ Some version
+apart_at t m version call h is =
     version_same t (tree_after t m call) (same_files t m call h) ∙ is
 
--- a call that keeps the version keeps the supported one
-keeps_supported : (t : Tree) (m : ℕ) (call : Call) → keeps_version true call ≡ true →
-    version_of t ≡ Some SUPPORTED → version_of (tree_after t m call) ≡ Some SUPPORTED
-keeps_supported t m (Put InfoFile content) h is = put_info t m content h
-keeps_supported t m (Put OldVersion content) h is = cc
-keeps_supported t m (Put (Item id) content) h is =
-    apart_supported t m (Put (Item id) content) refl is
-keeps_supported t m (Put (Blob id) content) h is =
-    apart_supported t m (Put (Blob id) content) refl is
-keeps_supported t m (Put (LockFile name) content) h is =
-    apart_supported t m (Put (LockFile name) content) refl is
-keeps_supported t m (Put (TempFile id) content) h is =
-    apart_supported t m (Put (TempFile id) content) refl is
-keeps_supported t m (Delete InfoFile) h is = cc
-keeps_supported t m (Delete OldVersion) h is = cc
-keeps_supported t m (Delete (Item id)) h is = apart_supported t m (Delete (Item id)) refl is
-keeps_supported t m (Delete (Blob id)) h is = apart_supported t m (Delete (Blob id)) refl is
-keeps_supported t m (Delete (LockFile name)) h is =
-    apart_supported t m (Delete (LockFile name)) refl is
-keeps_supported t m (Delete (TempFile id)) h is =
-    apart_supported t m (Delete (TempFile id)) refl is
-keeps_supported t m call h is = apart_supported t m call refl is
+-- a call that keeps a version leaves it to a tree that has it
+keeps_at : (t : Tree) (m : ℕ) (version : ℕ) (call : Call) →
+    keeps_version (Some version) call ≡ true → version_of t ≡ Some version →
+    version_of (tree_after t m call) ≡ Some version
+keeps_at t m v (Put InfoFile content) h is = put_info t m v content h
+keeps_at t m v (Put OldVersion content) h is = cc
+keeps_at t m v (Put (Item id) content) h is = apart_at t m v (Put (Item id) content) refl is
+keeps_at t m v (Put (Blob id) content) h is = apart_at t m v (Put (Blob id) content) refl is
+keeps_at t m v (Put (LockFile name) content) h is =
+    apart_at t m v (Put (LockFile name) content) refl is
+keeps_at t m v (Put (TempFile id) content) h is =
+    apart_at t m v (Put (TempFile id) content) refl is
+keeps_at t m v (Delete InfoFile) h is = cc
+keeps_at t m v (Delete OldVersion) h is = cc
+keeps_at t m v (Delete (Item id)) h is = apart_at t m v (Delete (Item id)) refl is
+keeps_at t m v (Delete (Blob id)) h is = apart_at t m v (Delete (Blob id)) refl is
+keeps_at t m v (Delete (LockFile name)) h is = apart_at t m v (Delete (LockFile name)) refl is
+keeps_at t m v (Delete (TempFile id)) h is = apart_at t m v (Delete (TempFile id)) refl is
+keeps_at t m v call h is = apart_at t m v call refl is
 
--- without `info.json` no tree has the supported version
-none_old : (o : Option File) →
-    option_map (λ (i : Info). i.version) (info_by None o) ≡ Some SUPPORTED → ⊥
-none_old None h = let e = same_Some _ _ h in omega (arith, e)
-none_old (Some f) h = let e = same_Some _ _ h in omega (arith, e)
+-- a version at which some client may work is told by `info.json` alone
+known_past : (version : ℕ) → is_known version ≡ true → 2 ≤ version
+known_past zero h = cc
+known_past (suc zero) h = cc
+known_past (suc (suc version)) h = omega arith
 
-not_old : (t : Tree) → file_at t.files InfoFile ≡ None → version_of t ≡ Some SUPPORTED → ⊥
+none_old : (o : Option File) (version : ℕ) → 2 ≤ version →
+    option_map (λ (i : Info). i.version) (info_by None o) ≡ Some version → ⊥
+none_old None version past h = let e = same_Some _ _ h in omega (arith, e)
+none_old (Some f) version past h = let e = same_Some _ _ h in omega (arith, e)
+
+not_old : (t : Tree) (version : ℕ) → file_at t.files InfoFile ≡ None →
+    is_known version ≡ true → version_of t ≡ Some version → ⊥
 unfolding info_of
-not_old t none is = none_old (file_at t.files OldVersion) (rw none at is)
+not_old t version none known is =
+    none_old (file_at t.files OldVersion) version (known_past version known) (rw none at is)
 
 -- what was read stays so
-pub so_kept : (t : Tree) (m : ℕ) (call : Call) (l : Learnt) → keeps_version true call ≡ true →
-    version_of t ≡ Some SUPPORTED → IsSo t l → IsSo (tree_after t m call) l
-so_kept t m call l h is so = record {
-  none = λ told. absurd (not_old t (so.none told) is);
-  versions = λ k d lt. keeps_supported t m call h is ∙ (sym is ∙ so.versions k d lt);
+pub so_kept : (t : Tree) (m : ℕ) (call : Call) (l : Learnt) (version : ℕ) →
+    is_known version ≡ true → keeps_version (Some version) call ≡ true →
+    version_of t ≡ Some version → IsSo t l → IsSo (tree_after t m call) l
+so_kept t m call l version known h is so = record {
+  none = λ told. absurd (not_old t version (so.none told) known is);
+  versions = λ k d lt. keeps_at t m version call h is ∙ (sym is ∙ so.versions k d lt);
 }
 
 -- ---- reading

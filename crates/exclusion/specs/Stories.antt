@@ -1,5 +1,5 @@
--- Histories that are written out: one client upgrades a target between the syncs of two others, and
--- one begins an upgrade again that another was stopped in.
+-- Histories that are written out: one client upgrades a target between the syncs of two others, one
+-- syncs at version 4, and one begins an upgrade again that another was stopped in.
 use Rattle.std.specs.Prelude.{ℕ, List, [], ◌∷◌, codes}
 use Rattle.jop_base.specs.declared.dir.Dir.{Dir}
 use Rattle.jop_base.specs.declared.dir.Dir.TheVariants.{Root, Resources, OldSync, Locks, Temp}
@@ -84,16 +84,16 @@ upgrades_it rest =
     ∷ ends one 23
     ∷ rest
 
--- the third client finds version 3, and puts an item and the info
-abbrev pub writes_to_it : List Step → List Step
-writes_to_it rest =
+-- the third client finds this version, and puts an item and the info
+abbrev pub writes_at : ℕ → List Step → List Step
+writes_at version rest =
     begins three 30
     ∷ lists_locks three 31 []
     ∷ puts_lock three 32 Sync
     ∷ lists_locks three 33 (shown Sync three 32 ∷ [])
-    ∷ gets three 34 InfoFile (info_at 3)
+    ∷ gets three 34 InfoFile (info_at version)
     ∷ puts_empty three 35 (Item three)
-    ∷ puts three 36 InfoFile (info_at 3)
+    ∷ puts three 36 InfoFile (info_at version)
     ∷ deletes_lock three 37 Sync
     ∷ ends three 37
     ∷ rest
@@ -104,7 +104,18 @@ between_syncs = record {
     files = record { path = OldVersion; content = Whole (codes "1"); stamp = 0 } ∷ [];
     folders = [];
   };
-  steps = finds_it_older (upgrades_it (writes_to_it []));
+  steps = finds_it_older (upgrades_it (writes_at 3 []));
+}
+
+-- ---- a sync at version 4
+
+abbrev pub at_version_four : History
+at_version_four = record {
+  opening = record {
+    files = record { path = InfoFile; content = Whole (info_at 4); stamp = 0 } ∷ [];
+    folders = [];
+  };
+  steps = writes_at 4 [];
 }
 
 -- ---- an upgrade that is stopped, and begun again

@@ -3,7 +3,7 @@
 
 ghost use Rattle.std.specs.Prelude.{ℕ, List};
 ghost use Rattle.exclusion.specs.Exclusive.{AllKeepVersions, IsExclusive, KeepsExclusive};
-ghost use Rattle.exclusion.specs.Stories.{HasSync, begun_again, between_syncs, three};
+ghost use Rattle.exclusion.specs.Stories.{HasSync, at_version_four, begun_again, between_syncs, three};
 ghost use Rattle.jop_target.specs.History.{History, IsHonest};
 ghost use Rattle.jop_target.specs.declared.event.Event.{Event};
 ghost use Rattle.lease.specs.Discipline.{KeepsLocks};
@@ -35,6 +35,15 @@ pub fn can_upgrade_between_syncs()
     ensures versions { AllKeepVersions between_syncs }
     ensures upgrade { HasUpgrade between_syncs }
     ensures sync { HasSync between_syncs three }
+{}
+
+/// So does one in which a client finds version 4, and puts an item and an `info.json` of that version.
+pub fn can_sync_at_version_four()
+    ensures honest { IsHonest at_version_four }
+    ensures timely { IsTimely at_version_four }
+    ensures locks { AllKeepLocks at_version_four }
+    ensures versions { AllKeepVersions at_version_four }
+    ensures sync { HasSync at_version_four three }
 {}
 
 /// So does one in which a client is stopped while it upgrades a new target, and another begins

@@ -8,4 +8,4 @@
 
 mod laws;
 
-pub use laws::{can_begin_again, can_upgrade_between_syncs, exclusive};
+pub use laws::{can_begin_again, can_sync_at_version_four, can_upgrade_between_syncs, exclusive};

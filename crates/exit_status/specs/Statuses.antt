@@ -4,6 +4,7 @@ use Rattle.std.specs.Fmt.{decimal}
 use Rattle.jop_base.specs.LockNames.{file_name}
 use Rattle.item_text.specs.declared.bad_item.BadWhy.{BadWhy}
 use Rattle.item_text.specs.declared.bad_item.BadWhy.TheVariants.{NotText, NoColon, NoType, TypeValue}
+use Rattle.target_upgrade.specs.Steps.{SUPPORTED}
 use Rattle.exit_status.specs.declared.status.Status.{Status}
 use Rattle.exit_status.specs.declared.status.Status.TheVariants as statuses
 
@@ -29,6 +30,11 @@ why_text NoColon = codes "no colon"
 why_text NoType = codes "no type"
 why_text TypeValue = codes "type value"
 
+-- the version of a target, and how it stands to the one of this program
+abbrev pub version_text : ℕ → List ℕ → List ℕ
+version_text version stands =
+    codes "target version " ++ (decimal version ++ (stands ++ decimal SUPPORTED))
+
 abbrev pub row_of : Status → Row
 row_of statuses.Ok = row 0 []
 row_of statuses.Usage = row 2 usage_line
@@ -36,9 +42,9 @@ row_of (statuses.Busy lock now) =
     row 3 (line_of (codes "busy " ++ (file_name lock.name ++ (codes " " ++ decimal lock.stamp))))
 row_of (statuses.LeaseLost seen) = row 4 (line_of (codes "lease lost"))
 row_of (statuses.TargetOlder version) =
-    row 5 (line_of (codes "target version " ++ (decimal version ++ codes " is older than 3")))
+    row 5 (line_of (version_text version (codes " is older than ")))
 row_of (statuses.TargetNewer version) =
-    row 6 (line_of (codes "target version " ++ (decimal version ++ codes " is newer than 3")))
+    row 6 (line_of (version_text version (codes " is newer than ")))
 row_of statuses.BadInfo = row 7 (line_of (codes "info.json is not readable"))
 row_of (statuses.FailSafe count) =
     row 8 (line_of (codes "no items on the target, " ++ (decimal count ++ codes " kept here")))

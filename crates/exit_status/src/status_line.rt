@@ -3,13 +3,14 @@ ghost use Rattle.std.specs.Fmt.{decimal};
 ghost use Rattle.jop_base.specs.LockNames.{file_name};
 ghost use Rattle.jop_outside.specs.Writing.{WritesAll};
 ghost use Rattle.exit_status.specs.Reports.{Reports};
-ghost use Rattle.exit_status.specs.Statuses.{line_of, row_of, why_text};
+ghost use Rattle.exit_status.specs.Statuses.{line_of, row_of, version_text, why_text};
 
 use crate::piece::{Piece, write_pieces};
 use crate::status::Status;
 use item_text::BadWhy;
 use jop_base::{Id, LockName};
 use jop_outside::{Failed, Sink};
+use target_upgrade::SUPPORTED;
 
 /// How the program is called: the line of `Usage`, and what `help` prints.
 pub const USAGE_LINE: &str = "usage: jop [--profile PATH] COMMAND\n";
@@ -31,12 +32,8 @@ fn write_line<E: Sink>(err: &mut E, status: &Status) -> Result<(), Failed>
         Status::Usage => write_pieces(err, &[Piece::Word(USAGE_LINE)]),
         Status::Busy { lock, now: _ } => write_busy(err, lock.name, lock.stamp),
         Status::LeaseLost(_) => write_word(err, "lease lost"),
-        Status::TargetOlder(version) => {
-            write_within(err, "target version ", *version, " is older than 3")
-        }
-        Status::TargetNewer(version) => {
-            write_within(err, "target version ", *version, " is newer than 3")
-        }
+        Status::TargetOlder(version) => write_version(err, *version, " is older than "),
+        Status::TargetNewer(version) => write_version(err, *version, " is newer than "),
         Status::BadInfo => write_word(err, "info.json is not readable"),
         Status::FailSafe(count) => {
             write_within(err, "no items on the target, ", *count, " kept here")
@@ -83,6 +80,23 @@ fn write_id<E: Sink>(err: &mut E, word: &str, id: Id) -> Result<(), Failed>
     ensures { WritesAll (E.state err.old) (line_of (word.now ++ id)) result (E.state err.new) }
 {
     write_pieces(err, &[Piece::Word(word), Piece::Id(id), Piece::Word("\n")])
+}
+
+/// Writes the version of a target, and how it stands to the one of this program.
+fn write_version<E: Sink>(err: &mut E, version: u64, stands: &str) -> Result<(), Failed>
+    ensures { WritesAll (E.state err.old) (line_of (version_text version stands.now)) result
+        (E.state err.new) }
+{
+    write_pieces(
+        err,
+        &[
+            Piece::Word("target version "),
+            Piece::Number(version),
+            Piece::Word(stands),
+            Piece::Number(SUPPORTED),
+            Piece::Word("\n"),
+        ],
+    )
 }
 
 /// Writes a number between two words.

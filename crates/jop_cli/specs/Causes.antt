@@ -156,12 +156,12 @@ pub record HasLeft (Had : List Heard → Type 0) (kind : LockKind) (client : Lis
 abbrev pub HasLeftBehind : Option Verb → KeeperNow → List Event → (List Heard → Type 0) → Type 0
 HasLeftBehind verb keeper trail Had = HasEnded verb keeper trail (HasLeft Had)
 
--- the target was found to have this version, which is older than 3
+-- the target was found to have this version, which is older than the supported one
 abbrev pub HasReadOlder : Option Verb → KeeperNow → List Event → ℕ → Type 0
 HasReadOlder verb keeper trail version =
     (version < SUPPORTED) × HasLeftBehind verb keeper trail (HasFound version)
 
--- or newer than 3
+-- or newer than that
 abbrev pub HasReadNewer : Option Verb → KeeperNow → List Event → ℕ → Type 0
 HasReadNewer verb keeper trail version =
     (SUPPORTED < version) × HasLeftBehind verb keeper trail (HasFound version)

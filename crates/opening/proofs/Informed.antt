@@ -1,5 +1,5 @@
 -- A session that has got an info of the supported version is told of it.
-use Rattle.std.specs.Prelude.{ℕ, ◌≡◌, ◌||◌, List, Bool, true, false, if◌then◌else◌, Option, Some, nat_eq, option_map, refl}
+use Rattle.std.specs.Prelude.{ℕ, ◌≡◌, List, true, if◌then◌else◌, Option, Some, nat_eq, option_and_then, option_map}
 use Rattle.std.proofs.Common.{◌∙◌, sym, ap}
 use Rattle.desk.specs.Desks.{DeskNow}
 use Rattle.jop_base.specs.declared.lock_name.LockKind.{LockKind}
@@ -18,15 +18,21 @@ use Rattle.session_steps.specs.Asking.{IsAnswered}
 use Rattle.sync_info.specs.Read.{info_in}
 use Rattle.sync_info.specs.declared.info.Info.{Info}
 use Rattle.target_upgrade.proofs.Courses.{course_from-last, lease-is}
-use Rattle.target_upgrade.specs.Course.{Course, course_after, course_of, is_current, is_supported, outside_course}
+use Rattle.target_upgrade.specs.Course.{Course, course_after, course_of, if_known, is_info_at, is_version, known_in, outside_course}
 use Rattle.target_upgrade.specs.Reading.{Gives}
 use Rattle.target_upgrade.specs.Steps.{SUPPORTED}
 
-pub current : (content : List ℕ) (info : Info) → info_in content ≡ Some info
-    → info.version ≡ SUPPORTED → is_current content ≡ true
-current content info holds version =
-    ap (λ (o : Option Info). is_supported (option_map (λ (i : Info). i.version) o)) holds
+pub is_info_at-supported : (content : List ℕ) (info : Info) → info_in content ≡ Some info
+    → info.version ≡ SUPPORTED → is_info_at SUPPORTED content ≡ true
+is_info_at-supported content info holds version =
+    ap (λ (o : Option Info). is_version SUPPORTED (option_map (λ (i : Info). i.version) o)) holds
     ∙ ap (λ (n : ℕ). nat_eq n SUPPORTED) version
+
+known_in-supported : (content : List ℕ) (info : Info) → info_in content ≡ Some info
+    → info.version ≡ SUPPORTED → known_in content ≡ Some SUPPORTED
+known_in-supported content info holds version =
+    ap (λ (o : Option Info). option_and_then if_known (option_map (λ (i : Info). i.version) o)) holds
+    ∙ ap if_known version
 
 -- a call that isn't of the lease's own leaves a lease that was held before it
 was_held : (client : List ℕ) (p : Phase) (kind : LockKind) (stamp : ℕ) (reply : Reply)
@@ -36,20 +42,16 @@ was_held client (Held own at) kind stamp Failed is = absurd cc
 was_held client (Held own at) kind stamp reply is = is
 was_held client p kind stamp reply is = absurd cc
 
-or_true : (b : Bool) → (b || true) ≡ true
-or_true true = refl
-or_true false = refl
-
 told_now : (client : List ℕ) (c : Course) (stamp now : ℕ) (content : List ℕ)
-    → c.lease.phase ≡ Held Sync stamp → is_current content ≡ true
-    → (course_after client c (Called (Get InfoFile) (Got now content))).told ≡ true
-told_now client c stamp now content phase is = rw (phase, is) (or_true c.told)
+    → c.lease.phase ≡ Held Sync stamp → known_in content ≡ Some SUPPORTED
+    → (course_after client c (Called (Get InfoFile) (Got now content))).told ≡ Some SUPPORTED
+told_now client c stamp now content phase is = rw (phase, is)
 
 by_reply : (client : List ℕ) (c : Course) (stamp : ℕ) (info : Info) (reply : Reply)
     → c.lease.phase ≡ Held Sync stamp → Gives info reply → info.version ≡ SUPPORTED
-    → (course_after client c (Called (Get InfoFile) reply)).told ≡ true
+    → (course_after client c (Called (Get InfoFile) reply)).told ≡ Some SUPPORTED
 by_reply client c stamp info (Got now content) phase gives version =
-    told_now client c stamp now content phase (current content info gives version)
+    told_now client c stamp now content phase (known_in-supported content info gives version)
 by_reply client c stamp info (Listed listing) phase gives version = absurd gives
 by_reply client c stamp info (GotBlob now len) phase gives version = absurd gives
 by_reply client c stamp info (Absent now) phase gives version = absurd gives

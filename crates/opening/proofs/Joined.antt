@@ -19,7 +19,7 @@ use Rattle.licences.specs.Views.{Heard, Shown}
 use Rattle.local_store.specs.declared.change.Change.TheVariants.{InfoIs}
 use Rattle.opening.proofs.Going.{went_ends, went_up}
 use Rattle.opening.proofs.Merging.{merges_none, merges_on, merges_put, puts_text}
-use Rattle.opening.specs.Opening.{Joins, MergesBetween, PutsInfo, PutsNoItem, SetsInfo, is_opening}
+use Rattle.opening.specs.Opening.{Joins, MergesBetween, PutsInfo, PutsNoItem, SetsInfo, is_joining}
 use Rattle.session_steps.proofs.Ending.{does_as, does_nothing, ends_as, ends_then}
 use Rattle.session_steps.specs.Asking.{IsAnswered, IsHeardBy}
 use Rattle.session_steps.specs.Doing.{Does, Ends, GivesUp, Went}
@@ -163,19 +163,19 @@ may_set info remote own d shown read merge is other = record {
 -- ---- both
 
 pub joins : (info remote : Info) (a b c : WorkNow) (result : Result (Unit {0}) StepErr)
-    → info ≡ merged a.desk.tables.info remote → Does (PutsInfo info remote) is_opening a b
-    → Ends (SetsInfo info) is_opening b result c → Ends (Joins remote) is_opening a result c
+    → info ≡ merged a.desk.tables.info remote → Does (PutsInfo info remote) is_joining a b
+    → Ends (SetsInfo info) is_joining b result c → Ends (Joins remote) is_joining a result c
 joins info remote a b c result merge h k =
-    ends_as (Then (PutsInfo info remote) (SetsInfo info)) (Joins remote) is_opening a c result
+    ends_as (Then (PutsInfo info remote) (SetsInfo info)) (Joins remote) is_joining a c result
     (λ shown ds. subst (λ (x : Info).
     Then (PutsInfo x remote) (SetsInfo x) (view_of shown a.desk) ds) merge)
-    (ends_then (PutsInfo info remote) (SetsInfo info) is_opening a b c result h k)
+    (ends_then (PutsInfo info remote) (SetsInfo info) is_joining a b c result h k)
 
 pub joins_merging : (info remote : Info) (a b c : WorkNow) (result : Result (Unit {0}) StepErr)
-    → Does (PutsInfo info remote) is_opening a b
+    → Does (PutsInfo info remote) is_joining a b
     → ((sort : Call → Bool) → Ends (SetsInfo info) sort b result c)
     → MergesBetween a.desk b.desk → MergesBetween a.desk c.desk
 joins_merging info remote a b c result h k first =
-    merges_on (PutsInfo info remote) is_opening a b c h
-    (went_ends (SetsInfo info) is_opening b c result (k is_opening)) first
+    merges_on (PutsInfo info remote) is_joining a b c h
+    (went_ends (SetsInfo info) is_joining b c result (k is_joining)) first
     (merges_none none b c (λ content. refl) (went_ends (SetsInfo info) none b c result (k none)))

@@ -10,20 +10,20 @@ use Rattle.jop_target.specs.declared.call.Call.TheVariants.{Get, Put, Delete, Ma
 use Rattle.jop_target.specs.declared.event.Event.{Event}
 use Rattle.jop_target.specs.declared.event.Event.TheVariants.{Began, Sent, Called, Made, Ended}
 use Rattle.jop_target.specs.declared.reply.Reply.{Reply}
-use Rattle.jop_target.specs.declared.reply.Reply.TheVariants.{Listed, Got, Done, Failed}
+use Rattle.jop_target.specs.declared.reply.Reply.TheVariants.{Listed, Done, Failed}
 use Rattle.lease.specs.Discipline.{Session}
 use Rattle.lease.specs.Idle.{is_work}
 use Rattle.lease.specs.Locks.{same_kind}
 use Rattle.lease.specs.Phase.{Phase, Held, Renewing, Leaving, Over, Broken, Role, MakesLocks, ListsLocks, PutsOwn, DeletesOwn, Plain, Foreign, allows, heard, listed_phase, role_of}
 use Rattle.lease.specs.Standing.{IsHeld}
 use Rattle.licences.specs.Deeds.{events_of}
-use Rattle.opening.specs.Opening.{IsLawful, KnowsVersion}
+use Rattle.opening.specs.Opening.{IsLawful}
 use Rattle.session_steps.proofs.Joins.{client_is}
 use Rattle.session_steps.specs.Doing.{Went}
 use Rattle.session_steps.specs.Steps.{is_sorted, works_by}
 use Rattle.session_steps.specs.Work.{WorkNow}
 use Rattle.target_upgrade.proofs.Courses.{course_from-append, lease-is}
-use Rattle.target_upgrade.specs.Course.{Course, course_after, course_from, course_of, is_allowed, is_current, keeps_version, may_do, outside_course, told_after, told_by}
+use Rattle.target_upgrade.specs.Course.{Course, course_after, course_from, course_of, is_allowed, is_told, keeps_version, may_do, outside_course, told_after, told_by}
 
 -- ---- phases
 
@@ -99,20 +99,25 @@ stays_sync client p role reply h = cc
 
 -- ---- what may be called
 
--- what a synchroniser may do that wasn't told of the version, it may do once it was
-keeps_more : (told more : Bool) (call : Call) → (told ≡ true → more ≡ true)
+-- what a session may do that wasn't told the version, one that was told any may do
+keeps_any : (more : Option ℕ) (call : Call) → keeps_version None call ≡ true
+    → keeps_version more call ≡ true
+keeps_any more (Put InfoFile content) h = cc
+keeps_any more (Put OldVersion content) h = cc
+keeps_any more (Put path content) h = cc
+keeps_any more (Delete InfoFile) h = cc
+keeps_any more (Delete OldVersion) h = cc
+keeps_any more (Delete path) h = cc
+keeps_any more (PutBlob id len) h = cc
+keeps_any more (MakeDir dir) h = cc
+keeps_any more call h = refl
+
+keeps_more : (told more : Option ℕ) (call : Call)
+    → ((version : ℕ) → told ≡ Some version → more ≡ Some version)
     → keeps_version told call ≡ true → keeps_version more call ≡ true
-keeps_more told more (Put InfoFile content) le h =
-    let parts = and_parts told (is_current content) h in
-    and_from more (is_current content) (le parts.0) parts.1
-keeps_more told more (Put OldVersion content) le h = h
-keeps_more told more (Put path content) le h = le h
-keeps_more told more (Delete InfoFile) le h = h
-keeps_more told more (Delete OldVersion) le h = h
-keeps_more told more (Delete path) le h = le h
-keeps_more told more (PutBlob id len) le h = le h
-keeps_more told more (MakeDir dir) le h = h
-keeps_more told more call le h = refl
+keeps_more None more call le h = keeps_any more call h
+keeps_more (Some version) more call le h =
+    subst (λ (t : Option ℕ). keeps_version t call ≡ true) (sym (le version refl)) h
 
 allowed_by : (c : Course) (p : Phase) (call : Call) (work sorted : Bool) → is_sync p ≡ true
     → (sorted ≡ true → keeps_version c.told call ≡ true) → (not work || sorted) ≡ true
@@ -122,44 +127,57 @@ allowed_by c (Held Sync stamp) call true sorted h may is = may is
 allowed_by c (Held Exclusive stamp) call true sorted h may is = cc
 allowed_by c p call true sorted h may is = refl
 
-or_true : (b : Bool) (told : Bool) → told ≡ true → (told || b) ≡ true
-or_true b told h = rw h refl
+-- only the reply to this call tells a version
+abbrev pub asks_version : Call → Bool
+asks_version (Get InfoFile) = true
+asks_version call = false
 
-still_told : (told : Bool) (call : Call) (reply : Reply) → told ≡ true
-    → told_after told call reply ≡ true
-still_told told (Get InfoFile) (Got now content) h = or_true (is_current content) told h
-still_told told call reply h = h
+still_told : (told : Option ℕ) (call : Call) (reply : Reply) → asks_version call ≡ false
+    → told_after told call reply ≡ told
+still_told told (Get InfoFile) reply other = cc
+still_told told call reply other = refl
 
-told_on : (c : Course) (p : Phase) (call : Call) (reply : Reply) (work : Bool) → c.told ≡ true
-    → (if work then told_by c p call reply else c.told) ≡ true
-told_on c p call reply false h = h
-told_on c (Held Sync stamp) call reply true h = still_told c.told call reply h
-told_on c p call reply true h = h
+told_on : (c : Course) (p : Phase) (call : Call) (reply : Reply) (work sorted : Bool)
+    → (sorted ≡ true → asks_version call ≡ false) → (not work || sorted) ≡ true
+    → (if work then told_by c p call reply else c.told) ≡ c.told
+told_on c p call reply false sorted other is = refl
+told_on c (Held Sync stamp) call reply true sorted other is =
+    still_told c.told call reply (other is)
+told_on c p call reply true sorted other is = refl
+
+-- Who was told this version may make the call, and is told no other by it. If no version is named,
+-- each session may make it.
+pub record MayOnceTold (told : Option ℕ) (call : Call) : Type 0 where
+  pub keeps : keeps_version told call ≡ true
+  pub asks_none : is_told told ≡ true → asks_version call ≡ false
+
+abbrev MayAll : Option ℕ → (Call → Bool) → Type 0
+MayAll told sort = (call : Call) → sort call ≡ true → MayOnceTold told call
 
 -- ---- the course
 
--- it has done what it may under a sync lease, and is told of the version if this is so
-record IsGood (told : Bool) (c : Course) : Type 0 where
+-- the session was told this version, if one is named
+abbrev pub WasTold : Option ℕ → Course → Type 0
+WasTold told c = (version : ℕ) → told ≡ Some version → c.told ≡ Some version
+
+-- it has done what it may under a sync lease, and was told this
+record IsGood (told : Option ℕ) (c : Course) : Type 0 where
   sync : is_sync c.lease.phase ≡ true
   lawful : c.lawful ≡ true
-  informed : told ≡ true → c.told ≡ true
+  informed : WasTold told c
 
--- all calls of the sort may be made by one that was told of the version, if this is so
-abbrev MayAll : Bool → (Call → Bool) → Type 0
-MayAll told sort = (call : Call) → sort call ≡ true → keeps_version told call ≡ true
-
-good_sent : (sort : Call → Bool) (told : Bool) (client : List ℕ) (c : Course) (call : Call)
+good_sent : (sort : Call → Bool) (told : Option ℕ) (client : List ℕ) (c : Course) (call : Call)
     → MayAll told sort → is_sorted sort client c.lease (Sent call) ≡ true → IsGood told c
     → IsGood told (course_after client c (Sent call))
 good_sent sort told client c call may sorted good = record {
   sync = sync_if (allows client c.lease.phase (role_of client call)) Over refl;
   lawful = and_from c.lawful (is_allowed client c call) good.lawful
       (allowed_by c c.lease.phase call (is_work c.lease.phase (role_of client call)) (sort call)
-      good.sync (λ is. keeps_more told c.told call good.informed (may call is)) sorted);
+      good.sync (λ is. keeps_more told c.told call good.informed (may call is).keeps) sorted);
   informed = good.informed;
 }
 
-good_called : (sort : Call → Bool) (told : Bool) (client : List ℕ) (c : Course) (call : Call)
+good_called : (sort : Call → Bool) (told : Option ℕ) (client : List ℕ) (c : Course) (call : Call)
     (reply : Reply)
     → MayAll told sort → is_sorted sort client c.lease (Called call reply) ≡ true → IsGood told c
     → IsGood told (course_after client c (Called call reply))
@@ -167,13 +185,14 @@ good_called sort told client c call reply may sorted good = record {
   sync = stays_sync client c.lease.phase (role_of client call) reply good.sync;
   lawful = and_from c.lawful (is_allowed client c call) good.lawful
       (allowed_by c c.lease.phase call (is_work c.lease.phase (role_of client call)) (sort call)
-      good.sync (λ is. keeps_more told c.told call good.informed (may call is)) sorted);
-  informed = λ is.
-      told_on c c.lease.phase call reply (is_work c.lease.phase (role_of client call))
-      (good.informed is);
+      good.sync (λ is. keeps_more told c.told call good.informed (may call is).keeps) sorted);
+  informed = λ version is.
+      told_on c c.lease.phase call reply (is_work c.lease.phase (role_of client call)) (sort call)
+      (λ of. (may call of).asks_none (ap is_told is)) sorted
+      ∙ good.informed version is;
 }
 
-good_from : (sort : Call → Bool) (told : Bool) (client : List ℕ) (c : Course) (es : List Event)
+good_from : (sort : Call → Bool) (told : Option ℕ) (client : List ℕ) (c : Course) (es : List Event)
     → MayAll told sort → works_by sort client c.lease es ≡ true → IsGood told c
     → IsGood told (course_from client c es)
 unfolding works_by course_from
@@ -193,21 +212,20 @@ good_from sort told client c (Ended ∷ es) may sorted good = absurd cc
 
 -- ---- the law
 
--- the course is lawful, and is told of the version if it was
-pub record StaysLawful (old new : WorkNow) : Type 0 where
+pub record StaysLawful (told : Option ℕ) (new : WorkNow) : Type 0 where
   pub lawful : IsLawful new.lease new.desk
-  pub told : KnowsVersion old.lease old.desk → KnowsVersion new.lease new.desk
+  pub informed : WasTold told (course_of new.lease.client new.desk.line.trail)
 
-good_held : (a : WorkNow) → IsHeld a.lease a.desk.line.trail → a.lease.kind ≡ Sync
-    → IsLawful a.lease a.desk
-    → IsGood (course_of a.lease.client a.desk.line.trail).told
-    (course_of a.lease.client a.desk.line.trail)
-good_held a held sync lawful =
+good_held : (told : Option ℕ) (a : WorkNow) → IsHeld a.lease a.desk.line.trail
+    → a.lease.kind ≡ Sync → IsLawful a.lease a.desk
+    → WasTold told (course_of a.lease.client a.desk.line.trail)
+    → IsGood told (course_of a.lease.client a.desk.line.trail)
+good_held told a held sync lawful informed =
     let client = a.lease.client in
     let phase : (course_of client a.desk.line.trail).lease.phase ≡ Held Sync a.lease.stamp =
     ap (λ (s : Session). s.phase) (lease-is client a.desk.line.trail)
     ∙ (held.stands.phase ∙ ap (λ (kind : LockKind). Held kind a.lease.stamp) sync) in
-    record { sync = ap is_sync phase; lawful = lawful; informed = λ is. is }
+    record { sync = ap is_sync phase; lawful = lawful; informed = informed }
 
 course_behind : (sort : Call → Bool) (a b : WorkNow) (w : Went sort a b)
     → course_of a.lease.client b.desk.line.trail
@@ -218,12 +236,13 @@ course_behind sort a b w =
     ∙ course_from-append a.lease.client outside_course a.desk.line.trail
     (events_of (length a.desk.made) w.deeds)
 
--- A session under a sync lease goes on by work all of whose calls it may make: whatever it was told of the version, or as
--- it was told of it.
-pub stays_lawful : (sort : Call → Bool) (told : Bool) (a b : WorkNow)
-    → ((call : Call) → sort call ≡ true → keeps_version told call ≡ true)
+-- A session under a sync lease goes on by work all of whose calls it may make: whatever it was told of
+-- the version, or as it was told of it, and then that stays so.
+pub stays_lawful : (sort : Call → Bool) (told : Option ℕ) (a b : WorkNow)
+    → ((call : Call) → sort call ≡ true → MayOnceTold told call)
     → IsHeld a.lease a.desk.line.trail → a.lease.kind ≡ Sync → IsLawful a.lease a.desk
-    → (told ≡ true → KnowsVersion a.lease a.desk) → Went sort a b → StaysLawful a b
+    → WasTold told (course_of a.lease.client a.desk.line.trail)
+    → Went sort a b → StaysLawful told b
 stays_lawful sort told a b may held sync lawful informed w =
     let client = a.lease.client in
     let before = course_of client a.desk.line.trail in
@@ -231,16 +250,14 @@ stays_lawful sort told a b may held sync lawful informed w =
     subst (λ (s : Session).
     works_by sort client s (events_of (length a.desk.made) w.deeds) ≡ true)
     (sym (lease-is client a.desk.line.trail)) w.sorted in
-    let good : IsGood before.told (course_of client b.desk.line.trail) =
-    subst (IsGood before.told) (sym (course_behind sort a b w))
-    (good_from sort before.told client before (events_of (length a.desk.made) w.deeds)
-    (λ call is. keeps_more told before.told call informed (may call is)) sorted
-    (good_held a held sync lawful)) in
+    let good : IsGood told (course_of client b.desk.line.trail) =
+    subst (IsGood told) (sym (course_behind sort a b w))
+    (good_from sort told client before (events_of (length a.desk.made) w.deeds) may sorted
+    (good_held told a held sync lawful informed)) in
     let same : b.lease.client ≡ client = client_is a.lease b.lease w.same in
     record {
       lawful = subst (λ (x : List ℕ). (course_of x b.desk.line.trail).lawful ≡ true) (sym same)
           good.lawful;
-      told = λ is.
-          subst (λ (x : List ℕ). (course_of x b.desk.line.trail).told ≡ true) (sym same)
-          (good.informed is);
+      informed = subst (λ (x : List ℕ). WasTold told (course_of x b.desk.line.trail)) (sym same)
+          good.informed;
     }

@@ -27,7 +27,7 @@ use Rattle.sync_info.specs.Json.{info_text}
 use Rattle.sync_info.specs.Merge.{merged}
 use Rattle.sync_info.specs.Read.{info_in}
 use Rattle.sync_info.specs.declared.info.Info.{Info}
-use Rattle.target_upgrade.specs.Course.{course_of, is_current}
+use Rattle.target_upgrade.specs.Course.{course_of, is_info_at}
 use Rattle.target_upgrade.specs.Reading.{Gives, IsBadReply}
 use Rattle.target_upgrade.specs.Steps.{SUPPORTED}
 
@@ -35,8 +35,13 @@ use Rattle.target_upgrade.specs.Steps.{SUPPORTED}
 abbrev pub is_opening : Call → Bool
 is_opening (Get InfoFile) = true
 is_opening (Get OldVersion) = true
-is_opening (Put InfoFile content) = is_current content
+is_opening (Put InfoFile content) = is_info_at SUPPORTED content
 is_opening call = false
+
+-- behind its reads it makes such a put alone, and so isn't told another version
+abbrev pub is_joining : Call → Bool
+is_joining (Put InfoFile content) = is_info_at SUPPORTED content
+is_joining call = false
 
 -- ---- what is read
 
@@ -172,6 +177,6 @@ PutsNoItem old new =
 abbrev pub IsLawful : Lease → DeskNow → Type 0
 IsLawful lease d = (course_of lease.client d.line.trail).lawful ≡ true
 
--- and it was told that the target has the supported version
+-- and the version that it was told is the supported one
 abbrev pub KnowsVersion : Lease → DeskNow → Type 0
-KnowsVersion lease d = (course_of lease.client d.line.trail).told ≡ true
+KnowsVersion lease d = (course_of lease.client d.line.trail).told ≡ Some SUPPORTED

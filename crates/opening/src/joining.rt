@@ -8,7 +8,7 @@ ghost use Rattle.licences.specs.Licences.{MayChange};
 ghost use Rattle.licences.specs.Trails.{session_calls};
 ghost use Rattle.licences.specs.Views.{Shown};
 ghost use Rattle.local_store.specs.declared.change.Change.TheVariants.{InfoIs};
-ghost use Rattle.opening.specs.Opening.{Joins, MergesBetween, PutsInfo, PutsNoItem, SetsInfo, is_opening};
+ghost use Rattle.opening.specs.Opening.{Joins, MergesBetween, PutsInfo, PutsNoItem, SetsInfo, is_joining};
 ghost use Rattle.session_steps.specs.Doing.{Ends};
 ghost use Rattle.session_steps.specs.Work.{IsReady, view_of, work};
 ghost use Rattle.sync_info.specs.Info.{IsInfo};
@@ -45,7 +45,7 @@ fn put_info<S: Desk>(
     ensures read { OnOk result
         (info_read (session_calls (S.desk site.new).line.trail) ≡ Some remote.now) }
     ensures unput { OnOk result (PutsNoItem (S.desk site.old) (S.desk site.new)) }
-    ensures puts { (r : SyncReport) → Ends (PutsInfo info.now remote.now) is_opening
+    ensures puts { (r : SyncReport) → Ends (PutsInfo info.now remote.now) is_joining
         (work (S.desk site.old) lease.old r) result (work (S.desk site.new) lease.new r) }
     ensures merges { MergesBetween (S.desk site.old) (S.desk site.new) }
     ensures stays { S.stays site.old site.new }
@@ -107,7 +107,7 @@ pub(crate) fn join_info<S: Desk>(
     ensures ready { OnOk result (IsReady (S.desk site.new) lease.new) }
     ensures lease { IsSameBut lease.old lease.new }
     ensures unput { OnOk result (PutsNoItem (S.desk site.old) (S.desk site.new)) }
-    ensures joins { Ends (Joins remote.now) is_opening
+    ensures joins { Ends (Joins remote.now) is_joining
         (work (S.desk site.old) lease.old report.old) result
         (work (S.desk site.new) lease.new report.new) }
     ensures merges { MergesBetween (S.desk site.old) (S.desk site.new) }

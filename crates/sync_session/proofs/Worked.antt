@@ -1,5 +1,5 @@
 -- What is done behind the opening is done behind it for the whole.
-use Rattle.std.specs.Prelude.{ℕ, ◌≡◌, List, [], ◌∷◌, map, filter, Bool, true, false, ◌&&◌, ◌||◌, if◌then◌else◌, Option, Err, refl}
+use Rattle.std.specs.Prelude.{ℕ, ◌≡◌, List, [], ◌∷◌, map, filter, Bool, true, false, ◌&&◌, ◌||◌, if◌then◌else◌, Option, Some, Err, refl}
 use Rattle.std.proofs.Common.{◌∙◌, ap, subst, inl, inr}
 use Rattle.std.proofs.lemmas.Bool.{or_left, or_right}
 use Rattle.std.specs.List.{list_any}
@@ -11,7 +11,7 @@ use Rattle.jop_base.specs.declared.dir.Dir.TheVariants.{Root}
 use Rattle.jop_base.specs.declared.lock_name.LockKind.TheVariants.{Sync}
 use Rattle.jop_base.specs.declared.path.Path.TheVariants.{Info as InfoFile, OldVersion}
 use Rattle.jop_target.specs.declared.call.Call.{Call}
-use Rattle.jop_target.specs.declared.call.Call.TheVariants.{List as ListDir, Put, Delete, MakeDir}
+use Rattle.jop_target.specs.declared.call.Call.TheVariants.{List as ListDir, Get, Put, Delete, MakeDir}
 use Rattle.jop_target.specs.declared.reply.Reply.TheVariants.{Listed}
 use Rattle.lease.specs.Standing.{IsHeld}
 use Rattle.licences.specs.Deeds.{Deed}
@@ -24,7 +24,7 @@ use Rattle.table_keeper.specs.declared.blob.Blob.{Blob}
 use Rattle.local_store.specs.declared.row.Row.{Row}
 use Rattle.local_store.specs.declared.tables.Tables.{Tables}
 use Rattle.opening.proofs.Merging.{merges_none, merges_on}
-use Rattle.opening.proofs.Versions.{stays_lawful}
+use Rattle.opening.proofs.Versions.{MayOnceTold, stays_lawful}
 use Rattle.opening.specs.Opening.{IsLawful, KnowsVersion, MergesBetween, Opens, PutsNoItem, Refuses, is_opening}
 use Rattle.opening.specs.declared.refusal.OpenErr.{OpenErr}
 use Rattle.opening.specs.declared.refusal.OpenErr.TheVariants as open_errors
@@ -33,7 +33,7 @@ use Rattle.session_steps.proofs.Joins.{does_then}
 use Rattle.session_steps.specs.Doing.{Does, Finishes, GivesUp, Went}
 use Rattle.session_steps.specs.Parts.{ForEach, Hears, Part, Then}
 use Rattle.session_steps.specs.Work.{WorkNow}
-use Rattle.target_upgrade.specs.Course.{keeps_version}
+use Rattle.target_upgrade.specs.Steps.{SUPPORTED}
 use Rattle.upload.proofs.Left.{same_blobs}
 use Rattle.upload.specs.Conditions.{AreUnput, IsReadable}
 use Rattle.upload.specs.Uploading.{UploadsOne, blobs_of, pending_ids}
@@ -162,13 +162,15 @@ went_stopped a b KeeperFault h = h.stops.went
 went_stopped a b NoMemory h = h.went
 
 -- a client that was told the version may do all that comes behind the opening
-exchange_keeps : (call : Call) → is_exchange call ≡ true → keeps_version true call ≡ true
+exchange_keeps : (call : Call) → is_exchange call ≡ true
+    → MayOnceTold (Some SUPPORTED) call
 exchange_keeps (Put InfoFile content) is = absurd cc
 exchange_keeps (Put OldVersion content) is = absurd cc
 exchange_keeps (Delete InfoFile) is = absurd cc
 exchange_keeps (Delete OldVersion) is = absurd cc
 exchange_keeps (MakeDir dir) is = absurd cc
-exchange_keeps call is = refl
+exchange_keeps (Get InfoFile) is = absurd cc
+exchange_keeps call is = record { keeps = refl; asks_none = λ told. refl }
 
 -- the opening was done, and the session stands so behind it
 pub record HasOpened (a b : WorkNow) : Type 0 where
@@ -182,8 +184,8 @@ pub record HasOpened (a b : WorkNow) : Type 0 where
 pub lawful_behind : (a b c : WorkNow) → HasOpened a b → Went is_exchange b c
     → IsLawful c.lease c.desk
 lawful_behind a b c h went =
-    (stays_lawful is_exchange true b c exchange_keeps h.held h.sync h.lawful (λ yes. h.told)
-    went).lawful
+    (stays_lawful is_exchange (Some SUPPORTED) b c exchange_keeps h.held h.sync h.lawful
+    (λ version is. h.told ∙ is) went).lawful
 
 -- no info is put behind the opening
 pub merges_behind : (a b c : WorkNow) → HasOpened a b → Went is_exchange b c

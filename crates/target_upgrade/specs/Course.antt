@@ -1,6 +1,7 @@
 -- What a session may do under its lease, watched event by event: a synchroniser writes at the
--- version that it has read, and an upgrade makes its steps in their order.
-use Rattle.std.specs.Prelude.{ℕ, List, [], ◌∷◌, Bool, true, false, ◌&&◌, ◌||◌, not, nat_eq, bytes_eq, Option, Some, None, option_map, if◌then◌else◌, ◌≡◌}
+-- version that it was told, and an upgrade makes its steps in their order.
+use Rattle.std.specs.Prelude.{ℕ, List, [], ◌∷◌, Bool, true, false, ◌&&◌, ◌||◌, not, nat_eq, bytes_eq, Option, Some, None, option_map, option_and_then, if◌then◌else◌, ◌≡◌}
+use Rattle.std.specs.Option.{option_or}
 use Rattle.std.specs.Str.{is_utf8}
 use Rattle.jop_base.specs.declared.lock_name.LockKind.TheVariants.{Sync, Exclusive}
 use Rattle.jop_base.specs.declared.path.Path.{Path}
@@ -16,34 +17,60 @@ use Rattle.lease.specs.Discipline.{Session, ObeysLocks, session_after, begun, ou
 use Rattle.lease.specs.Idle.{is_work}
 use Rattle.lease.specs.Phase.{Phase, Held, role_of}
 use Rattle.sync_info.specs.Read.{info_in}
-use Rattle.target_upgrade.specs.Steps.{SUPPORTED, Stage, Reads, Stuck, awaited, stage_after}
+use Rattle.target_upgrade.specs.Steps.{Stage, Reads, Stuck, awaited, stage_after}
 
 -- ---- a synchroniser
 
-abbrev pub is_supported : Option ℕ → Bool
-is_supported None = false
-is_supported (Some version) = nat_eq version SUPPORTED
+-- whether it is a version at which some client may work
+abbrev pub is_known : ℕ → Bool
+is_known version = nat_eq version 3 || nat_eq version 4
 
--- whether a text is that of an info at the supported version
-abbrev pub is_current : List ℕ → Bool
-is_current content = is_supported (option_map (λ info. info.version) (info_in content))
+abbrev pub if_known : ℕ → Option ℕ
+if_known version = if is_known version then Some version else None
 
--- It writes once `info.json` has told it the supported version, and leaves the version as it is:
--- `info.json` stays and keeps it, `version.txt` isn't touched, and no folder is made.
-abbrev pub keeps_version : Bool → Call → Bool
-keeps_version told (Put InfoFile content) = told && is_current content
+-- the version of the info that a text is, if it is one
+abbrev pub version_in : List ℕ → Option ℕ
+version_in content = option_map (λ info. info.version) (info_in content)
+
+-- and that, if some client may work at it
+abbrev pub known_in : List ℕ → Option ℕ
+known_in content = option_and_then if_known (version_in content)
+
+abbrev pub is_version : ℕ → Option ℕ → Bool
+is_version version None = false
+is_version version (Some found) = nat_eq found version
+
+-- whether a text is an info of this version
+abbrev pub is_info_at : ℕ → List ℕ → Bool
+is_info_at version content = is_version version (version_in content)
+
+-- whether the session was told a version
+abbrev pub is_told : Option ℕ → Bool
+is_told None = false
+is_told (Some version) = true
+
+-- whether a text is an info of the version that it was told
+abbrev pub is_as_told : Option ℕ → List ℕ → Bool
+is_as_told None content = false
+is_as_told (Some version) content = is_info_at version content
+
+-- It writes once `info.json` has told it a version, and leaves the version as it is: `info.json`
+-- stays and keeps it, `version.txt` isn't touched, and no folder is made.
+abbrev pub keeps_version : Option ℕ → Call → Bool
+keeps_version told (Put InfoFile content) = is_as_told told content
 keeps_version told (Put OldVersion content) = false
-keeps_version told (Put path content) = told
+keeps_version told (Put path content) = is_told told
 keeps_version told (Delete InfoFile) = false
 keeps_version told (Delete OldVersion) = false
-keeps_version told (Delete path) = told
-keeps_version told (PutBlob id len) = told
+keeps_version told (Delete path) = is_told told
+keeps_version told (PutBlob id len) = is_told told
 keeps_version told (MakeDir dir) = false
 keeps_version told call = true
 
--- whether it was told by now
-abbrev pub told_after : Bool → Call → Reply → Bool
-told_after told (Get InfoFile) (Got now content) = told || is_current content
+-- The version that it was told by now: of those at which some client may work the one that `info.json`
+-- gave last.
+abbrev pub told_after : Option ℕ → Call → Reply → Option ℕ
+told_after told (Get InfoFile) (Got now content) = option_or (known_in content) told
 told_after told call reply = told
 
 -- ---- an upgrade
@@ -73,22 +100,21 @@ is_awaited (Some next) call = is_call call next && puts_text call
 
 -- ---- the monitor
 
--- What is seen of the last session of a trail: the lock discipline; whether `info.json` has told a
--- synchroniser the supported version; where an upgrade stands; and whether all that was done under
--- the lease was allowed.
+-- What is seen of the last session of a trail: the lock discipline; the version that a synchroniser
+-- was told; where an upgrade stands; and whether all that was done under the lease was allowed.
 pub record Course : Type 0 where
   pub lease : Session
-  pub told : Bool
+  pub told : Option ℕ
   pub stage : Stage
   pub lawful : Bool
 
 -- a session that begins, whatever stands before it
 abbrev pub begun_course : Course
-begun_course = record { lease = begun; told = false; stage = Reads; lawful = true }
+begun_course = record { lease = begun; told = None; stage = Reads; lawful = true }
 
 -- outside every session
 abbrev pub outside_course : Course
-outside_course = record { lease = outside; told = false; stage = Reads; lawful = true }
+outside_course = record { lease = outside; told = None; stage = Reads; lawful = true }
 
 -- what may be done under a lease
 abbrev pub may_do : Course → Phase → Call → Bool
@@ -96,7 +122,7 @@ may_do c (Held Sync stamp) call = keeps_version c.told call
 may_do c (Held Exclusive stamp) call = is_awaited (awaited c.stage) call
 may_do c phase call = true
 
-abbrev pub told_by : Course → Phase → Call → Reply → Bool
+abbrev pub told_by : Course → Phase → Call → Reply → Option ℕ
 told_by c (Held Sync stamp) call reply = told_after c.told call reply
 told_by c phase call reply = c.told
 
@@ -152,7 +178,7 @@ allowed_from client c [] = c.lawful
 allowed_from client c (Began ∷ es) = c.lawful && allowed_from client begun_course es
 allowed_from client c (e ∷ es) = allowed_from client (course_after client c e) es
 
--- under a sync lock each session of the trail writes at the version that it has read, and under an
+-- under a sync lock each session of the trail writes at the version that it was told, and under an
 -- exclusive one it makes the steps of an upgrade
 abbrev pub KeepsVersions : List ℕ → List Event → Type 0
 KeepsVersions client trail = allowed_from client outside_course trail ≡ true

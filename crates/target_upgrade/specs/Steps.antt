@@ -17,7 +17,7 @@ use Rattle.target_upgrade.specs.Keys.{key_of, with_key}
 use Rattle.target_upgrade.specs.declared.step.Step.{Step}
 use Rattle.target_upgrade.specs.declared.step.Step.TheVariants.{MakesResources, MakesOldSync, PutsOne, MakesLocks, MakesTemp, PutsTwo, PutsInfo, ListsRoot}
 
--- the version to which a target is brought
+-- the version of this program: an upgrade brings a target to it
 abbrev pub SUPPORTED : ℕ
 SUPPORTED = 3
 
@@ -118,7 +118,7 @@ items_in (e ∷ es) = with_item e.path (items_in es)
 
 abbrev pub after_step : Step → Info → Reply → Stage
 after_step ListsRoot info (Listed listing) =
-    Gets (items_in listing.entries) (at_version SUPPORTED info)
+    Gets (items_in listing.entries) (at_version 3 info)
 after_step step info (Done now) = At (next_step step) info
 after_step step info reply = Stuck
 

@@ -1,13 +1,12 @@
 ghost use Rattle.std.specs.Prelude.{◌<◌, ◌+◌, [], length, drop, IfErr, IfOk, OnOk};
 ghost use Rattle.sync_info.specs.Info.{IsInfo};
 ghost use Rattle.target_upgrade.specs.Answers.{ComesOr, HasCome, StandsAt, Stops, WorkGoesOn};
-ghost use Rattle.target_upgrade.specs.Steps.{At, Gets, SUPPORTED as supported, Upgraded, at_version};
+ghost use Rattle.target_upgrade.specs.Steps.{At, Gets, Upgraded, at_version};
 
 use crate::asking::ask;
 use crate::items::items_in;
 use crate::key::{add_key, got_key};
 use crate::step::Step;
-use crate::version::SUPPORTED;
 use jop_base::{Id, Path, Seq};
 use jop_target::{Call, Line, Reply};
 use lease::{Lease, LeaseErr};
@@ -29,10 +28,10 @@ pub(crate) fn take_keys<L: Line>(
     ensures keeps { L.keeps line.old line.new }
 {
     let ids = list_items(alloc, line, lease, &info)?;
-    let mut upgraded = info;
-    upgraded.version = SUPPORTED;
-    get_keys(alloc, line, lease, ids.as_slice(), &mut upgraded)?;
-    put_info(alloc, line, lease, &upgraded)?;
+    let mut third = info;
+    third.version = 3;
+    get_keys(alloc, line, lease, ids.as_slice(), &mut third)?;
+    put_info(alloc, line, lease, &third)?;
     Ok(())
 }
 
@@ -45,8 +44,8 @@ fn list_items<L: Line>(
 ) -> Result<Seq<Id>, LeaseErr>
     requires at { StandsAt lease.old (L.state line.old).trail (At Step.ListsRoot info.now) }
     requires valid { IsInfo info.now }
-    ensures ok { let upgraded = at_version supported info.now in
-        IfOk result (λ ids. HasCome lease.old lease.new (Gets ids upgraded) (L.state line.new)) }
+    ensures ok { let third = at_version 3 info.now in
+        IfOk result (λ ids. HasCome lease.old lease.new (Gets ids third) (L.state line.new)) }
     ensures err { IfErr result (Stops lease.old (L.state line.old) (L.state line.new)) }
     ensures goes { WorkGoesOn lease.old.client (L.state line.old) (L.state line.new) }
     ensures keeps { L.keeps line.old line.new }

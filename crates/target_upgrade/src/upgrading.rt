@@ -13,9 +13,9 @@ use lease::{Lease, LeaseErr};
 use std::alloc::Global;
 use sync_info::Info;
 
-/// Brings a target to version 3 under an exclusive lease, from the version and the info that the
-/// session has read: a version of 3 at most, and no info if there was no `info.json`. The lease is
-/// renewed when it is due. `Lost` if a renewal gave no lease, `TargetFault` if a call failed.
+/// Brings a target to the supported version under an exclusive lease, from the version and the info
+/// that the session has read: a version of that at most, and no info if there was no `info.json`. The
+/// lease is renewed when it is due. `Lost` if a renewal gave no lease, `TargetFault` if a call failed.
 pub fn upgrade<L: Line>(
     alloc: Global,
     line: &mut L,

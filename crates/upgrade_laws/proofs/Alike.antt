@@ -9,6 +9,7 @@ use Rattle.jop_target.specs.declared.tree.Tree.{Tree}
 use Rattle.jop_target.specs.Store.{is_same_dir}
 use Rattle.sync_info.specs.Json.{info_text}
 use Rattle.sync_info.specs.declared.info.Info.{Info}
+use Rattle.target_upgrade.specs.Steps.{SUPPORTED}
 use Rattle.upgrade_laws.specs.Target.{info_of, upgraded_info, file_of, files_from, steps_from, upgraded_from, upgraded_with, upgraded, is_lock, content_at, has_dir, IsAlike}
 use Rattle.jop_target.proofs.Files.{file_at-other_put, file_at-put}
 use Rattle.upgrade_laws.proofs.Files.{has_dir-with, info_apart_old, info_apart, old_apart}
@@ -104,7 +105,7 @@ alike_ends t u h = alike (upgraded u) (upgraded t) (upgraded-final u ∙
     })
 
 -- a tree at the supported version is what it comes to
-pub alike_ended : (t u : Tree) (info : Info) → info_of u ≡ Some info → info.version ≡ 3 →
+pub alike_ended : (t u : Tree) (info : Info) → info_of u ≡ Some info → info.version ≡ SUPPORTED →
     ComesToSame t u → IsAlike u (upgraded t)
 alike_ended t u info reads ver h =
     let ended : as_is u ≡ final u = sym (ap (λ (o : Option Info). final_with o u) reads ∙ ap

@@ -16,7 +16,7 @@ use Rattle.jop_target.proofs.Files.{file_at-other_delete, file_at-other_put}
 use Rattle.lease.proofs.LockFiles.{last_same, never}
 use Rattle.sync_info.specs.declared.info.Info.{Info}
 use Rattle.target_upgrade.specs.Keys.{with_key}
-use Rattle.target_upgrade.specs.Steps.{at_version, with_item}
+use Rattle.target_upgrade.specs.Steps.{SUPPORTED, at_version, with_item}
 use Rattle.upgrade_laws.specs.Target.{key_at, with_keys, items_of, upgraded_info, with_dir, has_dir, is_lock}
 
 -- ---- paths
@@ -203,7 +203,8 @@ pub upgraded_info-same : (fs gs : List File) (info : Info) → HasSameItems fs g
     info ≡ upgraded_info fs info
 unfolding upgraded_info
 upgraded_info-same fs gs info same = ap (λ (ids : List (List ℕ)). with_keys gs ids
-    (at_version 3 info)) same.items ∙ with_keys-same fs gs same (items_of fs) (at_version 3 info)
+    (at_version SUPPORTED info)) same.items
+    ∙ with_keys-same fs gs same (items_of fs) (at_version SUPPORTED info)
 
 -- ---- folders
 

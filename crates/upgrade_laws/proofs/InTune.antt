@@ -10,7 +10,7 @@ use Rattle.jop_target.specs.Store.{file_at}
 use Rattle.sync_info.specs.Info.{IsInfo}
 use Rattle.sync_info.specs.Json.{info_text}
 use Rattle.sync_info.specs.declared.info.Info.{Info}
-use Rattle.target_upgrade.specs.Steps.{Stage, Reads, ReadsOld, At, Gets, Upgraded, Stuck, at_version}
+use Rattle.target_upgrade.specs.Steps.{Stage, Reads, ReadsOld, At, Gets, Upgraded, Stuck, SUPPORTED, at_version}
 use Rattle.upgrade_laws.specs.Target.{info_of, with_keys, upgraded_info, content_at, has_dir, is_lock}
 use Rattle.target_upgrade.specs.declared.step.Step.{Step}
 use Rattle.target_upgrade.specs.declared.step.Step.TheVariants.{MakesResources, MakesOldSync, PutsOne, MakesLocks, MakesTemp, PutsTwo, PutsInfo, ListsRoot}
@@ -161,7 +161,7 @@ IsInTune Reads t = Unit {0}
 IsInTune ReadsOld t = file_at t.files InfoFile ≡ None
 IsInTune (At step info) t = IsAtStep step info t
 IsInTune (Gets ids info) t = IsGetting ids info t
-IsInTune Upgraded t = (info : Info) × (info_of t ≡ Some info) × (info.version ≡ 3)
+IsInTune Upgraded t = (info : Info) × (info_of t ≡ Some info) × (info.version ≡ SUPPORTED)
 IsInTune Stuck t = Unit {0}
 
 -- behind a call the tree is in tune again, and comes to the same

@@ -19,7 +19,7 @@ use Rattle.sync_info.specs.Read.{info_in}
 use Rattle.sync_info.specs.declared.info.Info.{Info}
 use Rattle.sync_info.specs.declared.key_record.KeyRecord.{KeyRecord}
 use Rattle.target_upgrade.specs.Keys.{with_key}
-use Rattle.target_upgrade.specs.Steps.{At, Upgraded, at_version}
+use Rattle.target_upgrade.specs.Steps.{At, SUPPORTED, Upgraded, at_version}
 use Rattle.upgrade_laws.specs.Target.{info_by, info_of, key_at, with_keys, items_of, upgraded_info, with_dir, content_at, has_dir}
 use Rattle.target_upgrade.specs.declared.step.Step.TheVariants.{PutsInfo, ListsRoot}
 use Rattle.jop_target.proofs.Files.{file_at-other_put, file_at-put}
@@ -162,7 +162,7 @@ next_old t bytes m info h =
 last_any : (fs : List File) (a b : Info) → at_version 2 a ≡ at_version 2 b → upgraded_info fs a ≡
     upgraded_info fs b
 unfolding upgraded_info
-last_any fs a b h = ap (λ (i : Info). with_keys fs (items_of fs) (at_version 3 i)) h
+last_any fs a b h = ap (λ (i : Info). with_keys fs (items_of fs) (at_version SUPPORTED i)) h
 
 pub put_old : (t : Tree) (bytes : List ℕ) (m : ℕ) (info : Info) → IsEarly info t → IsEarly info
     (with_text t OldVersion bytes m) × ComesToSame t (with_text t OldVersion bytes m)
@@ -308,9 +308,9 @@ keys_version fs [] info = refl
 keys_version fs (id ∷ ids) info = keys_version fs ids (with_key (key_at fs id) info) ∙ key_version
     (key_at fs id) info
 
-last_version : (fs : List File) (info : Info) → (upgraded_info fs info).version ≡ 3
+last_version : (fs : List File) (info : Info) → (upgraded_info fs info).version ≡ SUPPORTED
 unfolding upgraded_info
-last_version fs info = keys_version fs (items_of fs) (at_version 3 info)
+last_version fs info = keys_version fs (items_of fs) (at_version SUPPORTED info)
 
 pub put_last : (t : Tree) (m : ℕ) (info : Info) → is_utf8 (info_text info) ≡ true → IsGetting [] info
     t → IsOnItsWay Upgraded t (with_text t InfoFile (info_text info) m)
@@ -319,12 +319,12 @@ put_last t m info text h =
     let u = with_text t InfoFile bytes m in
     let reads : info_of u ≡ Some info = info_there t bytes m ∙ info_in-info_text info h.valid
     (IsUtf8-from_is_utf8 _ text) in
-    let ver : info.version ≡ 3 = ap (λ (i : Info). i.version) h.leads ∙ last_version t.files
-    h.now in
+    let ver : info.version ≡ SUPPORTED =
+    ap (λ (i : Info). i.version) h.leads ∙ last_version t.files h.now in
     record {
       tuned = (info, reads, ver);
       same = record {
-        final = final_is u info 3 reads ver ∙ (final_same (as_is u) (final_at 2 h.now t)
+        final = final_is u info SUPPORTED reads ver ∙ (final_same (as_is u) (final_at 2 h.now t)
             (content_there t bytes m ∙ ap (λ (i : Info). Some (Whole (info_text i))) h.leads)
             (old_stays t bytes m) refl refl refl ∙ sym (final_is t h.now 2 h.reads h.version));
         rest = rest_info t bytes m;

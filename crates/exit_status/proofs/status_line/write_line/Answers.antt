@@ -1,7 +1,7 @@
 use Rattle.exit_status.proofs.status_line.write_line.Goals as goal
 
 pub returns-in-FailSafe : goal.returns-in-FailSafe
-returns-in-FailSafe g c = rw (c.in-FailSafe.is) c.write_within-in-FailSafe.ensures
+returns-in-FailSafe g c = rw (c.in-FailSafe.is) c.write_within.ensures
 
 pub returns-in-TargetFault : goal.returns-in-TargetFault
 returns-in-TargetFault g c = rw (c.in-TargetFault.is) c.write_word-in-TargetFault.ensures

@@ -5,7 +5,7 @@ use Rattle.licences.specs.Puts.{has_put}
 use Rattle.licences.specs.Views.{Heard}
 use Rattle.local_store.specs.declared.tables.Tables.{Tables}
 use Rattle.opening.proofs.Joined.{joins, joins_merging, may_set, puts_none_merging}
-use Rattle.opening.specs.Opening.{PutsInfo, is_opening}
+use Rattle.opening.specs.Opening.{PutsInfo, is_joining}
 use Rattle.session_steps.proofs.Ending.{does_nothing, does_starves, gives_up_behind}
 use Rattle.session_steps.specs.Work.{work}
 use Rattle.sync_info.specs.Info.{IsInfo}
@@ -38,7 +38,7 @@ set_info-requires-clause-may g c = λ other shown.
 pub returns-in_err-info-clause-joins : goal.returns-in_err-info-clause-joins
 returns-in_err-info-clause-joins g c =
     let p = err_from_is_err_and c.from_residual.result c.from_residual.ensures.1 in
-    rw (p.1, p.2) (does_starves (does_nothing is_opening
+    rw (p.1, p.2) (does_starves (does_nothing is_joining
     (work (g.S.Desk.desk c.args.site.now) c.args.lease.now c.args.report.now)
     c.requires.ready))
 
@@ -58,12 +58,12 @@ returns-in_err-set_info-clause-joins g c =
     let p = err_from_is_err_and c.from_residual-in_err-set_info.result
     c.from_residual-in_err-set_info.ensures.1 in
     let r = c.args.report.now in
-    rw (p.1, p.2) (gives_up_behind (PutsInfo _ c.args.remote.now) is_opening
+    rw (p.1, p.2) (gives_up_behind (PutsInfo _ c.args.remote.now) is_joining
     (work (g.S.Desk.desk c.args.site.now) c.args.lease.now r)
     (work (g.S.Desk.desk c.put_info.new.site) c.put_info.new.lease r)
     (work (g.S.Desk.desk c.set_info.new.site) c.put_info.new.lease c.set_info.new.report) _
     (c.in_ok-put_info.ensures.puts r)
-    (c.in_err-set_info.ensures.sets is_opening c.put_info.new.lease
+    (c.in_err-set_info.ensures.sets is_joining c.put_info.new.lease
     c.in_ok-put_info.ensures.ready.held))
 
 pub returns-in_err-set_info-clause-merges : goal.returns-in_err-set_info-clause-merges
@@ -99,7 +99,7 @@ returns-clause-joins g c =
     (c.in_ok-info.ensures.merged
     ∙ ap (λ (t : Tables). merged t.info c.args.remote.now) c.tables.ensures)
     (c.in_ok-put_info.ensures.puts r)
-    (c.in_ok-set_info.ensures.sets is_opening c.put_info.new.lease
+    (c.in_ok-set_info.ensures.sets is_joining c.put_info.new.lease
     c.in_ok-put_info.ensures.ready.held)
 
 pub returns-clause-merges : goal.returns-clause-merges

@@ -2,9 +2,10 @@ use Rattle.std.specs.Prelude.{refl}
 use Rattle.std.proofs.Common.{◌∙◌}
 use Rattle.std.proofs.lemmas.Result.{err_from_is_err_and}
 use Rattle.opening.proofs.Going.{went_refused, went_up}
-use Rattle.opening.proofs.Opened.{is_get, lawful_joined, lawful_read, merges_joined, merges_read, opened, still_sync}
-use Rattle.opening.specs.Opening.{ReadsInfo, is_opening}
+use Rattle.opening.proofs.Opened.{is_get, joining_within, lawful_joined, lawful_read, merges_joined, merges_read, opened, still_sync}
+use Rattle.opening.specs.Opening.{ReadsInfo, is_joining, is_opening}
 use Rattle.session_steps.proofs.Ending.{gives_up_behind}
+use Rattle.session_steps.proofs.Wider.{gives_up_within}
 use Rattle.session_steps.specs.Work.{work}
 use Rattle.opening.proofs.opening.open.Goals as goal
 
@@ -48,7 +49,8 @@ returns-in_err-join_info-clause-opens g c =
     (work (g.S.Desk.desk c.args.site.now) c.args.lease.now r)
     (work (g.S.Desk.desk c.read_supported.new.site) c.read_supported.new.lease r)
     (work (g.S.Desk.desk c.join_info.new.site) c.join_info.new.lease c.join_info.new.report) _
-    (c.in_ok-remote.ensures.reads is_opening r refl refl) c.in_err-join_info.ensures.joins)
+    (c.in_ok-remote.ensures.reads is_opening r refl refl)
+    (gives_up_within is_joining is_opening _ _ _ joining_within c.in_err-join_info.ensures.joins))
 
 pub returns-in_err-join_info-clause-lawful : goal.returns-in_err-join_info-clause-lawful
 returns-in_err-join_info-clause-lawful g c =
@@ -62,7 +64,7 @@ returns-in_err-join_info-clause-lawful g c =
     (lawful_read a b c.requires.ready.held c.requires.sync c.requires.lawful
     (c.in_ok-remote.ensures.reads is_get r refl refl).went)
     c.in_ok-remote.ensures.told
-    (went_up is_opening b d _ c.in_err-join_info.ensures.joins)).lawful
+    (went_up is_joining b d _ c.in_err-join_info.ensures.joins)).lawful
 
 pub returns-in_err-join_info-clause-merges : goal.returns-in_err-join_info-clause-merges
 returns-in_err-join_info-clause-merges g c =
@@ -112,8 +114,7 @@ returns-clause-told g c =
     (still_sync c.args.lease.now c.read_supported.new.lease c.read_supported.ensures.lease c.requires.sync)
     (lawful_read a b c.requires.ready.held c.requires.sync c.requires.lawful
     (c.in_ok-remote.ensures.reads is_get r refl refl).went)
-    c.in_ok-remote.ensures.told c.in_ok-join_info.ensures.joins.went).told
-    c.in_ok-remote.ensures.told
+    c.in_ok-remote.ensures.told c.in_ok-join_info.ensures.joins.went).informed _ refl
 
 pub returns-clause-merges : goal.returns-clause-merges
 returns-clause-merges g c =
