@@ -5,6 +5,7 @@ use Rattle.desk.specs.Desks.{DeskNow}
 use Rattle.jop_base.specs.declared.lock_name.LockKind.{LockKind}
 use Rattle.jop_base.specs.declared.lock_name.LockKind.TheVariants.{Sync}
 use Rattle.jop_base.specs.declared.path.Path.TheVariants.{Info as InfoFile}
+use Rattle.jop_target.specs.Trail.{EndsWith}
 use Rattle.jop_target.specs.declared.call.Call.TheVariants.{Get}
 use Rattle.jop_target.specs.declared.event.Event.TheVariants.{Called}
 use Rattle.jop_target.specs.declared.reply.Reply.{Reply}
@@ -14,7 +15,6 @@ use Rattle.lease.specs.Phase.{Phase, Held, Broken, Plain, allows, heard}
 use Rattle.lease.specs.Standing.{IsHeld}
 use Rattle.lease.specs.declared.lease.Lease.{Lease}
 use Rattle.opening.specs.Opening.{KnowsVersion}
-use Rattle.session_steps.specs.Asking.{IsAnswered}
 use Rattle.sync_info.specs.Read.{info_in}
 use Rattle.sync_info.specs.declared.info.Info.{Info}
 use Rattle.target_upgrade.proofs.Courses.{course_from-last, lease-is}
@@ -59,21 +59,21 @@ by_reply client c stamp info (Done now) phase gives version = absurd gives
 by_reply client c stamp info Failed phase gives version = absurd gives
 by_reply client c stamp info (TooLarge len) phase gives version = absurd gives
 
-pub informed : (lease : Lease) (old new : DeskNow) (info : Info)
-    → (a : IsAnswered (Get InfoFile) old new) → IsHeld lease new.line.trail → lease.kind ≡ Sync
-    → Gives info a.reply → info.version ≡ SUPPORTED → KnowsVersion lease new
-informed lease old new info a held sync gives version =
+pub informed : (lease : Lease) (d : DeskNow) (info : Info) (reply : Reply)
+    → EndsWith d.line.trail (Get InfoFile) reply → IsHeld lease d.line.trail → lease.kind ≡ Sync
+    → Gives info reply → info.version ≡ SUPPORTED → KnowsVersion lease d
+informed lease d info reply ends held sync gives version =
     let client = lease.client in
-    let before = a.ends.0 in
-    let last = Called (Get InfoFile) a.reply in
-    let whole : course_of client new.line.trail ≡ course_after client (course_of client before) last =
-    ap (course_of client) a.ends.1 ∙ course_from-last client outside_course before last in
+    let before = ends.0 in
+    let last = Called (Get InfoFile) reply in
+    let whole : course_of client d.line.trail ≡ course_after client (course_of client before) last =
+    ap (course_of client) ends.1 ∙ course_from-last client outside_course before last in
     let now : (course_after client (course_of client before) last).lease.phase
     ≡ Held Sync lease.stamp =
     ap (λ (c : Course). c.lease.phase) (sym whole)
-    ∙ (ap (λ (s : Session). s.phase) (lease-is client new.line.trail)
+    ∙ (ap (λ (s : Session). s.phase) (lease-is client d.line.trail)
     ∙ (held.stands.phase ∙ ap (λ (kind : LockKind). Held kind lease.stamp) sync)) in
     ap (λ (c : Course). c.told) whole
-    ∙ by_reply client (course_of client before) lease.stamp info a.reply
-    (was_held client (course_of client before).lease.phase Sync lease.stamp a.reply now)
+    ∙ by_reply client (course_of client before) lease.stamp info reply
+    (was_held client (course_of client before).lease.phase Sync lease.stamp reply now)
     gives version

@@ -1,9 +1,7 @@
 -- What the put of the info and its change come to.
-use Rattle.std.specs.Prelude.{ℕ, ◌≡◌, List, Bool, false, Option, Some, Result, refl}
+use Rattle.std.specs.Prelude.{ℕ, ◌≡◌, List, Bool, false, Option, Result, refl}
 use Rattle.std.proofs.Common.{◌∙◌, sym, ap, subst, inl, inr}
-use Rattle.conflicts.specs.Reports.{new_report}
 use Rattle.conflicts.specs.declared.error.StepErr.{StepErr}
-use Rattle.conflicts.specs.declared.report.SyncReport.{SyncReport}
 use Rattle.desk.specs.Desks.{DeskNow}
 use Rattle.jop_base.specs.declared.path.Path.TheVariants.{Info as InfoFile}
 use Rattle.jop_target.specs.Replies.{IsReplyTo}
@@ -11,20 +9,22 @@ use Rattle.jop_target.specs.declared.call.Call.{Call}
 use Rattle.jop_target.specs.declared.call.Call.TheVariants.{Put}
 use Rattle.jop_target.specs.declared.reply.Reply.{Reply}
 use Rattle.jop_target.specs.declared.reply.Reply.TheVariants.{Listed, Got, GotBlob, Absent, Done, Failed, TooLarge}
-use Rattle.lease.specs.declared.lease.Lease.{Lease}
+use Rattle.licences.specs.Deeds.{Deed}
 use Rattle.licences.specs.Infos.{MayPutInfo, MaySetInfo, info_read}
-use Rattle.licences.specs.Puts.{has_put}
-use Rattle.licences.specs.Trails.{session_calls}
-use Rattle.licences.specs.Views.{Heard, Shown}
+use Rattle.licences.specs.Views.{Shown, View, view_from}
 use Rattle.local_store.specs.declared.change.Change.TheVariants.{InfoIs}
-use Rattle.opening.proofs.Going.{went_ends, went_up}
+use Rattle.local_store.specs.declared.tables.Tables.{Tables}
+use Rattle.opening.proofs.Going.{went_ends, went_heard}
 use Rattle.opening.proofs.Merging.{merges_none, merges_on, merges_put, puts_text}
-use Rattle.opening.specs.Opening.{Joins, MergesBetween, PutsInfo, PutsNoItem, SetsInfo, is_joining}
+use Rattle.opening.specs.Opening.{IsMerge, IsRead, Joins, MergesBetween, PutsInfo, SetsInfo, is_joining}
+use Rattle.session_steps.proofs.Behind.{behind, hears_as}
 use Rattle.session_steps.proofs.Ending.{does_as, does_nothing, ends_as, ends_then}
-use Rattle.session_steps.specs.Asking.{IsAnswered, IsHeardBy}
-use Rattle.session_steps.specs.Doing.{Does, Ends, GivesUp, Went}
+use Rattle.session_steps.specs.Asking.{IsAnswer}
+use Rattle.session_steps.specs.Doing.{Does, Ends}
 use Rattle.session_steps.specs.Parts.{Changes, Hears, Nothing, Then}
-use Rattle.session_steps.specs.Work.{IsReady, WorkNow, view_of, work}
+use Rattle.session_steps.specs.Sessions.{HearsOr}
+use Rattle.session_steps.specs.Work.{IsAtWork, WorkNow, view_of}
+use Rattle.sync_info.specs.Info.{IsInfo}
 use Rattle.sync_info.specs.Json.{info_text}
 use Rattle.sync_info.specs.Merge.{merged}
 use Rattle.sync_info.specs.declared.info.Info.{Info}
@@ -47,98 +47,95 @@ put_done content (TooLarge size) shape heard = absurd shape
 
 -- the info is the one that was read
 pub puts_nothing : (info remote : Info) (sort : Call → Bool) (a : WorkNow) → info ≡ remote
-    → IsReady a.desk a.lease → Does (PutsInfo info remote) sort a a
+    → IsAtWork a → Does (PutsInfo info remote) sort a a
 puts_nothing info remote sort a same ready =
     does_as Nothing (PutsInfo info remote) sort a a (λ shown ds none. inl (same, none))
     (does_nothing sort a ready)
 
-pub puts_it : (info remote : Info) (text : List ℕ) (sort : Call → Bool) (old new : DeskNow)
-    (before after : Lease) (r : SyncReport)
-    → text ≡ info_text info → ¬ (info ≡ remote)
-    → (a : IsAnswered (Put InfoFile text) old new)
-    → IsHeardBy sort (Put InfoFile text) old before new after
-    → Does (PutsInfo info remote) sort (work old before r) (work new after r)
-puts_it info remote text sort old new before after r is other a heard =
-    let done = put_done text a.reply a.shape a.heard in
-    does_as (Hears (Put InfoFile text) a.reply) (PutsInfo info remote) sort (work old before r)
-    (work new after r)
-    (λ shown ds h.
+put_as : (info remote : Info) (text : List ℕ) (v : View) (ds : List Deed) (reply : Reply)
+    → text ≡ info_text info → ¬ (info ≡ remote) → IsAnswer (Put InfoFile text) reply
+    → Hears (Put InfoFile text) reply v ds → PutsInfo info remote v ds
+put_as info remote text v ds reply is other answer h =
+    let done = put_done text reply answer.0 answer.1 in
     inr (
       other,
       (
         done.0,
-        subst (λ (t : List ℕ). Hears (Put InfoFile t) (Done done.0) (view_of shown old) ds) is
-            (subst (λ (reply : Reply). Hears (Put InfoFile text) reply (view_of shown old) ds) done.1 h),
+        subst (λ (t : List ℕ). Hears (Put InfoFile t) (Done done.0) v ds) is
+            (subst (λ (y : Reply). Hears (Put InfoFile text) y v ds) done.1 h),
       ),
-    ))
-    (heard a.reply r r a.ends (λ shown. refl))
+    )
 
-pub put_unput : (text : List ℕ) (old new : DeskNow) → IsAnswered (Put InfoFile text) old new
-    → PutsNoItem old new
-unfolding has_put
-put_unput text old new a = λ id. ap (λ (calls : List Heard). has_put id calls) a.calls
-
-pub put_read : (text : List ℕ) (old new : DeskNow) → IsAnswered (Put InfoFile text) old new
-    → info_read (session_calls new.line.trail) ≡ info_read (session_calls old.line.trail)
-unfolding info_read
-put_read text old new a = ap (λ (calls : List Heard). info_read calls) a.calls
+pub puts_it : (info remote : Info) (text : List ℕ) (sort : Call → Bool) (a b : WorkNow)
+    (result : Result (Unit {0}) StepErr) → text ≡ info_text info → ¬ (info ≡ remote)
+    → HearsOr (Put InfoFile text) sort a result b → Ends (PutsInfo info remote) sort a result b
+puts_it info remote text sort a b result is other h =
+    hears_as (Put InfoFile text) (PutsInfo info remote) sort a b result
+    (λ reply answer shown ds it.
+    put_as info remote text (view_of shown a.desk) ds reply is other answer it) h
 
 may_put : (info remote : Info) (text : List ℕ) (d : DeskNow) (shown : Option Shown)
-    → text ≡ info_text info → ¬ (info ≡ remote)
-    → info_read (session_calls d.line.trail) ≡ Some remote → info ≡ merged d.tables.info remote
+    → text ≡ info_text info → ¬ (info ≡ remote) → IsMerge info remote d
     → MayPutInfo (view_of shown d) text
-may_put info remote text d shown is other read merge = record {
+may_put info remote text d shown is other m = record {
   remote = remote;
-  read = read;
-  text = is ∙ ap info_text merge;
-  differs = λ same. other (merge ∙ same);
+  read = m.read.last;
+  text = is ∙ ap info_text m.is;
+  differs = λ same. other (m.is ∙ same);
 }
 
 -- each put of the info has its licence, whatever becomes of this one
-puts_merging : (info remote : Info) (text : List ℕ) (old new : DeskNow) (before after : Lease)
-    → text ≡ info_text info → ¬ (info ≡ remote)
-    → info_read (session_calls old.line.trail) ≡ Some remote
-    → info ≡ merged old.tables.info remote → new.made ≡ old.made
-    → Went (puts_text text) (work old before new_report) (work new after new_report)
-    → MergesBetween old new
-puts_merging info remote text old new before after is other read merge made went =
-    merges_put text (work old before new_report) (work new after new_report) went made
-    (λ shown. may_put info remote text old shown is other read merge)
+pub puts_merging : (info remote : Info) (text : List ℕ) (a b : WorkNow)
+    (result : Result (Unit {0}) StepErr)
+    → text ≡ info_text info → ¬ (info ≡ remote) → IsMerge info remote a.desk
+    → b.desk.made ≡ a.desk.made → HearsOr (Put InfoFile text) (puts_text text) a result b
+    → MergesBetween a.desk b.desk
+puts_merging info remote text a b result is other m made h =
+    merges_put text a b (went_heard (Put InfoFile text) (puts_text text) a b result h) made
+    (λ shown. may_put info remote text a.desk shown is other m)
 
-pub heard_merging : (info remote : Info) (text : List ℕ) (old new : DeskNow)
-    (before after : Lease)
-    → text ≡ info_text info → ¬ (info ≡ remote)
-    → info_read (session_calls old.line.trail) ≡ Some remote
-    → info ≡ merged old.tables.info remote → new.made ≡ old.made
-    → IsAnswered (Put InfoFile text) old new
-    → IsHeardBy (puts_text text) (Put InfoFile text) old before new after
-    → MergesBetween old new
-heard_merging info remote text old new before after is other read merge made a heard =
-    puts_merging info remote text old new before after is other read merge made
-    (heard a.reply new_report new_report a.ends (λ shown. refl)).went
+pub none_merging : (a : WorkNow) → IsAtWork a → MergesBetween a.desk a.desk
+none_merging a ready = merges_none none a a (λ content. refl) (does_nothing none a ready).went
 
-pub stopped_merging : (info remote : Info) (text : List ℕ) (e : StepErr) (old new : DeskNow)
-    (before after : Lease)
-    → text ≡ info_text info → ¬ (info ≡ remote)
-    → info_read (session_calls old.line.trail) ≡ Some remote
-    → info ≡ merged old.tables.info remote → new.made ≡ old.made
-    → GivesUp (puts_text text) (work old before new_report) e (work new after new_report)
-    → MergesBetween old new
-stopped_merging info remote text e old new before after is other read merge made h =
-    puts_merging info remote text old new before after is other read merge made
-    (went_up (puts_text text) (work old before new_report) (work new after new_report) e h)
+-- ---- the merge
 
-pub puts_none_merging : (old new : DeskNow) (lease : Lease) → IsReady old lease → new ≡ old
-    → MergesBetween old new
-puts_none_merging old new lease ready same =
-    subst (MergesBetween old) (sym same)
-    (merges_none none (work old lease new_report) (work old lease new_report) (λ content. refl)
-    (does_nothing none (work old lease new_report) ready).went)
+pub is_merge : (info remote : Info) (t : Tables) (d : DeskNow) → IsInfo info → IsRead remote d
+    → info ≡ merged t.info remote → t ≡ d.tables → IsMerge info remote d
+is_merge info remote t d valid read is same = record {
+  valid = valid;
+  read = read;
+  is = is ∙ ap (λ (x : Tables). merged x.info remote) same;
+}
+
+put_tables : (info remote : Info) (v : View) (ds : List Deed) → PutsInfo info remote v ds
+    → (view_from v ds).tables ≡ v.tables
+unfolding view_from
+put_tables info remote v ds (inl h) = ap (λ (x : List Deed). (view_from v x).tables) h.1
+put_tables info remote v ds (inr h) = ap (λ (x : List Deed). (view_from v x).tables) h.1.1
+
+put_read : (info remote : Info) (v : View) (ds : List Deed) → PutsInfo info remote v ds
+    → info_read (view_from v ds).calls ≡ info_read v.calls
+unfolding view_from info_read
+put_read info remote v ds (inl h) = ap (λ (x : List Deed). info_read (view_from v x).calls) h.1
+put_read info remote v ds (inr h) = ap (λ (x : List Deed). info_read (view_from v x).calls) h.1.1
+
+-- it is still the merge once it was put
+pub still_merge : (info remote : Info) (sort : Call → Bool) (a b : WorkNow)
+    → Does (PutsInfo info remote) sort a b → IsMerge info remote a.desk
+    → IsMerge info remote b.desk
+still_merge info remote sort a b h m =
+    let tables = behind (λ t cs u us. u ≡ t) (PutsInfo info remote) sort a b
+    (put_tables info remote) h in
+    let read = behind (λ t cs u us. info_read us ≡ info_read cs) (PutsInfo info remote) sort a b
+    (put_read info remote) h in
+    is_merge info remote a.desk.tables b.desk m.valid
+    (record { valid = m.read.valid; version = m.read.version; last = read ∙ m.read.last }) m.is
+    (sym tables)
 
 -- ---- the change
 
 pub sets_nothing : (info own : Info) (sort : Call → Bool) (a : WorkNow) → info ≡ own
-    → own ≡ a.desk.tables.info → IsReady a.desk a.lease → Does (SetsInfo info) sort a a
+    → own ≡ a.desk.tables.info → IsAtWork a → Does (SetsInfo info) sort a a
 sets_nothing info own sort a same is ready =
     does_as Nothing (SetsInfo info) sort a a (λ shown ds none. inl (same ∙ is, none))
     (does_nothing sort a ready)
@@ -150,15 +147,10 @@ sets_it info sort a b result other h =
     ends_as (Changes (InfoIs info)) (SetsInfo info) sort a b result
     (λ shown ds is. inr (other, is)) h
 
-pub may_set : (info remote own : Info) (d : DeskNow) (shown : Option Shown)
-    → info_read (session_calls d.line.trail) ≡ Some remote → info ≡ merged own remote
-    → d.tables.info ≡ own → ¬ (info ≡ d.tables.info) → MaySetInfo (view_of shown d) info
-may_set info remote own d shown read merge is other = record {
-  remote = remote;
-  read = read;
-  is = merge ∙ ap (λ (x : Info). merged x remote) (sym is);
-  differs = other;
-}
+pub may_set : (info remote : Info) (d : DeskNow) (shown : Option Shown) → IsMerge info remote d
+    → ¬ (info ≡ d.tables.info) → MaySetInfo (view_of shown d) info
+may_set info remote d shown m other =
+    record { remote = remote; read = m.read.last; is = m.is; differs = other }
 
 -- ---- both
 

@@ -1,80 +1,129 @@
 -- What an opening comes to, by what it has read and what it has made of it.
-use Rattle.std.specs.Prelude.{◌≡◌, Bool, true, false, Some, None, Result, refl}
-use Rattle.std.proofs.Common.{◌∙◌, ap}
+use Rattle.std.specs.Prelude.{◌≡◌, true, Some, None, Result, Ok, Err, OnOk, refl}
+use Rattle.std.proofs.Common.{◌∙◌}
 use Rattle.std.proofs.lemmas.Bool.{false≢true}
 use Rattle.conflicts.specs.declared.error.StepErr.{StepErr}
 use Rattle.jop_base.specs.declared.lock_name.LockKind.TheVariants.{Sync}
-use Rattle.jop_base.specs.declared.path.Path.TheVariants.{Info as InfoFile}
+use Rattle.jop_base.specs.declared.path.Path.TheVariants.{Info as InfoFile, OldVersion}
 use Rattle.jop_target.specs.declared.call.Call.{Call}
 use Rattle.jop_target.specs.declared.call.Call.TheVariants.{Get, Put}
-use Rattle.lease.specs.Standing.{IsHeld, IsSameBut}
-use Rattle.lease.specs.declared.lease.Lease.{Lease}
-use Rattle.opening.proofs.Going.{went_ends}
+use Rattle.lease.specs.Standing.{IsHeld}
+use Rattle.opening.proofs.Going.{still_sync, went_ends}
 use Rattle.opening.proofs.Merging.{merges_none, merges_on}
+use Rattle.opening.proofs.Unput.{unput_behind}
 use Rattle.opening.proofs.Versions.{MayOnceTold, StaysLawful, stays_lawful}
-use Rattle.opening.specs.Opening.{IsLawful, Joins, KnowsVersion, MergesBetween, Opens, ReadsInfo, is_joining, is_opening}
-use Rattle.session_steps.proofs.Ending.{does_as}
+use Rattle.opening.specs.Opening.{HasRead, IsLawful, IsUnstopped, Joins, MergesBetween, Opens, OpensOr, PutsNoItem, ReadsBadInfo, ReadsInfo, ReadsVersion, Refuses, is_joining, is_opening, is_reading}
+use Rattle.opening.specs.declared.refusal.OpenErr.{OpenErr}
+use Rattle.opening.specs.declared.refusal.OpenErr.TheVariants.{Older, Newer, BadInfo, Step}
+use Rattle.session_steps.proofs.Ending.{does_as, gives_up_behind}
 use Rattle.session_steps.proofs.Joins.{does_then}
-use Rattle.session_steps.proofs.Wider.{does_within, went_within}
-use Rattle.session_steps.specs.Doing.{Does, Ends, Went}
-use Rattle.session_steps.specs.Parts.{Then}
-use Rattle.session_steps.specs.Work.{WorkNow}
+use Rattle.session_steps.proofs.Recast.{ends_nowhere}
+use Rattle.session_steps.proofs.Wider.{does_within, gives_up_within, went_within}
+use Rattle.session_steps.specs.Doing.{Does, Ends, GivesUp, Went}
+use Rattle.session_steps.specs.Parts.{Nothing, Part, Then}
+use Rattle.session_steps.specs.Work.{IsAtWork, WorkNow, nowhere, placed}
 use Rattle.sync_info.specs.declared.info.Info.{Info}
 use Rattle.target_upgrade.specs.Steps.{SUPPORTED}
 
 -- ---- the reading
 
--- a get
-abbrev pub is_get : Call → Bool
-is_get (Get path) = true
-is_get call = false
+may_read : (call : Call) → is_reading call ≡ true → MayOnceTold None call
+may_read (Get InfoFile) is = record { keeps = refl; asks_none = λ told. absurd (false≢true told) }
+may_read (Get OldVersion) is = record { keeps = refl; asks_none = λ told. absurd (false≢true told) }
+may_read call is = cc
 
-may_get : (call : Call) → is_get call ≡ true → MayOnceTold None call
-may_get (Get path) is = record { keeps = refl; asks_none = λ told. absurd (false≢true told) }
-may_get call is = cc
+reading_within : (call : Call) → is_reading call ≡ true → is_opening call ≡ true
+reading_within (Get InfoFile) is = refl
+reading_within (Get OldVersion) is = refl
+reading_within call is = cc
+
+-- by gets alone, whatever was told before
+pub lawful_read : (a b : WorkNow) → IsHeld a.lease a.desk.line.trail → a.lease.kind ≡ Sync
+    → IsLawful a.lease a.desk → Went is_reading a b → IsLawful b.lease b.desk
+lawful_read a b held sync lawful w =
+    (stays_lawful is_reading None a b may_read held sync lawful (λ version no. absurd cc) w).lawful
+
+pub merges_read : (a b : WorkNow) → Went is_reading a b → MergesBetween a.desk b.desk
+merges_read a b w = merges_none is_reading a b (λ content. refl) w
+
+pub refuses : (a b : WorkNow) (e : OpenErr) → Refuses is_reading a e b → Refuses is_opening a e b
+refuses a b (Older version) h = (h.0, does_within is_reading is_opening a b reading_within h.1)
+refuses a b (Newer version) h = (h.0, does_within is_reading is_opening a b reading_within h.1)
+refuses a b BadInfo h = does_within is_reading is_opening a b reading_within h
+refuses a b (Step e) h = gives_up_within is_reading is_opening a b e reading_within h
+
+-- ---- what was made of it
 
 may_join : (call : Call) → is_joining call ≡ true → MayOnceTold (Some SUPPORTED) call
 may_join (Put InfoFile content) is = record { keeps = is; asks_none = λ told. refl }
 may_join call is = cc
 
-pub joining_within : (call : Call) → is_joining call ≡ true → is_opening call ≡ true
+joining_within : (call : Call) → is_joining call ≡ true → is_opening call ≡ true
 joining_within (Put InfoFile content) is = is
 joining_within call is = cc
 
-pub still_sync : (a b : Lease) → IsSameBut a b → a.kind ≡ Sync → b.kind ≡ Sync
-still_sync a b same sync = ap (λ (l : Lease). l.kind) same ∙ sync
-
--- by gets alone, whatever was told before
-pub lawful_read : (a b : WorkNow) → IsHeld a.lease a.desk.line.trail → a.lease.kind ≡ Sync
-    → IsLawful a.lease a.desk → Went is_get a b → IsLawful b.lease b.desk
-lawful_read a b held sync lawful w =
-    (stays_lawful is_get None a b may_get held sync lawful (λ version no. absurd cc) w).lawful
-
-pub merges_read : (a b : WorkNow) → Went is_get a b → MergesBetween a.desk b.desk
-merges_read a b w = merges_none is_get a b (λ content. refl) w
-
--- ---- what was made of it
-
-pub lawful_joined : (a b : WorkNow) → IsHeld a.lease a.desk.line.trail → a.lease.kind ≡ Sync
-    → IsLawful a.lease a.desk → KnowsVersion a.lease a.desk → Went is_joining a b
-    → StaysLawful (Some SUPPORTED) b
-lawful_joined a b held sync lawful told w =
-    stays_lawful is_joining (Some SUPPORTED) a b may_join held sync lawful
-    (λ version is. told ∙ is) w
+pub lawful_joined : (remote : Info) (a b c : WorkNow) → IsAtWork a → a.lease.kind ≡ Sync
+    → IsLawful a.lease a.desk → HasRead remote a b → Went is_joining b c
+    → StaysLawful (Some SUPPORTED) c
+lawful_joined remote a b c ready sync lawful h k =
+    stays_lawful is_joining (Some SUPPORTED) b c may_join h.does.ready.held
+    (still_sync a.lease b.lease h.does.went.same sync)
+    (lawful_read a b ready.held sync lawful h.does.went) (λ version is. h.told ∙ is) k
 
 pub merges_joined : (remote : Info) (a b c : WorkNow) (result : Result (Unit {0}) StepErr)
-    → Does (ReadsInfo remote) is_opening a b → Ends (Joins remote) is_joining b result c
-    → MergesBetween a.desk b.desk → MergesBetween b.desk c.desk → MergesBetween a.desk c.desk
-merges_joined remote a b c result h k first second =
-    merges_on (ReadsInfo remote) is_opening a b c h
+    → HasRead remote a b → Ends (Joins remote) is_joining b result c
+    → MergesBetween b.desk c.desk → MergesBetween a.desk c.desk
+merges_joined remote a b c result h k second =
+    merges_on (ReadsInfo remote) is_opening a b c
+    (does_within is_reading is_opening a b reading_within h.does)
     (went_within is_joining is_opening b c joining_within
-    (went_ends (Joins remote) is_joining b c result k)) first second
+    (went_ends (Joins remote) is_joining b c result k)) (merges_read a b h.does.went) second
 
-pub opened : (remote : Info) (a b c : WorkNow) → remote.version ≡ SUPPORTED
-    → Does (ReadsInfo remote) is_opening a b → Does (Joins remote) is_joining b c
-    → Does Opens is_opening a c
-opened remote a b c version h k =
+pub opened : (remote : Info) (a b c : WorkNow) → HasRead remote a b
+    → Does (Joins remote) is_joining b c → Does Opens is_opening a c
+opened remote a b c h k =
     does_as (Then (ReadsInfo remote) (Joins remote)) Opens is_opening a c
-    (λ shown ds both. (remote, (version, both)))
-    (does_then (ReadsInfo remote) (Joins remote) is_opening a b c h
+    (λ shown ds both. (remote, (h.read.version, both)))
+    (does_then (ReadsInfo remote) (Joins remote) is_opening a b c
+    (does_within is_reading is_opening a b reading_within h.does)
     (does_within is_joining is_opening b c joining_within k))
+
+pub stops_joining : (remote : Info) (a b c : WorkNow) (e : StepErr) → HasRead remote a b
+    → GivesUp is_joining b e c → GivesUp is_opening a e c
+stops_joining remote a b c e h k =
+    gives_up_behind (ReadsInfo remote) is_opening a b c e
+    (does_within is_reading is_opening a b reading_within h.does)
+    (gives_up_within is_joining is_opening b c e joining_within k)
+
+-- ---- what it leaves
+
+pub ready_opened : (a b : WorkNow) (result : Result (Unit {0}) OpenErr) → OpensOr a result b
+    → IsUnstopped result → IsAtWork b
+ready_opened a b (Ok done) h on = h.ready
+ready_opened a b (Err (Older version)) h on = h.1.ready
+ready_opened a b (Err (Newer version)) h on = h.1.ready
+ready_opened a b (Err BadInfo) h on = h.ready
+ready_opened a b (Err (Step e)) h on = absurd on
+
+pub unput_opened : (a b : WorkNow) (result : Result (Unit {0}) OpenErr) → OpensOr a result b
+    → OnOk result (PutsNoItem a.desk b.desk)
+unput_opened a b (Ok done) h = unput_behind is_opening a b h
+unput_opened a b (Err e) h = tt
+
+-- ---- by whatever references
+
+does_nowhere : (P : Part) (a b : WorkNow) → Does P is_opening a b
+    → Does P is_opening (placed nowhere a) (placed nowhere b)
+does_nowhere P a b h = ends_nowhere {R = Unit {0}} P is_opening a b (Ok tt) h
+
+refuses_nowhere : (a b : WorkNow) (e : OpenErr) → Refuses is_opening a e b
+    → Refuses is_opening (placed nowhere a) e (placed nowhere b)
+refuses_nowhere a b (Older version) h = (h.0, does_nowhere (ReadsVersion version) a b h.1)
+refuses_nowhere a b (Newer version) h = (h.0, does_nowhere (ReadsVersion version) a b h.1)
+refuses_nowhere a b BadInfo h = does_nowhere ReadsBadInfo a b h
+refuses_nowhere a b (Step e) h = ends_nowhere {R = Unit {0}} Nothing is_opening a b (Err e) h
+
+pub opens_nowhere : (a b : WorkNow) (result : Result (Unit {0}) OpenErr) → OpensOr a result b
+    → OpensOr (placed nowhere a) result (placed nowhere b)
+opens_nowhere a b (Ok done) h = does_nowhere Opens a b h
+opens_nowhere a b (Err e) h = refuses_nowhere a b e h

@@ -11,6 +11,7 @@ use Rattle.jop_target.specs.declared.reply.Reply.{Reply}
 use Rattle.jop_target.specs.declared.reply.Reply.TheVariants.{Got, Absent, Done, TooLarge}
 use Rattle.lease.specs.declared.lease.Lease.{Lease}
 use Rattle.licences.specs.Deeds.{deeds_of}
+use Rattle.licences.specs.Infos.{info_read}
 use Rattle.licences.specs.Licences.{MergesInfo}
 use Rattle.licences.specs.Puts.{has_put}
 use Rattle.licences.specs.Trails.{session_calls}
@@ -37,6 +38,12 @@ is_opening (Get InfoFile) = true
 is_opening (Get OldVersion) = true
 is_opening (Put InfoFile content) = is_info_at SUPPORTED content
 is_opening call = false
+
+-- its reads are these gets alone
+abbrev pub is_reading : Call → Bool
+is_reading (Get InfoFile) = true
+is_reading (Get OldVersion) = true
+is_reading call = false
 
 -- behind its reads it makes such a put alone, and so isn't told another version
 abbrev pub is_joining : Call → Bool
@@ -83,6 +90,18 @@ ReadsVersion version v ds = ReadsInfoAt version v ds ⊎ ReadsOld version v ds
 
 -- ---- what is made of it
 
+-- the session's last get of the info gave this one, which is of the supported version
+pub record IsRead (info : Info) (d : DeskNow) : Type 0 where
+  pub valid : IsInfo info
+  pub version : info.version ≡ SUPPORTED
+  pub last : info_read (session_calls d.line.trail) ≡ Some info
+
+-- this info is the merge of the client's own and the one that was read
+pub record IsMerge (info remote : Info) (d : DeskNow) : Type 0 where
+  pub valid : IsInfo info
+  pub read : IsRead remote d
+  pub is : info ≡ merged d.tables.info remote
+
 -- the info is put if it isn't the one that was read
 abbrev pub PutsInfo : Info → Info → Part
 PutsInfo info remote v ds =
@@ -108,6 +127,29 @@ Opens v ds =
     (remote : Info)
     × ((remote.version ≡ SUPPORTED) × Then (ReadsInfo remote) (Joins remote) v ds)
 
+-- ---- what lasts
+
+-- each put of the info that was made between has its licence, whatever the session was shown
+abbrev pub MergesBetween : DeskNow → DeskNow → Type 0
+MergesBetween old new =
+    (more : List Event) (changes : List Change) (shown : Option Shown)
+    → new.line.trail ≡ old.line.trail ++ more → new.made ≡ old.made ++ changes
+    → MergesInfo (view_of shown old) (deeds_of more changes)
+
+-- no item's file was put between, as far as the last session's calls tell
+abbrev pub PutsNoItem : DeskNow → DeskNow → Type 0
+PutsNoItem old new =
+    (id : List ℕ)
+    → has_put id (session_calls new.line.trail) ≡ has_put id (session_calls old.line.trail)
+
+-- the last session has done under its lease what it may
+abbrev pub IsLawful : Lease → DeskNow → Type 0
+IsLawful lease d = (course_of lease.client d.line.trail).lawful ≡ true
+
+-- and the version that it was told is the supported one
+abbrev pub KnowsVersion : Lease → DeskNow → Type 0
+KnowsVersion lease d = (course_of lease.client d.line.trail).told ≡ Some SUPPORTED
+
 -- ---- the answers
 
 -- why a session isn't opened: by what was read of its target, or as a step gave nothing
@@ -124,16 +166,22 @@ abbrev pub OpensOr : WorkNow → Result (Unit {0}) OpenErr → WorkNow → Type 
 OpensOr old (Ok done) new = Does Opens is_opening old new
 OpensOr old (Err e) new = Refuses is_opening old e new
 
--- an info was read, or none of the supported version
-abbrev pub ReadsOr : (Call → Bool) → WorkNow → Result Info OpenErr → WorkNow → Type 0
-ReadsOr sort old (Ok info) new = Does (ReadsInfo info) sort old new
-ReadsOr sort old (Err e) new = Refuses sort old e new
+-- an info of the supported version was read, and the session was told of it
+pub record HasRead (info : Info) (old new : WorkNow) : Type 0 where
+  pub does : Does (ReadsInfo info) is_reading old new
+  pub read : IsRead info new.desk
+  pub told : KnowsVersion new.lease new.desk
+
+-- such an info was read, or none
+abbrev pub ReadsOr : WorkNow → Result Info OpenErr → WorkNow → Type 0
+ReadsOr old (Ok info) new = HasRead info old new
+ReadsOr old (Err e) new = Refuses is_reading old e new
 
 -- the old version's file told the version of an old target
-abbrev pub ReadsOldOr : (Call → Bool) → WorkNow → Result ℕ StepErr → WorkNow → Type 0
-ReadsOldOr sort old (Ok version) new =
-    (version < SUPPORTED) × Does (ReadsOldFile version) sort old new
-ReadsOldOr sort old (Err e) new = GivesUp sort old e new
+abbrev pub ReadsOldOr : WorkNow → Result ℕ StepErr → WorkNow → Type 0
+ReadsOldOr old (Ok version) new =
+    (version < SUPPORTED) × Does (ReadsOldFile version) is_reading old new
+ReadsOldOr old (Err e) new = GivesUp is_reading old e new
 
 -- what the reply to the get of the info tells: the info, or none if it isn't there
 abbrev pub Tells : Reply → Result (Option Info) OpenErr → Type 0
@@ -157,26 +205,3 @@ IsUnstopped (Err (Older version)) = Unit {0}
 IsUnstopped (Err (Newer version)) = Unit {0}
 IsUnstopped (Err BadInfo) = Unit {0}
 IsUnstopped (Err (Step e)) = ⊥
-
--- ---- what lasts
-
--- each put of the info that was made between has its licence, whatever the session was shown
-abbrev pub MergesBetween : DeskNow → DeskNow → Type 0
-MergesBetween old new =
-    (more : List Event) (changes : List Change) (shown : Option Shown)
-    → new.line.trail ≡ old.line.trail ++ more → new.made ≡ old.made ++ changes
-    → MergesInfo (view_of shown old) (deeds_of more changes)
-
--- no item's file was put between, as far as the last session's calls tell
-abbrev pub PutsNoItem : DeskNow → DeskNow → Type 0
-PutsNoItem old new =
-    (id : List ℕ)
-    → has_put id (session_calls new.line.trail) ≡ has_put id (session_calls old.line.trail)
-
--- the last session has done under its lease what it may
-abbrev pub IsLawful : Lease → DeskNow → Type 0
-IsLawful lease d = (course_of lease.client d.line.trail).lawful ≡ true
-
--- and the version that it was told is the supported one
-abbrev pub KnowsVersion : Lease → DeskNow → Type 0
-KnowsVersion lease d = (course_of lease.client d.line.trail).told ≡ Some SUPPORTED

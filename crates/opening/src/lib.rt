@@ -1,7 +1,7 @@
 //! The opening of a sync session: the version of its target is read, and the target's info and the client's own become
 //! one.
 //!
-//! Begin with [`open`]; `specs/Opening.antt` tells it as a sentence. `proofs/Versions.antt` has the law by which later
+//! Begin with [`open_session`]; `specs/Opening.antt` tells it as a sentence. `proofs/Versions.antt` has the law by which later
 //! parts of the session leave its course lawful.
 #![tactic(auto)]
 
@@ -10,5 +10,5 @@ mod opening;
 mod reading;
 mod refusal;
 
-pub use opening::open;
+pub use opening::{open, open_session};
 pub use refusal::OpenErr;

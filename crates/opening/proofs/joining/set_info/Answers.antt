@@ -1,23 +1,36 @@
-use Rattle.std.specs.Prelude.{Ok}
 use Rattle.std.proofs.Common.{◌∙◌, ap, sym}
 use Rattle.local_store.specs.declared.tables.Tables.{Tables}
-use Rattle.opening.proofs.Joined.{sets_it, sets_nothing}
-use Rattle.session_steps.specs.Work.{work}
+use Rattle.opening.proofs.Joined.{may_set, sets_it, sets_nothing}
 use Rattle.opening.proofs.joining.set_info.Goals as goal
 
-pub returns-then-is_same-clause-sets : goal.returns-then-is_same-clause-sets
-returns-then-is_same-clause-sets g c = λ sort lease held.
-    sets_nothing c.args.info c.tables.result.now.info sort
-    (work (g.S.Desk.desk c.args.site.now) lease c.args.report.now)
-    (c.is_same.ensures.0 c.if-is_same.true) (ap (λ (t : Tables). t.info) c.tables.ensures)
-    (record { tidy = c.requires.tidy; held = held })
+pub make-requires-clause-allowed : goal.make-requires-clause-allowed
+make-requires-clause-allowed g c = c.requires.merge.1.valid
 
-pub returns-clause-sets : goal.returns-clause-sets
-returns-clause-sets g c = λ sort lease held.
-    sets_it c.args.info sort (work (g.S.Desk.desk c.args.site.now) lease c.args.report.now)
-    (work (g.S.Desk.desk c.make.new.site) lease c.make.new.report) (Ok tt)
+pub make-requires-clause-may : goal.make-requires-clause-may
+make-requires-clause-may g c = λ shown.
+    may_set c.args.info c.requires.merge.0 (g.W.Session.now c.args.s.now).desk shown
+    c.requires.merge.1
     (λ same.
     let no = c.is_same.ensures.1 (same ∙ sym (ap (λ (t : Tables). t.info) c.tables.ensures)) in
     let is = c.if-is_same.false in
     absurd cc)
-    (c.in_ok-make.ensures.makes sort lease held)
+
+pub returns-then-is_same : goal.returns-then-is_same
+returns-then-is_same g c = record {
+  ends = λ sort.
+      sets_nothing c.args.info c.tables.result.now.info sort (g.W.Session.now c.args.s.now)
+      (c.is_same.ensures.0 c.if-is_same.true) (ap (λ (t : Tables). t.info) c.tables.ensures)
+      c.requires.ready;
+}
+
+pub returns : goal.returns
+returns g c = record {
+  ends = λ sort.
+      sets_it c.args.info sort (g.W.Session.now c.args.s.now) (g.W.Session.now c.make.new.self)
+      c.make.result
+      (λ same.
+      let no = c.is_same.ensures.1 (same ∙ sym (ap (λ (t : Tables). t.info) c.tables.ensures)) in
+      let is = c.if-is_same.false in
+      absurd cc)
+      (c.make.ensures.ends sort);
+}
