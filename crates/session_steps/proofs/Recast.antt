@@ -12,9 +12,9 @@ use Rattle.jop_target.specs.declared.reply.Listing.{Listing}
 use Rattle.jop_target.specs.declared.reply.Reply.{Reply}
 use Rattle.jop_target.specs.declared.reply.Reply.TheVariants.{Listed}
 use Rattle.licences.specs.Deeds.{Deed}
-use Rattle.licences.specs.Views.{Shown, Stage, View, view_from}
+use Rattle.licences.specs.Views.{Shown, Stage, View, shown_to, view_from}
 use Rattle.session_steps.proofs.Behind.{place_given_up}
-use Rattle.session_steps.proofs.Known.{ShowsNothing, shown_at}
+use Rattle.session_steps.proofs.Known.{ShowsNothing}
 use Rattle.session_steps.proofs.Seen.{view_from-but_locks}
 use Rattle.session_steps.specs.Doing.{Does, DoesTo, Ends, EndsAt, EndsIn, GivesUp, IsTold, Stops, Went}
 use Rattle.session_steps.specs.Parts.{Hears, Part, but_locks}
@@ -224,11 +224,11 @@ fetches_none id v ds h = hears_none (GetBlob id) h.0 (λ w reply. refl) v ds h.1
 pub does_listing : (listing : Listing) (sort : Call → Bool) (a b : WorkNow)
     → Does (Hears (ListDir Root) (Listed listing)) sort a b
     → Does (Hears (ListDir Root) (Listed listing)) sort a
-    (knowing (Some (shown_at a.desk listing)) b)
+    (knowing (Some (shown_to a.desk.tables listing)) b)
 unfolding view_from
 does_listing listing sort a b h =
     does_recast (Hears (ListDir Root) (Listed listing)) sort a.known
-    (Some (shown_at a.desk listing)) a.place b.place a b (λ shown fit. fit) h.went.place h
+    (Some (shown_to a.desk.tables listing)) a.place b.place a b (λ shown fit. fit) h.went.place h
     (λ shown fit.
     let v = view_of shown a.desk in
     ap (λ (w : View). w.shown) (sym (view_from-but_locks v h.went.deeds))
