@@ -1,5 +1,5 @@
 //! Worked cases of what sessions do, over targets and keepers in memory: [`upload::upload_all`],
-//! [`download::apply_page`] and [`deletions::delete_all`], and [`sync_run::upgrade_on`], alone, broken off at
+//! [`download::apply_page`] and [`upload::delete_all`], and [`sync_run::upgrade_on`], alone, broken off at
 //! each call, and beside what other clients do.
 #![tactic(auto)]
 

@@ -22,7 +22,7 @@ use Rattle.session_steps.proofs.Seen.{view_from-but_locks}
 use Rattle.session_steps.specs.Doing.{Does, Finishes, GivesUp}
 use Rattle.session_steps.specs.Parts.{Hears, but_locks}
 use Rattle.session_steps.specs.Work.{WorkNow, view_of}
-use Rattle.deletions.specs.Deleting.{Deletes, is_deletion}
+use Rattle.upload.specs.Deleting.{Deletes, is_deletion}
 use Rattle.upload.specs.Uploading.{Uploads, is_upload}
 use Rattle.session_steps.proofs.Wider.{IsWithin, does_within, gives_up_within}
 use Rattle.sync_session.specs.Working.{Exchanges, ExchangesOr, IsEmptiedBehind, ListsBehind, Sends, is_exchange}

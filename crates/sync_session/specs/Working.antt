@@ -20,7 +20,7 @@ use Rattle.session_steps.specs.Doing.{Does, Finishes, GivesUp, HasLapsed, Keeper
 use Rattle.session_steps.specs.Parts.{Hears, Part, Then}
 use Rattle.session_steps.specs.Work.{WorkNow}
 use Rattle.target_upgrade.specs.Steps.{SUPPORTED}
-use Rattle.deletions.specs.Deleting.{Deletes, is_deletion}
+use Rattle.upload.specs.Deleting.{Deletes, is_deletion}
 use Rattle.upload.specs.Settled.{AreSettled}
 use Rattle.upload.specs.Uploading.{Uploads, is_upload}
 use Rattle.sync_session.specs.Keys.{IsActiveKey, needs_key}

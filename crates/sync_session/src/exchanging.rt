@@ -6,12 +6,11 @@ ghost use Rattle.upload.specs.Conditions.{AreUnput, IsReadable};
 ghost use Rattle.sync_session.specs.Working.{ExchangesOr, LeavesNothing, Sends, is_exchange};
 
 use conflicts::{StepErr, SyncReport};
-use deletions::delete_all;
 use desk::Desk;
 use download::apply_page;
 use lease::Lease;
 use std::alloc::Global;
-use upload::upload_all;
+use upload::{delete_all, upload_all};
 
 /// Uploads what was saved here, and deletes what was removed here.
 fn send<S: Desk>(

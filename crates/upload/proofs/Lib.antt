@@ -6,3 +6,4 @@ pub mod Left
 pub mod Folders
 pub mod Licensed
 pub mod Uploaded
+pub mod Deleted

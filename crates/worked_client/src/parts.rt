@@ -6,13 +6,12 @@ ghost use Rattle.worked_client.specs.Begun.{HasBegun};
 
 use crate::broken_off::BrokenOff;
 use conflicts::{StepErr, SyncReport};
-use deletions::delete_all;
 use desk::Desk;
 use download::apply_page;
 use jop_base::{Id, LockKind};
 use lease::{Lease, acquire};
 use std::alloc::Global;
-use upload::upload_all;
+use upload::{delete_all, upload_all};
 
 /// What is done of a session once it has its lease.
 #[derive(Clone, Copy)]

@@ -1,6 +1,6 @@
 use Rattle.std.proofs.lemmas.Result.{err_from_is_err_and}
 use Rattle.session_steps.specs.Work.{work}
-use Rattle.deletions.specs.Deleting.{is_deletion}
+use Rattle.upload.specs.Deleting.{is_deletion}
 use Rattle.upload.specs.Uploading.{is_upload}
 use Rattle.sync_session.proofs.Exchanged.{sends_both, sends_stopped, upload_within}
 use Rattle.sync_session.proofs.Settled.{settled_behind}

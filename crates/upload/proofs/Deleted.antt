@@ -26,7 +26,7 @@ use Rattle.session_steps.specs.Doing.{Does, Ends}
 use Rattle.session_steps.specs.Parts.{ForEach, Then}
 use Rattle.session_steps.specs.Sessions.{is_data}
 use Rattle.session_steps.specs.Work.{IsReady, WorkNow, view_of}
-use Rattle.deletions.specs.Deleting.{Deletes, DeletesBytes, DeletesFile, DeletesOne, is_deletion}
+use Rattle.upload.specs.Deleting.{Deletes, DeletesBytes, DeletesFile, DeletesOne, is_deletion}
 
 -- ---- a file
 

@@ -1,8 +1,8 @@
 use Rattle.jop_target.specs.declared.call.Call.TheVariants.{Delete}
 use Rattle.session_steps.proofs.Behind.{hears_as}
-use Rattle.deletions.proofs.Deleted.{gone_by}
-use Rattle.deletions.specs.Deleting.{DeletesFile, is_deletion}
-use Rattle.deletions.proofs.deleting.delete.Goals as goal
+use Rattle.upload.proofs.Deleted.{gone_by}
+use Rattle.upload.specs.Deleting.{DeletesFile, is_deletion}
+use Rattle.upload.proofs.deleting.delete.Goals as goal
 
 pub returns : goal.returns
 returns g c = record {

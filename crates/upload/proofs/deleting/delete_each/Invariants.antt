@@ -1,8 +1,8 @@
 use Rattle.std.proofs.Common.{◌≡◌, take, drop}
 use Rattle.session_steps.specs.Doing.{Does}
 use Rattle.session_steps.specs.Parts.{ForEach}
-use Rattle.deletions.specs.Deleting.{DeletesOne, is_deletion}
-use Rattle.deletions.proofs.deleting.delete_each.Given as goal
+use Rattle.upload.specs.Deleting.{DeletesOne, is_deletion}
+use Rattle.upload.proofs.deleting.delete_each.Given as goal
 
 -- those before here are done, and those from here on are still there
 abbrev pub invariant-loop-index : goal.invariant-loop-index

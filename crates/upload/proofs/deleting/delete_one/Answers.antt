@@ -3,9 +3,9 @@ use Rattle.jop_base.specs.declared.path.Path.TheVariants.{Item}
 use Rattle.local_store.specs.declared.change.Change.TheVariants.{Dropped}
 use Rattle.session_steps.proofs.Ending.{ends_then, gives_up_behind}
 use Rattle.session_steps.specs.Parts.{Changes, Then}
-use Rattle.deletions.proofs.Deleted.{may_drop, stands, still_there}
-use Rattle.deletions.specs.Deleting.{DeletesBytes, DeletesFile, is_deletion}
-use Rattle.deletions.proofs.deleting.delete_one.Goals as goal
+use Rattle.upload.proofs.Deleted.{may_drop, stands, still_there}
+use Rattle.upload.specs.Deleting.{DeletesBytes, DeletesFile, is_deletion}
+use Rattle.upload.proofs.deleting.delete_one.Goals as goal
 
 pub delete-requires-clause-may : goal.delete-requires-clause-may
 delete-requires-clause-may g c = λ shown.

@@ -1,7 +1,7 @@
 use Rattle.std.proofs.lemmas.Result.{err_from_is_err_and}
 use Rattle.session_steps.proofs.Ending.{does_nothing, does_starves}
-use Rattle.deletions.specs.Deleting.{is_deletion}
-use Rattle.deletions.proofs.deleting.delete_listed.Goals as goal
+use Rattle.upload.specs.Deleting.{is_deletion}
+use Rattle.upload.proofs.deleting.delete_listed.Goals as goal
 
 pub returns-in_err-deletions : goal.returns-in_err-deletions
 returns-in_err-deletions g c = record {

@@ -1,9 +1,9 @@
 use Rattle.std.proofs.Common.{rules}
 use Rattle.session_steps.proofs.Behind.{lease_behind, place_behind, ready_behind}
 use Rattle.session_steps.proofs.Recast.{ends_nowhere}
-use Rattle.deletions.proofs.Deleted.{none_behind}
-use Rattle.deletions.specs.Deleting.{Deletes, is_deletion}
-use Rattle.deletions.proofs.deleting.delete_all.Goals as goal
+use Rattle.upload.proofs.Deleted.{none_behind}
+use Rattle.upload.specs.Deleting.{Deletes, is_deletion}
+use Rattle.upload.proofs.deleting.delete_all.Goals as goal
 
 pub returns-clause-ready : goal.returns-clause-ready
 returns-clause-ready g c =

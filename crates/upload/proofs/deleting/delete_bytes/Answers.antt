@@ -1,5 +1,5 @@
-use Rattle.deletions.proofs.Deleted.{nothing_for}
-use Rattle.deletions.proofs.deleting.delete_bytes.Goals as goal
+use Rattle.upload.proofs.Deleted.{nothing_for}
+use Rattle.upload.proofs.deleting.delete_bytes.Goals as goal
 
 pub returns-then-not-deletion : goal.returns-then-not-deletion
 returns-then-not-deletion g c = record {

@@ -1,5 +1,5 @@
 ghost use Rattle.std.specs.Prelude.{◌≡◌, ◌∷◌, [], List, OnOk, Some, true};
-ghost use Rattle.deletions.specs.Deleting.{Deletes, DeletesBytes, DeletesFile, DeletesOne, is_deletion};
+ghost use Rattle.upload.specs.Deleting.{Deletes, DeletesBytes, DeletesFile, DeletesOne, is_deletion};
 ghost use Rattle.jop_target.specs.declared.call.Call.TheVariants.{Delete};
 ghost use Rattle.lease.specs.Standing.{IsSameBut};
 ghost use Rattle.local_store.specs.Tables.{deletion_at};
