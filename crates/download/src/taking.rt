@@ -16,8 +16,8 @@ ghost use Rattle.session_steps.specs.declared.finding.Finding.TheVariants.{Other
 
 use conflicts::{StepErr, conflict_change};
 use item_kinds::Kind;
-use jop_base::{Bytes, Id};
-use local_store::{Change, Content, has_kind, let_go};
+use jop_base::{Bytes, Id, let_go};
+use local_store::{Change, Content, has_kind};
 use session_steps::{Finding, Session, waiting_row};
 use std::alloc::Global;
 
