@@ -1,10 +1,11 @@
 -- How rows go whose files are gone.
-use Rattle.std.specs.Prelude.{ℕ, ◌≡◌, List, filter, All, Bool, true, false, ◌&&◌, not, Option, Some, None, refl}
+use Rattle.std.specs.Prelude.{ℕ, ◌≡◌, List, filter, All, Bool, true, false, ◌&&◌, not, Option, Some, None, Result, refl}
 use Rattle.std.proofs.Common.{sym, ap, subst, ◌∙◌, inl}
 use Rattle.std.proofs.lemmas.Bool.{and_parts}
 use Rattle.conflicts.specs.Rules.{folder_gone_changes}
+use Rattle.conflicts.specs.declared.error.StepErr.{StepErr}
 use Rattle.desk.specs.Desks.{DeskNow}
-use Rattle.download.specs.Downloading.{Closes, ClosesIf, Goes, GoesIf, is_leaf, is_place}
+use Rattle.download.specs.Downloading.{Closes, ClosesIf, Goes, GoesIf, LeavesOne, is_leaf, is_place}
 use Rattle.download.specs.Reading.{Lacks}
 use Rattle.jop_base.specs.Keyed.{IsSorted}
 use Rattle.jop_target.specs.declared.call.Call.{Call}
@@ -20,9 +21,9 @@ use Rattle.local_store.specs.declared.change.Change.{Change}
 use Rattle.local_store.specs.declared.change.Change.TheVariants.{Gone}
 use Rattle.local_store.specs.declared.row.Row.{Row}
 use Rattle.local_store.specs.declared.tables.Tables.{Tables}
-use Rattle.session_steps.proofs.Ending.{does_as, does_nothing}
+use Rattle.session_steps.proofs.Ending.{does_as, does_nothing, ends_as}
 use Rattle.session_steps.proofs.Folders.{IsGoing, goes_on, moves_allowed, moves_may}
-use Rattle.session_steps.specs.Doing.{Does}
+use Rattle.session_steps.specs.Doing.{Does, Ends}
 use Rattle.session_steps.specs.Making.{MayMakeAll, MayMakeAllBy, MayMakeBy}
 use Rattle.session_steps.specs.Parts.{Changes, ForEach, Nothing, Then}
 use Rattle.session_steps.specs.Work.{IsReady, WorkNow, view_of}
@@ -125,11 +126,11 @@ stays_put id sort a leaf ready =
       none true v ds e h = absurd cc
       none false v ds e h = h
 
-pub goes_away : (id : List ℕ) (sort : Call → Bool) (a b : WorkNow)
-    → is_leaf (row_at a.desk.tables id) ≡ true → Does (Changes (Gone id)) sort a b
-    → Does (Goes id) sort a b
-goes_away id sort a b leaf h =
-    does_as (Changes (Gone id)) (Goes id) sort a b
+pub goes_away : {R : Type 0} (id : List ℕ) (sort : Call → Bool) (a b : WorkNow)
+    (result : Result R StepErr) → is_leaf (row_at a.desk.tables id) ≡ true
+    → Ends (Changes (Gone id)) sort a result b → Ends (Goes id) sort a result b
+goes_away id sort a b result leaf h =
+    ends_as (Changes (Gone id)) (Goes id) sort a b result
     (λ shown ds part. some (is_leaf (row_at a.desk.tables id)) (view_of shown a.desk) ds leaf part)
     h where
       some : (leaf : Bool) (v : View) (ds : List Deed) → leaf ≡ true → Changes (Gone id) v ds
@@ -149,11 +150,11 @@ stays_open id sort a place ready =
       none true v ds e h = absurd cc
       none false v ds e h = h
 
-pub closes_up : (id : List ℕ) (sort : Call → Bool) (a b : WorkNow)
-    → is_place (row_at a.desk.tables id) ≡ true → Does (ClosesIf id true) sort a b
-    → Does (Closes id) sort a b
-closes_up id sort a b place h =
-    does_as (ClosesIf id true) (Closes id) sort a b
+pub closes_up : {R : Type 0} (id : List ℕ) (sort : Call → Bool) (a b : WorkNow)
+    (result : Result R StepErr) → is_place (row_at a.desk.tables id) ≡ true
+    → Ends (ClosesIf id true) sort a result b → Ends (Closes id) sort a result b
+closes_up id sort a b result place h =
+    ends_as (ClosesIf id true) (Closes id) sort a b result
     (λ shown ds part. some (is_place (row_at a.desk.tables id)) (view_of shown a.desk) ds place part)
     h where
       some : (place : Bool) (v : View) (ds : List Deed) → place ≡ true → ClosesIf id true v ds
@@ -162,12 +163,20 @@ closes_up id sort a b place h =
       some false v ds e h = absurd cc
 
 -- the notes are moved, and then the folder goes
-pub closes_then : (id : List ℕ) (sort : Call → Bool) (changes : List Change) (a b : WorkNow)
+pub closes_then : {R : Type 0} (id : List ℕ) (sort : Call → Bool) (changes : List Change)
+    (a b : WorkNow) (result : Result R StepErr)
     → changes ≡ folder_gone_changes a.desk.tables id
-    → Does (Then (ForEach Changes changes) (Changes (Gone id))) sort a b
-    → Does (ClosesIf id true) sort a b
-closes_then id sort changes a b are h =
-    does_as (Then (ForEach Changes changes) (Changes (Gone id))) (ClosesIf id true) sort a b
+    → Ends (Then (ForEach Changes changes) (Changes (Gone id))) sort a result b
+    → Ends (ClosesIf id true) sort a result b
+closes_then id sort changes a b result are h =
+    ends_as (Then (ForEach Changes changes) (Changes (Gone id))) (ClosesIf id true) sort a b result
     (λ shown ds. subst (λ (cs : List Change).
     Then (ForEach Changes cs) (Changes (Gone id)) (view_of shown a.desk) ds) are)
     h
+
+-- what a turn is for
+pub leaves_one : {R : Type 0} (folders turn : Bool) (id : List ℕ) (sort : Call → Bool)
+    (a b : WorkNow) (result : Result R StepErr) → folders ≡ turn
+    → Ends (LeavesOne turn id) sort a result b → Ends (LeavesOne folders id) sort a result b
+leaves_one folders turn id sort a b result is h =
+    subst (λ (x : Bool). Ends (LeavesOne x id) sort a result b) (sym is) h

@@ -1,3 +1,4 @@
+pub mod Fetched
+pub mod Taken
 pub mod Left
-pub mod Forgotten
 pub mod Paged

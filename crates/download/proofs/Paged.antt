@@ -1,18 +1,16 @@
 -- How a page is applied.
-use Rattle.std.specs.Prelude.{ℕ, ◌≡◌, ◌<◌, List, [], length, All, Contains, Bool, Some, Result, Ok, Err, refl}
+use Rattle.std.specs.Prelude.{ℕ, ◌≡◌, ◌<◌, List, [], length, All, Contains, Bool, Some, None, Result, Ok, Err, OnOk, refl}
 use Rattle.std.proofs.Common.{sym, subst, get_or}
 use Rattle.std.proofs.lemmas.Bool.{or_right}
 use Rattle.std.proofs.lemmas.List.Elements.{All-contains_itself, All-from_get_or, All-get_or}
 use Rattle.conflicts.specs.declared.error.StepErr.{StepErr}
 use Rattle.conflicts.specs.declared.error.StepErr.TheVariants.{Lost, TargetFault, KeeperFault, FailSafe, NoMemory}
-use Rattle.conflicts.specs.declared.report.SyncReport.{SyncReport}
 use Rattle.delta.specs.declared.page.Page.{Page}
 use Rattle.desk.specs.Desks.{DeskNow}
-use Rattle.download.proofs.Forgotten.{does_forgot, gives_up_forgot}
+use Rattle.download.specs.Asked.{AsksFor, IsPage}
 use Rattle.download.specs.Downloading.{Applies, Downloads, Leaves, is_download, is_listing}
-use Rattle.new_files.specs.Taking.{TakesOne, is_taking}
-use Rattle.download.specs.Reading.{HasListed, Lacks, Lists, PageIn, PageOf, Refuses, shown_at}
-use Rattle.new_files.specs.Asked.{AsksFor, IsPage}
+use Rattle.download.specs.Reading.{EndsDownload, HasListed, Lacks, Lists, PageIn, PageOf, Refuses, shown_at}
+use Rattle.download.specs.Taking.{TakesOne, is_taking}
 use Rattle.jop_base.specs.declared.dir.Dir.TheVariants.{Root}
 use Rattle.jop_target.specs.Replies.{IsReplyTo}
 use Rattle.jop_target.specs.declared.call.Call.{Call}
@@ -20,19 +18,19 @@ use Rattle.jop_target.specs.declared.call.Call.TheVariants.{List as ListDir}
 use Rattle.jop_target.specs.declared.reply.Listing.{Listing}
 use Rattle.jop_target.specs.declared.reply.Reply.{Reply}
 use Rattle.jop_target.specs.declared.reply.Reply.TheVariants.{Listed, Got, GotBlob, Absent, Done, Failed, TooLarge}
-use Rattle.lease.specs.declared.lease.Lease.{Lease}
-use Rattle.licences.specs.Views.{Shown}
+use Rattle.lease.specs.Standing.{IsSameBut}
+use Rattle.licences.specs.Views.{Finished, Shown}
 use Rattle.local_store.specs.declared.change.Change.TheVariants.{ContextIs}
 use Rattle.local_store.specs.declared.tables.Tables.{Tables}
 use Rattle.session_steps.proofs.Ending.{does_as, does_starves, gives_up_behind}
 use Rattle.session_steps.proofs.Joins.{does_then}
-use Rattle.session_steps.proofs.Known.{does_listed}
+use Rattle.session_steps.proofs.Recast.{does_forgetting, does_listing, ends_at_placed, ends_placed, gives_up_forgetting, gives_up_placed}
 use Rattle.session_steps.proofs.Wider.{IsWithin, does_within}
-use Rattle.session_steps.specs.Asking.{IsAnswered, IsHeardBy}
-use Rattle.session_steps.specs.Doing.{Does, Finishes, GivesUp}
+use Rattle.session_steps.specs.Doing.{Does, EndsAt, GivesUp, Went}
 use Rattle.session_steps.specs.Making.{MayMakeBy}
 use Rattle.session_steps.specs.Parts.{ForEach, Hears, Then}
-use Rattle.session_steps.specs.Work.{WorkNow, work, work_by}
+use Rattle.session_steps.specs.Sessions.{HasHeard}
+use Rattle.session_steps.specs.Work.{IsAtWork, WorkNow, knowing, nowhere, placed}
 
 -- ---- the page's own
 
@@ -89,50 +87,12 @@ listed_by (Absent now) shape heard = absurd shape
 listed_by (Done now) shape heard = absurd shape
 listed_by (TooLarge len) shape heard = absurd shape
 
-pub lists : (old new : DeskNow) (before after : Lease) (r : SyncReport)
-    (result : Result Page StepErr)
-    → (a : IsAnswered (ListDir Root) old new)
-    → IsHeardBy is_download (ListDir Root) old before new after
-    → PageOf old.tables a.reply result → Lists old before r result new after
-lists old new before after r result a heard page =
-    let l = listed_by a.reply a.shape a.heard in
-    by result l.0
-    (subst (λ (reply : Reply). PageOf old.tables reply result) l.1 page)
-    (subst (λ (reply : Reply). Does (Hears (ListDir Root) reply) is_download (work old before r)
-    (work new after r)) l.1 (heard a.reply r r a.ends (λ shown. refl))) where
-      by : (result : Result Page StepErr) (listing : Listing) → PageIn old.tables listing result
-          → Does (Hears (ListDir Root) (Listed listing)) is_download (work old before r)
-          (work new after r)
-          → Lists old before r result new after
-      by (Ok page) listing is h = record {
-        listing = listing;
-        is = is.0;
-        safe = is.1;
-        does = does_listed listing is_download old new before after r r h;
-      }
-      by (Err (FailSafe count)) listing is h =
-          record { listing = listing; listed = h; rows = is }
-      by (Err NoMemory) listing is h = does_starves h
-      by (Err (Lost seen)) listing is h = absurd is
-      by (Err TargetFault) listing is h = absurd is
-      by (Err KeeperFault) listing is h = absurd is
-
 -- the same page, by other names of tables and reply
 pub page_at : (t own : Tables) (reply heard : Reply) (result : Result Page StepErr)
     → t ≡ own → reply ≡ heard → PageOf t reply result → PageOf own heard result
 page_at t own reply heard result same is h =
     subst (λ (x : Reply). PageOf own x result) is
     (subst (λ (x : Tables). PageOf x reply result) same h)
-
-pub lists_none : (old new : DeskNow) (before after : Lease) (r : SyncReport) (t : Tables)
-    (reply : Reply) (e : StepErr)
-    → (a : IsAnswered (ListDir Root) old new)
-    → IsHeardBy is_download (ListDir Root) old before new after
-    → t ≡ old.tables → reply ≡ a.reply → PageOf t reply (Err e)
-    → Refuses (work old before r) e (work new after r)
-lists_none old new before after r t reply e a heard same is h =
-    lists old new before after r (Err e) a heard
-    (page_at t old.tables reply a.reply (Err e) same is h)
 
 pub refuses : (old new : WorkNow) (e : StepErr) → GivesUp is_download old e new
     → Refuses old e new
@@ -142,34 +102,102 @@ refuses old new KeeperFault h = h
 refuses old new (FailSafe count) h = absurd h
 refuses old new NoMemory h = h
 
+pub lists : (a b : WorkNow) (result : Result Page StepErr)
+    → (h : HasHeard (ListDir Root) is_download a b) → PageOf a.desk.tables h.reply result
+    → Lists a result b
+lists a b result h page =
+    let l = listed_by h.reply h.answer.0 h.answer.1 in
+    by result l.0
+    (subst (λ (reply : Reply). PageOf a.desk.tables reply result) l.1 page)
+    (subst (λ (reply : Reply). Does (Hears (ListDir Root) reply) is_download a b) l.1 h.does) where
+      by : (result : Result Page StepErr) (listing : Listing) → PageIn a.desk.tables listing result
+          → Does (Hears (ListDir Root) (Listed listing)) is_download a b
+          → Lists a result b
+      by (Ok page) listing is h = record {
+        listing = listing;
+        is = is.0;
+        safe = is.1;
+        does = does_listing listing is_download a b h;
+      }
+      by (Err (FailSafe count)) listing is h =
+          record { listing = listing; listed = h; rows = is }
+      by (Err NoMemory) listing is h = does_starves h
+      by (Err (Lost seen)) listing is h = absurd is
+      by (Err TargetFault) listing is h = absurd is
+      by (Err KeeperFault) listing is h = absurd is
+
 -- ---- the whole
 
 -- the listing, and then its page
-pub downloads : (old : DeskNow) (before : Lease) (r : SyncReport) (page : Page) (mid : DeskNow)
-    (after : Lease) (new : DeskNow) (last : Lease) (s : SyncReport)
-    → (h : HasListed old before r page mid after)
-    → Finishes (Applies page) is_download (work_by (Some (shown_at old h.listing)) mid after r)
-    (work_by (Some (shown_at old h.listing)) new last s)
-    → Finishes Downloads is_download (work old before r) (work new last s)
-downloads old before r page mid after new last s h k =
-    let known = Some (shown_at old h.listing) in
+pub downloads : {R : Type 0} (a b c : WorkNow) (page : Page) (result : Result R StepErr)
+    → (h : HasListed a page b) → c.known ≡ None
+    → EndsAt Finished (Applies page) is_download
+    (knowing (Some (shown_at a.desk h.listing)) b) result
+    (knowing (Some (shown_at a.desk h.listing)) c)
+    → EndsDownload a result c
+downloads a b c page (Ok value) h none k =
+    let known = Some (shown_at a.desk h.listing) in
     let all = Then (Hears (ListDir Root) (Listed h.listing)) (Applies page) in
-    does_as all Downloads is_download (work old before r) (work new last s)
+    does_as all Downloads is_download a c
     (λ shown ds part.
     record { listing = h.listing; page = page; is = h.is; safe = h.safe; done = part })
-    (does_forgot all is_download (work old before r) known new last s
-    (does_then (Hears (ListDir Root) (Listed h.listing)) (Applies page) is_download
-    (work old before r) (work_by known mid after r) (work_by known new last s) h.does k))
+    (does_forgetting all is_download known a c none
+    (does_then (Hears (ListDir Root) (Listed h.listing)) (Applies page) is_download a
+    (knowing known b) (knowing known c) h.does k))
+downloads a b c page (Err e) h none k =
+    let known = Some (shown_at a.desk h.listing) in
+    refuses a c e
+    (gives_up_forgetting is_download known a c e
+    (gives_up_behind (Hears (ListDir Root) (Listed h.listing)) is_download a (knowing known b)
+    (knowing known c) e h.does k))
 
-pub refuses_behind : (old : DeskNow) (before : Lease) (r : SyncReport) (page : Page)
-    (mid : DeskNow) (after : Lease) (new : DeskNow) (last : Lease) (s : SyncReport) (e : StepErr)
-    → (h : HasListed old before r page mid after)
-    → GivesUp is_download (work_by (Some (shown_at old h.listing)) mid after r) e
-    (work_by (Some (shown_at old h.listing)) new last s)
-    → Refuses (work old before r) e (work new last s)
-refuses_behind old before r page mid after new last s e h k =
-    let known = Some (shown_at old h.listing) in
-    refuses (work old before r) (work new last s) e
-    (gives_up_forgot is_download (work old before r) known new last s e
-    (gives_up_behind (Hears (ListDir Root) (Listed h.listing)) is_download (work old before r)
-    (work_by known mid after r) (work_by known new last s) e h.does k))
+-- ---- what stands behind it
+
+went_refused : (a b : WorkNow) (e : StepErr) → Refuses a e b → Went is_download a b
+went_refused a b (Lost seen) h = h.0.went
+went_refused a b TargetFault h = h.0.went
+went_refused a b KeeperFault h = h.stops.went
+went_refused a b (FailSafe count) h = h.listed.went
+went_refused a b NoMemory h = h.went
+
+went_download : {R : Type 0} (a b : WorkNow) (result : Result R StepErr)
+    → EndsDownload a result b → Went is_download a b
+went_download a b (Ok value) h = h.went
+went_download a b (Err e) h = went_refused a b e h
+
+pub ready_download : {R : Type 0} (a b : WorkNow) (result : Result R StepErr)
+    → EndsDownload a result b → OnOk result (IsAtWork b)
+ready_download a b (Ok value) h = h.ready
+ready_download a b (Err e) h = tt
+
+pub lease_download : {R : Type 0} (a b : WorkNow) (result : Result R StepErr)
+    → EndsDownload a result b → IsSameBut a.lease b.lease
+lease_download a b result h = (went_download a b result h).same
+
+pub place_download : {R : Type 0} (a b : WorkNow) (result : Result R StepErr)
+    → EndsDownload a result b → b.place ≡ a.place
+place_download a b result h = (went_download a b result h).place
+
+-- whatever the references are
+refused_nowhere : (a b : WorkNow) (e : StepErr) → Refuses a e b
+    → Refuses (placed nowhere a) e (placed nowhere b)
+refused_nowhere a b (Lost seen) h =
+    gives_up_placed is_download nowhere nowhere a b (Lost seen) refl h
+refused_nowhere a b TargetFault h =
+    gives_up_placed is_download nowhere nowhere a b TargetFault refl h
+refused_nowhere a b KeeperFault h =
+    gives_up_placed is_download nowhere nowhere a b KeeperFault refl h
+refused_nowhere a b (FailSafe count) h = record {
+  listing = h.listing;
+  listed = ends_placed {R = Unit {0}} (Hears (ListDir Root) (Listed h.listing)) is_download nowhere
+      nowhere a b (Ok tt) refl h.listed;
+  rows = h.rows;
+}
+refused_nowhere a b NoMemory h =
+    gives_up_placed is_download nowhere nowhere a b NoMemory refl h
+
+pub download_nowhere : {R : Type 0} (a b : WorkNow) (result : Result R StepErr)
+    → EndsDownload a result b → EndsDownload (placed nowhere a) result (placed nowhere b)
+download_nowhere a b (Ok value) h =
+    ends_at_placed Finished Downloads is_download nowhere nowhere a b (Ok value) refl h
+download_nowhere a b (Err e) h = refused_nowhere a b e h

@@ -17,7 +17,7 @@ use Rattle.local_store.specs.Tables.{row_at}
 use Rattle.local_store.specs.declared.change.Change.TheVariants.{ContextIs, Gone}
 use Rattle.local_store.specs.declared.row.Row.{Row}
 use Rattle.session_steps.specs.Parts.{Changes, ForEach, Hears, Nothing, Part, Then}
-use Rattle.new_files.specs.Taking.{TakesOne, is_taking}
+use Rattle.download.specs.Taking.{TakesOne, is_taking}
 
 -- ---- calls
 
@@ -63,9 +63,14 @@ ClosesIf id false v ds = Nothing v ds
 abbrev pub Closes : List ℕ → Part
 Closes id v ds = ClosesIf id (is_place (row_at v.tables id)) v ds
 
+-- a row's turn, which is that of the folders or of what is none
+abbrev pub LeavesOne : Bool → List ℕ → Part
+LeavesOne false = Goes
+LeavesOne true = Closes
+
 -- what is no folder goes first, and then the folders
 abbrev pub Leaves : List (List ℕ) → Part
-Leaves gone = Then (ForEach Goes gone) (ForEach Closes gone)
+Leaves gone = Then (ForEach (LeavesOne false) gone) (ForEach (LeavesOne true) gone)
 
 -- ---- the page
 

@@ -1,2 +1,4 @@
+pub mod Taking
+pub mod Asked
 pub mod Downloading
 pub mod Reading

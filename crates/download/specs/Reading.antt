@@ -10,14 +10,12 @@ use Rattle.jop_target.specs.declared.call.Call.TheVariants.{List as ListDir}
 use Rattle.jop_target.specs.declared.reply.Listing.{Listing}
 use Rattle.jop_target.specs.declared.reply.Reply.{Reply}
 use Rattle.jop_target.specs.declared.reply.Reply.TheVariants.{Listed}
-use Rattle.conflicts.specs.declared.report.SyncReport.{SyncReport}
-use Rattle.lease.specs.declared.lease.Lease.{Lease}
 use Rattle.licences.specs.Views.{Shown, synced_ids}
 use Rattle.local_store.specs.declared.tables.Tables.{Tables}
-use Rattle.session_steps.specs.Doing.{Does, Finishes, GivesUp}
-use Rattle.session_steps.specs.Parts.{Hears}
-use Rattle.session_steps.specs.Work.{WorkNow, work, work_by}
-use Rattle.new_files.specs.Asked.{IsPage}
+use Rattle.session_steps.specs.Doing.{Does, Ends, Finishes, GivesUp}
+use Rattle.session_steps.specs.Parts.{Hears, Part}
+use Rattle.session_steps.specs.Work.{WorkNow, knowing}
+use Rattle.download.specs.Asked.{IsPage}
 use Rattle.download.specs.Downloading.{Downloads, is_download}
 
 -- ---- the page
@@ -32,6 +30,12 @@ pub record Lacks (known : Shown) (id : List ℕ) : Type 0 where
   pub page : Page
   pub is : IsPage known page
   pub gone : Contains page.gone id
+
+-- if it is, it was this part, or gave nothing
+abbrev pub EndsIfGone : List ℕ → Part → WorkNow → Result (Unit {0}) StepErr → WorkNow → Type 0
+EndsIfGone id P old result new =
+    (known : Shown) → Lacks known id
+    → Ends P is_download (knowing (Some known) old) result (knowing (Some known) new)
 
 -- ---- the listing
 
@@ -48,13 +52,12 @@ PageOf t (Listed listing) result = PageIn t listing result
 PageOf t reply result = ⊥
 
 -- the root was listed, which is a part of the session, and asks for this
-pub record HasListed (old : DeskNow) (before : Lease) (r : SyncReport) (page : Page) (new : DeskNow)
-    (after : Lease) : Type 0 where
+pub record HasListed (old : WorkNow) (page : Page) (new : WorkNow) : Type 0 where
   pub listing : Listing
-  pub is : IsPageOf listing old.tables.context (synced_ids old.tables) page
-  pub safe : fail_safe listing (synced_ids old.tables) ≡ None
-  pub does : Does (Hears (ListDir Root) (Listed listing)) is_download (work old before r)
-      (work_by (Some (shown_at old listing)) new after r)
+  pub is : IsPageOf listing old.desk.tables.context (synced_ids old.desk.tables) page
+  pub safe : fail_safe listing (synced_ids old.desk.tables) ≡ None
+  pub does : Does (Hears (ListDir Root) (Listed listing)) is_download old
+      (knowing (Some (shown_at old.desk listing)) new)
 
 -- ---- the whole
 
@@ -73,9 +76,9 @@ Refuses old (FailSafe count) new = IsEmptied old count new
 Refuses old NoMemory new = GivesUp is_download old NoMemory new
 
 -- each answer of the listing, by its cause
-abbrev pub Lists : DeskNow → Lease → SyncReport → Result Page StepErr → DeskNow → Lease → Type 0
-Lists old before r (Ok page) new after = HasListed old before r page new after
-Lists old before r (Err e) new after = Refuses (work old before r) e (work new after r)
+abbrev pub Lists : WorkNow → Result Page StepErr → WorkNow → Type 0
+Lists old (Ok page) new = HasListed old page new
+Lists old (Err e) new = Refuses old e new
 
 -- the page was applied, which is the session's last part, or it gave nothing
 abbrev pub EndsDownload : {R : Type 0} → WorkNow → Result R StepErr → WorkNow → Type 0

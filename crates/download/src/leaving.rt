@@ -1,24 +1,19 @@
-ghost use Rattle.std.specs.Prelude.{◌≡◌, All, Bool, OnOk, Some, true};
-ghost use Rattle.desk.specs.Desks.{IsTidy};
-ghost use Rattle.download.specs.Downloading.{Closes, ClosesIf, Goes, Leaves, is_leaf, is_place};
-ghost use Rattle.download.specs.Reading.{Lacks};
-ghost use Rattle.jop_target.specs.declared.call.Call.{Call};
-ghost use Rattle.lease.specs.Standing.{IsHeld};
-ghost use Rattle.lease.specs.declared.lease.Lease.{Lease};
+ghost use Rattle.std.specs.Prelude.{◌≡◌, All, Some, true};
+ghost use Rattle.download.specs.Downloading.{Closes, ClosesIf, Goes, Leaves, LeavesOne, is_download, is_leaf, is_place};
+ghost use Rattle.download.specs.Reading.{EndsIfGone, Lacks};
 ghost use Rattle.licences.specs.Items.{is_folder};
 ghost use Rattle.licences.specs.Views.{Shown};
 ghost use Rattle.local_store.specs.Rows.{item_of};
 ghost use Rattle.local_store.specs.Tables.{row_at};
 ghost use Rattle.session_steps.specs.Doing.{Ends};
 ghost use Rattle.session_steps.specs.Parts.{ForEach};
-ghost use Rattle.session_steps.specs.Work.{work_by};
+ghost use Rattle.session_steps.specs.Work.{IsAtWork, knowing};
 
-use conflicts::{StepErr, SyncReport, folder_gone_changes};
-use desk::Desk;
+use conflicts::{StepErr, folder_gone_changes};
 use item_kinds::Kind;
 use jop_base::Id;
 use local_store::{Change, Row, Tables, has_kind};
-use session_steps::{make_each, make_shown};
+use session_steps::Session;
 use std::alloc::Global;
 
 fn is_folder(row: &Row) -> bool
@@ -48,149 +43,86 @@ fn is_place(tables: &Tables, id: &Id) -> bool
 }
 
 /// Lets the row of this id go, if it is no folder and doesn't wait.
-fn go<S: Desk>(alloc: Global, site: &mut S, report: &mut SyncReport, id: &Id) -> Result<(), StepErr>
-    requires tidy { IsTidy (S.desk site.old) }
+fn go<W: Session>(alloc: Global, s: &mut W, id: &Id) -> Result<(), StepErr>
+    requires ready { IsAtWork (W.now s.old) }
 
-    ensures tidy { OnOk result (IsTidy (S.desk site.new)) }
-    ensures held { OnOk result ((lease : Lease) → IsHeld lease (S.desk site.old).line.trail
-        → IsHeld lease (S.desk site.new).line.trail) }
-
-    // By the session's last listing the file is gone.
-    ensures goes { (known : Shown) (sort : Call → Bool) (lease : Lease) → Lacks known id.now
-        → IsHeld lease (S.desk site.old).line.trail
-        → Ends (Goes id.now) sort (work_by (Some known) (S.desk site.old) lease report.old) result
-        (work_by (Some known) (S.desk site.new) lease report.new) }
-    ensures stays { S.stays site.old site.new }
+    ensures ends { EndsIfGone id.now (Goes id.now) (W.now s.old) result (W.now s.new) }
 {
-    if !is_leaf(site.tables(), id) {
+    if !is_leaf(s.tables(), id) {
         return Ok(());
     }
-    make_shown(alloc, site, report, Change::Gone(*id))?;
-    Ok(())
+    s.make_shown(alloc, Change::Gone(*id))
 }
 
 /// Moves the notes out of a folder, and then lets it go.
-fn close_folder<S: Desk>(
-    alloc: Global,
-    site: &mut S,
-    report: &mut SyncReport,
-    id: &Id,
-) -> Result<(), StepErr>
-    requires tidy { IsTidy (S.desk site.old) }
-    requires place { is_place (row_at (S.desk site.old).tables id.now) ≡ true }
+fn close_folder<W: Session>(alloc: Global, s: &mut W, id: &Id) -> Result<(), StepErr>
+    requires ready { IsAtWork (W.now s.old) }
+    requires gone { (known : Shown) × Lacks known id.now }
+    requires place { is_place (row_at (W.now s.old).desk.tables id.now) ≡ true }
 
-    ensures tidy { OnOk result (IsTidy (S.desk site.new)) }
-    ensures held { OnOk result ((lease : Lease) → IsHeld lease (S.desk site.old).line.trail
-        → IsHeld lease (S.desk site.new).line.trail) }
-    ensures closes { (known : Shown) (sort : Call → Bool) (lease : Lease) → Lacks known id.now
-        → IsHeld lease (S.desk site.old).line.trail
-        → Ends (ClosesIf id.now true) sort
-        (work_by (Some known) (S.desk site.old) lease report.old) result
-        (work_by (Some known) (S.desk site.new) lease report.new) }
-    ensures stays { S.stays site.old site.new }
+    ensures ends { EndsIfGone id.now (ClosesIf id.now true) (W.now s.old) result (W.now s.new) }
 {
-    let moves = folder_gone_changes(alloc, site.tables(), id)?;
-    make_each(alloc, site, report, moves.as_slice())?;
-    make_shown(alloc, site, report, Change::Gone(*id))?;
-    Ok(())
+    let moves = folder_gone_changes(alloc, s.tables(), id)?;
+    s.make_each(alloc, moves.as_slice())?;
+    s.make_shown(alloc, Change::Gone(*id))
 }
 
 /// Lets the row of this id go behind the notes in it, if it is a folder and doesn't wait.
-fn close<S: Desk>(
-    alloc: Global,
-    site: &mut S,
-    report: &mut SyncReport,
-    id: &Id,
-) -> Result<(), StepErr>
-    requires tidy { IsTidy (S.desk site.old) }
+fn close<W: Session>(alloc: Global, s: &mut W, id: &Id) -> Result<(), StepErr>
+    requires ready { IsAtWork (W.now s.old) }
+    requires gone { (known : Shown) × Lacks known id.now }
 
-    ensures tidy { OnOk result (IsTidy (S.desk site.new)) }
-    ensures held { OnOk result ((lease : Lease) → IsHeld lease (S.desk site.old).line.trail
-        → IsHeld lease (S.desk site.new).line.trail) }
-    ensures closes { (known : Shown) (sort : Call → Bool) (lease : Lease) → Lacks known id.now
-        → IsHeld lease (S.desk site.old).line.trail
-        → Ends (Closes id.now) sort
-        (work_by (Some known) (S.desk site.old) lease report.old) result
-        (work_by (Some known) (S.desk site.new) lease report.new) }
-    ensures stays { S.stays site.old site.new }
+    ensures ends { EndsIfGone id.now (Closes id.now) (W.now s.old) result (W.now s.new) }
 {
-    if !is_place(site.tables(), id) {
+    if !is_place(s.tables(), id) {
         return Ok(());
     }
-    close_folder(alloc, site, report, id)?;
-    Ok(())
+    close_folder(alloc, s, id)
 }
 
-/// Lets the rows of these ids go that are no folders and don't wait.
-fn go_each<S: Desk>(
-    alloc: Global,
-    site: &mut S,
-    report: &mut SyncReport,
-    ids: &[Id],
-) -> Result<(), StepErr>
-    requires tidy { IsTidy (S.desk site.old) }
+/// Lets the row of this id go, if it is what its turn is for: first come rows that are no folders, and then folders.
+fn leave_one<W: Session>(alloc: Global, s: &mut W, folders: bool, id: &Id) -> Result<(), StepErr>
+    requires ready { IsAtWork (W.now s.old) }
+    requires gone { (known : Shown) × Lacks known id.now }
 
-    ensures tidy { OnOk result (IsTidy (S.desk site.new)) }
-    ensures held { OnOk result ((lease : Lease) → IsHeld lease (S.desk site.old).line.trail
-        → IsHeld lease (S.desk site.new).line.trail) }
-    ensures goes { (known : Shown) (sort : Call → Bool) (lease : Lease)
-        → All (Lacks known) ids.now → IsHeld lease (S.desk site.old).line.trail
-        → Ends (ForEach Goes ids.now) sort
-        (work_by (Some known) (S.desk site.old) lease report.old) result
-        (work_by (Some known) (S.desk site.new) lease report.new) }
-    ensures stays { S.stays site.old site.new }
+    ensures ends { EndsIfGone id.now (LeavesOne folders id.now) (W.now s.old) result
+        (W.now s.new) }
 {
-    for index in 0..ids.len() {
-        go(alloc, site, report, &ids[index])?;
+    if folders {
+        return close(alloc, s, id);
     }
-    Ok(())
+    go(alloc, s, id)
 }
 
-/// Lets the rows of these ids go that are folders and don't wait, each behind the notes in it.
-fn close_each<S: Desk>(
+/// Lets the rows of these ids go that this turn is for.
+fn leave_each<W: Session>(
     alloc: Global,
-    site: &mut S,
-    report: &mut SyncReport,
-    ids: &[Id],
+    s: &mut W,
+    folders: bool,
+    gone: &[Id],
 ) -> Result<(), StepErr>
-    requires tidy { IsTidy (S.desk site.old) }
+    requires ready { IsAtWork (W.now s.old) }
+    requires gone { (known : Shown) × All (Lacks known) gone.now }
 
-    ensures tidy { OnOk result (IsTidy (S.desk site.new)) }
-    ensures held { OnOk result ((lease : Lease) → IsHeld lease (S.desk site.old).line.trail
-        → IsHeld lease (S.desk site.new).line.trail) }
-    ensures closes { (known : Shown) (sort : Call → Bool) (lease : Lease)
-        → All (Lacks known) ids.now → IsHeld lease (S.desk site.old).line.trail
-        → Ends (ForEach Closes ids.now) sort
-        (work_by (Some known) (S.desk site.old) lease report.old) result
-        (work_by (Some known) (S.desk site.new) lease report.new) }
-    ensures stays { S.stays site.old site.new }
+    ensures ends { (known : Shown) → All (Lacks known) gone.now
+        → Ends (ForEach (LeavesOne folders) gone.now) is_download
+        (knowing (Some known) (W.now s.old)) result (knowing (Some known) (W.now s.new)) }
 {
-    for index in 0..ids.len() {
-        close(alloc, site, report, &ids[index])?;
+    for index in 0..gone.len() {
+        leave_one(alloc, s, folders, &gone[index])?;
     }
     Ok(())
 }
 
 /// Lets the rows go whose files are gone: first what is no folder, and then the folders.
-pub(crate) fn leave<S: Desk>(
-    alloc: Global,
-    site: &mut S,
-    report: &mut SyncReport,
-    gone: &[Id],
-) -> Result<(), StepErr>
-    requires tidy { IsTidy (S.desk site.old) }
+pub(crate) fn leave<W: Session>(alloc: Global, s: &mut W, gone: &[Id]) -> Result<(), StepErr>
+    requires ready { IsAtWork (W.now s.old) }
+    requires gone { (known : Shown) × All (Lacks known) gone.now }
 
-    ensures tidy { OnOk result (IsTidy (S.desk site.new)) }
-    ensures held { OnOk result ((lease : Lease) → IsHeld lease (S.desk site.old).line.trail
-        → IsHeld lease (S.desk site.new).line.trail) }
-    ensures leaves { (known : Shown) (sort : Call → Bool) (lease : Lease)
-        → All (Lacks known) gone.now → IsHeld lease (S.desk site.old).line.trail
-        → Ends (Leaves gone.now) sort
-        (work_by (Some known) (S.desk site.old) lease report.old) result
-        (work_by (Some known) (S.desk site.new) lease report.new) }
-    ensures stays { S.stays site.old site.new }
+    ensures ends { (known : Shown) → All (Lacks known) gone.now
+        → Ends (Leaves gone.now) is_download (knowing (Some known) (W.now s.old)) result
+        (knowing (Some known) (W.now s.new)) }
 {
-    go_each(alloc, site, report, gone)?;
-    close_each(alloc, site, report, gone)?;
-    Ok(())
+    leave_each(alloc, s, false, gone)?;
+    leave_each(alloc, s, true, gone)
 }

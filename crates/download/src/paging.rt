@@ -1,31 +1,27 @@
-ghost use Rattle.std.specs.Prelude.{◌≡◌, Bool, IfOk, OnOk, Some};
-ghost use Rattle.conflicts.specs.declared.report.SyncReport.{SyncReport as Report};
+ghost use Rattle.std.specs.Prelude.{◌≡◌, IfOk, OnOk, Some};
 ghost use Rattle.delta.specs.declared.page.Page.{Page as Asked};
-ghost use Rattle.desk.specs.Desks.{IsSameDesk, IsTidy};
+ghost use Rattle.download.specs.Asked.{IsPage};
 ghost use Rattle.download.specs.Downloading.{Applies, Leaves, is_download};
 ghost use Rattle.download.specs.Reading.{EndsDownload, Lists, PageIn, PageOf};
-ghost use Rattle.new_files.specs.Asked.{IsPage};
 ghost use Rattle.jop_target.specs.declared.reply.Reply.TheVariants.{Listed};
 ghost use Rattle.jop_target.specs.declared.reply.Listing.{Listing as Shows};
-ghost use Rattle.jop_target.specs.declared.call.Call.{Call as Asking};
-ghost use Rattle.lease.specs.Standing.{IsHeld, IsSameBut};
-ghost use Rattle.lease.specs.declared.lease.Lease.{Lease as Held};
+ghost use Rattle.lease.specs.Standing.{IsSameBut};
 ghost use Rattle.licences.specs.Views.{Finished, Shown, synced_ids};
 ghost use Rattle.local_store.specs.declared.change.Change.TheVariants.{ContextIs};
 ghost use Rattle.session_steps.specs.Doing.{EndsAt};
 ghost use Rattle.session_steps.specs.Parts.{Changes, Then};
-ghost use Rattle.session_steps.specs.Work.{IsReady, work, work_by};
+ghost use Rattle.session_steps.specs.Work.{IsAtWork, IsReady, knowing, work};
 
 use crate::leaving::leave;
+use crate::taking::take_listed;
 use conflicts::{StepErr, SyncReport};
 use delta::{Page, delta_of, fail_safe};
 use desk::Desk;
-use jop_base::{Bytes, Context, Copied, Dir, Id, Seq};
+use jop_base::{Context, Copied, Dir, Id, Seq};
 use jop_target::{Call, Listing, Reply};
 use lease::Lease;
 use local_store::{Change, Tables};
-use new_files::take_each;
-use session_steps::{ask, make_shown};
+use session_steps::{Hand, Session};
 use std::alloc::{AllocError, Global};
 
 /// The items of which the client has a base, in the order of their ids.
@@ -65,97 +61,68 @@ fn page_of(alloc: Global, tables: &Tables, reply: &Reply) -> Result<Page, StepEr
 }
 
 /// Lists the root, and says what that asks of the client.
-fn list<S: Desk>(alloc: Global, site: &mut S, lease: &mut Lease) -> Result<Page, StepErr>
-    requires ready { IsReady (S.desk site.old) lease.old }
+fn list<W: Session>(alloc: Global, s: &mut W) -> Result<Page, StepErr>
+    requires ready { IsAtWork (W.now s.old) }
 
-    ensures ready { OnOk result (IsReady (S.desk site.new) lease.new) }
-    ensures same { IsSameDesk (S.desk site.old) (S.desk site.new) }
-    ensures lease { IsSameBut lease.old lease.new }
-    ensures lists { (r : Report) → Lists (S.desk site.old) lease.old r result (S.desk site.new)
-        lease.new }
-    ensures stays { S.stays site.old site.new }
+    ensures ends { Lists (W.now s.old) result (W.now s.new) }
 {
-    let mut blob = Bytes::new(alloc);
-    ask(alloc, site, lease, Call::List(Dir::Root), &mut blob)?;
-    let page = page_of(alloc, site.tables(), site.last())?;
-    Ok(page)
+    s.ask(alloc, Call::List(Dir::Root))?;
+    page_of(alloc, s.tables(), s.last())
 }
 
 /// Says how far the client has read the target now, which is the session's last change.
-fn finish<S: Desk>(
-    alloc: Global,
-    site: &mut S,
-    report: &mut SyncReport,
-    next: &Context,
-) -> Result<(), StepErr>
-    requires tidy { IsTidy (S.desk site.old) }
+fn finish<W: Session>(alloc: Global, s: &mut W, next: &Context) -> Result<(), StepErr>
+    requires ready { IsAtWork (W.now s.old) }
 
-    ensures tidy { OnOk result (IsTidy (S.desk site.new)) }
-    ensures held { OnOk result ((lease : Held) → IsHeld lease (S.desk site.old).line.trail
-        → IsHeld lease (S.desk site.new).line.trail) }
-    ensures finishes { (known : Shown) (page : Asked) (sort : Asking → Bool) (lease : Held)
-        → IsPage known page → next.now ≡ page.next → IsHeld lease (S.desk site.old).line.trail
-        → EndsAt Finished (Changes (ContextIs page.next)) sort
-        (work_by (Some known) (S.desk site.old) lease report.old) result
-        (work_by (Some known) (S.desk site.new) lease report.new) }
-    ensures stays { S.stays site.old site.new }
+    ensures ends { (known : Shown) (page : Asked) → IsPage known page → next.now ≡ page.next
+        → EndsAt Finished (Changes (ContextIs page.next)) is_download
+        (knowing (Some known) (W.now s.old)) result (knowing (Some known) (W.now s.new)) }
 {
     let copy = next.copy(alloc)?;
-    make_shown(alloc, site, report, Change::ContextIs(copy))?;
-    Ok(())
+    s.make_shown(alloc, Change::ContextIs(copy))
 }
 
 /// Lets the rows go that are gone by the page, and says how far the client has read the target now.
-fn close_page<S: Desk>(
-    alloc: Global,
-    site: &mut S,
-    report: &mut SyncReport,
-    page: &Page,
-) -> Result<(), StepErr>
-    requires tidy { IsTidy (S.desk site.old) }
+fn close_page<W: Session>(alloc: Global, s: &mut W, page: &Page) -> Result<(), StepErr>
+    requires ready { IsAtWork (W.now s.old) }
+    requires listed { (known : Shown) × IsPage known page.now }
 
-    ensures tidy { OnOk result (IsTidy (S.desk site.new)) }
-    ensures held { OnOk result ((lease : Held) → IsHeld lease (S.desk site.old).line.trail
-        → IsHeld lease (S.desk site.new).line.trail) }
-    ensures closes { (known : Shown) (sort : Asking → Bool) (lease : Held)
-        → IsPage known page.now → IsHeld lease (S.desk site.old).line.trail
-        → EndsAt Finished (Then (Leaves page.now.gone) (Changes (ContextIs page.now.next))) sort
-        (work_by (Some known) (S.desk site.old) lease report.old) result
-        (work_by (Some known) (S.desk site.new) lease report.new) }
-    ensures stays { S.stays site.old site.new }
+    ensures ends { (known : Shown) → IsPage known page.now
+        → EndsAt Finished (Then (Leaves page.now.gone) (Changes (ContextIs page.now.next)))
+        is_download (knowing (Some known) (W.now s.old)) result
+        (knowing (Some known) (W.now s.new)) }
 {
-    leave(alloc, site, report, page.gone.as_slice())?;
-    finish(alloc, site, report, &page.next)?;
-    Ok(())
+    leave(alloc, s, page.gone.as_slice())?;
+    finish(alloc, s, &page.next)
 }
 
 /// Does what a page asks for.
-fn apply<S: Desk>(
-    alloc: Global,
-    site: &mut S,
-    lease: &mut Lease,
-    report: &mut SyncReport,
-    page: &Page,
-) -> Result<(), StepErr>
-    requires ready { IsReady (S.desk site.old) lease.old }
+fn apply<W: Session>(alloc: Global, s: &mut W, page: &Page) -> Result<(), StepErr>
+    requires ready { IsAtWork (W.now s.old) }
+    requires listed { (known : Shown) × IsPage known page.now }
 
-    ensures ready { OnOk result (IsReady (S.desk site.new) lease.new) }
-    ensures lease { IsSameBut lease.old lease.new }
-    ensures applies { (known : Shown) → IsPage known page.now
-        → EndsAt Finished (Applies page.now) is_download
-        (work_by (Some known) (S.desk site.old) lease.old report.old) result
-        (work_by (Some known) (S.desk site.new) lease.new report.new) }
-    ensures stays { S.stays site.old site.new }
+    ensures ends { (known : Shown) → IsPage known page.now
+        → EndsAt Finished (Applies page.now) is_download (knowing (Some known) (W.now s.old))
+        result (knowing (Some known) (W.now s.new)) }
 {
-    take_each(alloc, site, lease, report, page.taken.as_slice())?;
-    close_page(alloc, site, report, page)?;
-    Ok(())
+    take_listed(alloc, s, page.taken.as_slice())?;
+    close_page(alloc, s, page)
 }
 
 /// Lists the root, reads what other clients have written since this one listed it last, and lets go
 /// what they have deleted. If the root shows no item while some rows have a base, all would be
 /// taken for deleted, where more likely the target was emptied or is another one: then nothing is
 /// done.
+pub fn apply_listed<W: Session>(alloc: Global, s: &mut W) -> Result<(), StepErr>
+    requires ready { IsAtWork (W.now s.old) }
+
+    ensures ends { EndsDownload (W.now s.old) result (W.now s.new) }
+{
+    let page = list(alloc, s)?;
+    apply(alloc, s, &page)
+}
+
+/// The same at a desk, under a lease, counted in a report.
 pub fn apply_page<S: Desk>(
     alloc: Global,
     site: &mut S,
@@ -170,7 +137,10 @@ pub fn apply_page<S: Desk>(
         (work (S.desk site.new) lease.new report.new) }
     ensures stays { S.stays site.old site.new }
 {
-    let page = list(alloc, site, lease)?;
-    apply(alloc, site, lease, report, &page)?;
-    Ok(())
+    let mut s = Hand {
+        site: &mut *site,
+        lease: &mut *lease,
+        report: &mut *report,
+    };
+    apply_listed(alloc, &mut s)
 }

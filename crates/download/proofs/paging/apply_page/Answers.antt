@@ -1,22 +1,29 @@
-use Rattle.std.proofs.lemmas.Result.{err_from_is_err_and}
-use Rattle.download.proofs.Paged.{downloads, refuses_behind}
-use Rattle.download.specs.Reading.{shown_at}
+use Rattle.std.proofs.Common.{rules}
+use Rattle.download.proofs.Paged.{download_nowhere, lease_download, place_download, ready_download}
 use Rattle.download.proofs.paging.apply_page.Goals as goal
+
+pub returns-clause-ready : goal.returns-clause-ready
+returns-clause-ready g c =
+    let ends = c.apply_listed.ensures.ends in
+    let stays = place_download _ _ c.apply_listed.result ends in
+    let ready = ready_download _ _ c.apply_listed.result ends in
+    search rules
+
+pub returns-clause-lease : goal.returns-clause-lease
+returns-clause-lease g c =
+    let ends = c.apply_listed.ensures.ends in
+    let stays = place_download _ _ c.apply_listed.result ends in
+    let same = lease_download _ _ c.apply_listed.result ends in
+    search rules
 
 pub returns-clause-ends : goal.returns-clause-ends
 returns-clause-ends g c =
-    let old = g.S.Desk.desk c.args.site.now in
-    let h = c.in_ok-page.ensures.lists c.args.report.now in
-    downloads old c.args.lease.now c.args.report.now c.in_ok-page.page
-    (g.S.Desk.desk c.list.new.site) c.list.new.lease _ _ _ h
-    (c.in_ok-apply.ensures.applies (shown_at old h.listing) h.is)
+    let ends = c.apply_listed.ensures.ends in
+    let stays = place_download _ _ c.apply_listed.result ends in
+    let here = download_nowhere _ _ c.apply_listed.result ends in
+    search rules
 
-pub returns-in_err-apply-clause-ends : goal.returns-in_err-apply-clause-ends
-returns-in_err-apply-clause-ends g c =
-    let p = err_from_is_err_and c.from_residual-in_err-apply.result
-    c.from_residual-in_err-apply.ensures.1 in
-    let old = g.S.Desk.desk c.args.site.now in
-    let h = c.in_ok-page.ensures.lists c.args.report.now in
-    rw (p.1, p.2) (refuses_behind old c.args.lease.now c.args.report.now c.in_ok-page.page
-    (g.S.Desk.desk c.list.new.site) c.list.new.lease _ _ _ _ h
-    (c.in_err-apply.ensures.applies (shown_at old h.listing) h.is))
+pub returns-clause-stays : goal.returns-clause-stays
+returns-clause-stays g c =
+    let stays = place_download _ _ c.apply_listed.result c.apply_listed.ensures.ends in
+    search rules

@@ -1,0 +1,18 @@
+use Rattle.std.proofs.Common.{All, Some, take}
+use Rattle.download.specs.Downloading.{LeavesOne, is_download}
+use Rattle.download.specs.Reading.{Lacks}
+use Rattle.licences.specs.Views.{Shown}
+use Rattle.session_steps.specs.Doing.{Does}
+use Rattle.session_steps.specs.Parts.{ForEach}
+use Rattle.session_steps.specs.Work.{knowing}
+use Rattle.download.proofs.leaving.leave_each.Given as goal
+
+-- those before here are gone
+abbrev pub invariant-loop-index : goal.invariant-loop-index
+invariant-loop-index g l =
+    record {
+      does : (known : Shown) → All (Lacks known) l.gone
+          → Does (ForEach (LeavesOne l.folders) (take l.index l.gone)) is_download
+          (knowing (Some known) (g.W.Session.now l.fn.s))
+          (knowing (Some known) (g.W.Session.now l.s));
+    }

@@ -1,0 +1,22 @@
+use Rattle.download.proofs.Paged.{downloads}
+use Rattle.download.specs.Reading.{shown_at}
+use Rattle.download.proofs.paging.apply_listed.Goals as goal
+
+pub apply-requires-clause-ready : goal.apply-requires-clause-ready
+apply-requires-clause-ready g c = c.in_ok-page.ensures.ends.does.ready
+
+pub apply-requires-clause-listed : goal.apply-requires-clause-listed
+apply-requires-clause-listed g c =
+    let h = c.in_ok-page.ensures.ends in
+    (shown_at (g.W.Session.now c.args.s.now).desk h.listing, h.is)
+
+pub returns : goal.returns
+returns g c = record {
+  ends =
+      let now = g.W.Session.now in
+      let a = now c.args.s.now in
+      let h = c.in_ok-page.ensures.ends in
+      downloads a (now c.list.new.s) (now c.apply.new.s) c.in_ok-page.page c.apply.result h
+      (g.met.W.Session.unshown c.apply.new.s)
+      (c.apply.ensures.ends (shown_at a.desk h.listing) h.is);
+}

@@ -1,0 +1,18 @@
+use Rattle.std.proofs.Common.{All, take, Some}
+use Rattle.download.specs.Asked.{AsksFor}
+use Rattle.download.specs.Taking.{TakesOne, is_taking}
+use Rattle.licences.specs.Views.{Shown}
+use Rattle.session_steps.specs.Doing.{Does}
+use Rattle.session_steps.specs.Parts.{ForEach}
+use Rattle.session_steps.specs.Work.{knowing}
+use Rattle.download.proofs.taking.take_listed.Given as goal
+
+-- those before here are taken
+abbrev pub invariant-loop-index : goal.invariant-loop-index
+invariant-loop-index g l =
+    record {
+      does : (known : Shown) → All (AsksFor known) l.ids
+          → Does (ForEach TakesOne (take l.index l.ids)) is_taking
+          (knowing (Some known) (g.W.Session.now l.fn.s))
+          (knowing (Some known) (g.W.Session.now l.s));
+    }
