@@ -1,31 +1,31 @@
 -- What was saved and removed here is sent, and then the page is read.
-use Rattle.std.specs.Prelude.{ℕ, ◌≡◌, List, [], ◌∷◌, Bool, ◌||◌, Some, None, Err}
-use Rattle.std.proofs.Common.{sym, ◌∙◌, ap, subst}
+use Rattle.std.specs.Prelude.{ℕ, ◌≡◌, ◌||◌, Some, None, Result, Ok, Err, OnOk}
+use Rattle.std.proofs.Common.{sym, subst}
 use Rattle.std.proofs.lemmas.Bool.{or_left, or_right}
 use Rattle.conflicts.specs.declared.error.StepErr.{StepErr}
 use Rattle.conflicts.specs.declared.error.StepErr.TheVariants.{Lost, TargetFault, KeeperFault, FailSafe, NoMemory}
 use Rattle.download.specs.Downloading.{Downloads, is_download}
-use Rattle.download.specs.Reading.{IsEmptied, Refuses}
+use Rattle.download.specs.Reading.{EndsDownload, IsEmptied, Refuses}
 use Rattle.jop_base.specs.declared.dir.Dir.TheVariants.{Root}
-use Rattle.jop_target.specs.declared.call.Call.{Call}
 use Rattle.jop_target.specs.declared.call.Call.TheVariants.{List as ListDir}
-use Rattle.jop_target.specs.declared.reply.Reply.{Reply}
 use Rattle.jop_target.specs.declared.reply.Reply.TheVariants.{Listed}
-use Rattle.licences.proofs.Told.{tables-view_from}
-use Rattle.licences.specs.Deeds.{Asks, Deed}
 use Rattle.licences.specs.Pages.{emptied_by}
-use Rattle.licences.specs.Views.{View, shown_to, view_from}
+use Rattle.licences.specs.Views.{shown_to}
+use Rattle.local_store.specs.Sound.{IsSound}
 use Rattle.local_store.specs.declared.tables.Tables.{Tables}
-use Rattle.session_steps.proofs.Ending.{gives_up_behind}
+use Rattle.session_steps.proofs.Behind.{tables_heard}
+use Rattle.session_steps.proofs.Ending.{ends_then, gives_up_behind}
 use Rattle.session_steps.proofs.Joins.{does_then}
-use Rattle.session_steps.proofs.Seen.{view_from-but_locks}
-use Rattle.session_steps.specs.Doing.{Does, Finishes, GivesUp}
-use Rattle.session_steps.specs.Parts.{Hears, but_locks}
-use Rattle.session_steps.specs.Work.{WorkNow, view_of}
+use Rattle.session_steps.specs.Doing.{Does, Ends, GivesUp}
+use Rattle.session_steps.specs.Parts.{Hears}
+use Rattle.session_steps.specs.Work.{WorkNow}
+use Rattle.upload.proofs.Deleted.{none_behind}
 use Rattle.upload.specs.Deleting.{Deletes, is_deletion}
+use Rattle.upload.specs.Settled.{AreSettled}
 use Rattle.upload.specs.Uploading.{Uploads, is_upload}
-use Rattle.session_steps.proofs.Wider.{IsWithin, does_within, gives_up_within}
-use Rattle.sync_session.specs.Working.{Exchanges, ExchangesOr, IsEmptiedBehind, ListsBehind, Sends, is_exchange}
+use Rattle.session_steps.proofs.Wider.{IsWithin, does_within, ends_within, gives_up_within}
+use Rattle.sync_session.proofs.Settled.{leaves_nothing_behind, settled_behind}
+use Rattle.sync_session.specs.Working.{ExchangesOr, IsEmptiedBehind, LeavesNothing, ListsBehind, Sends, is_exchange}
 
 -- ---- sorts
 
@@ -44,39 +44,25 @@ download_within call is =
 
 -- ---- sending
 
-pub sends_both : (a b c : WorkNow) → Does (Uploads a.desk.keeper.kept) is_upload a b
-    → Does Deletes is_deletion b c → Does (Sends a.desk.keeper.kept) is_exchange a c
-sends_both a b c h k =
-    does_then (Uploads a.desk.keeper.kept) Deletes is_exchange a b c
+pub ends_sends : (a b c : WorkNow) (result : Result (Unit {0}) StepErr)
+    → Does (Uploads a.desk.keeper.kept) is_upload a b → Ends Deletes is_deletion b result c
+    → Ends (Sends a.desk.keeper.kept) is_exchange a result c
+ends_sends a b c result h k =
+    ends_then (Uploads a.desk.keeper.kept) Deletes is_exchange a b c result
     (does_within is_upload is_exchange a b upload_within h)
-    (does_within is_deletion is_exchange b c deletion_within k)
+    (ends_within Deletes is_deletion is_exchange b c result deletion_within k)
 
--- what was uploaded stands behind deletions that gave nothing
-pub sends_stopped : (a b c : WorkNow) (e : StepErr)
-    → Does (Uploads a.desk.keeper.kept) is_upload a b → GivesUp is_deletion b e c
-    → GivesUp is_exchange a e c
-sends_stopped a b c e h k =
-    gives_up_behind (Uploads a.desk.keeper.kept) is_exchange a b c e
-    (does_within is_upload is_exchange a b upload_within h)
-    (gives_up_within is_deletion is_exchange b c e deletion_within k)
+-- deletions leave nothing behind an upload
+pub leaves_nothing : (a b : WorkNow) (result : Result (Unit {0}) StepErr) → a.known ≡ None
+    → IsSound a.desk.tables → AreSettled a.desk → Ends Deletes is_deletion a result b
+    → OnOk result (LeavesNothing b.desk)
+leaves_nothing a b (Ok done) unknown sound settled h = record {
+  settled = settled_behind is_deletion a b h.went h.told unknown sound settled;
+  deleted = none_behind a b (Ok done) h;
+}
+leaves_nothing a b (Err e) unknown sound settled h = tt
 
 -- ---- a listing that shows nothing
-
-tables_asked : (v : View) (call : Call) (reply : Reply) (ds : List Deed)
-    → ds ≡ Asks call (Some reply) ∷ [] → (view_from v ds).tables ≡ v.tables
-unfolding view_from
-tables_asked v call reply ds is = ap (λ (es : List Deed). (view_from v es).tables) is
-
--- one call changes no tables
-pub tables_heard : (call : Call) (reply : Reply) (sort : Call → Bool) (a b : WorkNow)
-    → Does (Hears call reply) sort a b → b.desk.tables ≡ a.desk.tables
-tables_heard call reply sort a b h =
-    let v = view_of None a.desk in
-    let ds = h.went.deeds in
-    h.told.tables
-    ∙ (sym (tables-view_from v ds h.went.work)
-    ∙ (ap (λ (w : View). w.tables) (sym (view_from-but_locks v ds))
-    ∙ tables_asked v call reply (but_locks ds) (h.part None)))
 
 emptied_behind : (a b c : WorkNow) (count : ℕ) → Does (Sends a.desk.keeper.kept) is_exchange a b
     → IsEmptied b count c
@@ -101,19 +87,23 @@ refused_behind a b c e h k =
     gives_up_behind (Sends a.desk.keeper.kept) is_exchange a b c e h
     (gives_up_within is_download is_exchange b c e download_within k)
 
-pub exchanges_both : (a b c : WorkNow) → Does (Sends a.desk.keeper.kept) is_exchange a b
-    → Finishes Downloads is_download b c → Finishes (Exchanges a.desk.keeper.kept) is_exchange a c
-exchanges_both a b c h k =
-    does_then (Sends a.desk.keeper.kept) Downloads is_exchange a b c h
-    (does_within is_download is_exchange b c download_within k)
-
-pub exchanges_stopped : (a b c : WorkNow) (e : StepErr)
+exchanges_stopped : (a b c : WorkNow) (e : StepErr)
     → Does (Sends a.desk.keeper.kept) is_exchange a b → Refuses b e c → ExchangesOr a (Err e) c
 exchanges_stopped a b c (FailSafe count) h k = emptied_behind a b c count h k
 exchanges_stopped a b c (Lost seen) h k = refused_behind a b c (Lost seen) h k
 exchanges_stopped a b c TargetFault h k = refused_behind a b c TargetFault h k
 exchanges_stopped a b c KeeperFault h k = refused_behind a b c KeeperFault h k
 exchanges_stopped a b c NoMemory h k = refused_behind a b c NoMemory h k
+
+pub exchanges_both : (a b c : WorkNow) (result : Result (Unit {0}) StepErr) → b.known ≡ None
+    → Does (Sends a.desk.keeper.kept) is_exchange a b → LeavesNothing b.desk
+    → EndsDownload b result c → ExchangesOr a result c
+exchanges_both a b c (Ok done) unknown h nothing k = (
+  does_then (Sends a.desk.keeper.kept) Downloads is_exchange a b c h
+      (does_within is_download is_exchange b c download_within k),
+  leaves_nothing_behind is_download b c k.went k.told unknown h.ready.tidy.sound nothing,
+)
+exchanges_both a b c (Err e) unknown h nothing k = exchanges_stopped a b c e h k
 
 -- nothing was read behind what couldn't be sent
 pub exchanges_unsent : (a b : WorkNow) (e : StepErr) → GivesUp is_exchange a e b

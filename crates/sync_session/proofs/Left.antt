@@ -38,10 +38,11 @@ use Rattle.session_steps.specs.Work.{Fits, IsReady, WorkNow, view_of, work}
 use Rattle.target_upgrade.proofs.Courses.{idle_work}
 use Rattle.target_upgrade.specs.Course.{Course, course_of}
 use Rattle.sync_session.proofs.Telling.{tells_had, tells_left, tells_went}
+use Rattle.sync_session.proofs.Worked.{works_here}
 use Rattle.sync_session.specs.Errors.{of_lease}
 use Rattle.sync_session.specs.Telling.{TellsWork}
 use Rattle.sync_session.specs.Leaving.{Leaves, LeavesIf, holds_lease}
-use Rattle.sync_session.specs.Syncing.{HasBegunSync, HasLeft, IsSyncReleased, SyncGoesOn, begun_view}
+use Rattle.sync_session.specs.Syncing.{EndsWork, HasBegunSync, HasLeft, IsSyncReleased, SyncGoesOn, begun_view}
 use Rattle.sync_session.specs.Working.{Works, is_sync}
 use Rattle.sync_session.specs.declared.sync_err.SyncErr.{SyncErr}
 use Rattle.sync_session.specs.declared.sync_err.SyncErr.TheVariants.{Busy, LeaseLost, TargetOlder, TargetNewer, BadInfo, FailSafe, NoKey, TargetFault, KeeperFault, NoMemory}
@@ -76,6 +77,19 @@ held_worked a b (Err TargetFault) h holds = absurd cc
 held_worked a b (Err KeeperFault) h holds = h.ready
 held_worked a b (Err NoMemory) h holds = absurd cc
 held_worked a b (Err (Busy lock now)) h holds = absurd h
+
+-- and then the lease is given up, if it is held still
+pub ends_held : (a b : WorkNow) (worked result : Result (Unit {0}) SyncErr) (new : DeskNow)
+    → Works a worked b → a.known ≡ None → b.known ≡ None
+    → Leaves b.lease worked b.desk result new
+    → EndsWork a.lease a.desk a.report result new b.report
+ends_held a b worked result new works before behind leaves = record {
+  worked = worked;
+  late = work b.desk b.lease b.report;
+  works = works_here a b worked before behind works;
+  leaves = leaves;
+  reported = refl;
+}
 
 -- ---- how the session goes on
 

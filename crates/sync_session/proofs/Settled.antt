@@ -10,7 +10,7 @@ use Rattle.licences.specs.Checks.{is_pending}
 use Rattle.licences.specs.Deeds.{Deed, Begins, Asks, Makes, MakesUntold, Ends, Stops, events_of}
 use Rattle.licences.specs.Licences.{AreWork, Each, IsInside, MayChange, MayDo}
 use Rattle.licences.specs.Trails.{session_calls}
-use Rattle.licences.specs.Views.{Heard, View, changed, heard, is_about_locks, view_from}
+use Rattle.licences.specs.Views.{Heard, Shown, View, changed, heard, is_about_locks, view_from}
 use Rattle.local_store.specs.Changing.{after, conflicted, uploaded}
 use Rattle.local_store.specs.Rows.{deletion_id}
 use Rattle.local_store.specs.Sound.{IsSound}
@@ -115,29 +115,33 @@ tables_behind : (sort : Call → Bool) (a b : WorkNow) (w : Went sort a b) → I
 tables_behind sort a b w told =
     tables-view_from (view_of None a.desk) w.deeds w.work ∙ sym told.tables
 
+unknown_fits : (known : Option Shown) → known ≡ None → Fits known None
+unknown_fits known is = subst (λ (k : Option Shown). Fits k None) (sym is) tt
+
 pub settled_behind : (sort : Call → Bool) (a b : WorkNow) (w : Went sort a b)
-    → IsTold a b w.deeds → Fits a.known None → IsSound a.desk.tables → AreSettled a.desk
+    → IsTold a b w.deeds → a.known ≡ None → IsSound a.desk.tables → AreSettled a.desk
     → AreSettled b.desk
-settled_behind sort a b w told fits sound settled = λ id waits.
+settled_behind sort a b w told unknown sound settled = λ id waits.
     let v = view_of None a.desk in
     let waited : is_pending (row_at a.desk.tables id) ≡ true =
-    pending-view_from v w.deeds id sound tt w.work (w.obeys None fits)
+    pending-view_from v w.deeds id sound tt w.work (w.obeys None (unknown_fits a.known unknown))
     (ap (λ (t : Tables). is_pending (row_at t id)) (tables_behind sort a b w told) ∙ waits) in
     subst (WasUnreadable id) (sym (calls_behind sort a b w))
     (unread_stays id v w.deeds w.work (settled id waited))
 
 none_behind : (sort : Call → Bool) (a b : WorkNow) (w : Went sort a b) → IsTold a b w.deeds
-    → Fits a.known None → a.desk.tables.deletions ≡ [] → b.desk.tables.deletions ≡ []
-none_behind sort a b w told fits none =
+    → a.known ≡ None → a.desk.tables.deletions ≡ [] → b.desk.tables.deletions ≡ []
+none_behind sort a b w told unknown none =
     ap (λ (t : Tables). t.deletions) (sym (tables_behind sort a b w told))
-    ∙ none_stays (view_of None a.desk) w.deeds tt w.work (w.obeys None fits) none
+    ∙ none_stays (view_of None a.desk) w.deeds tt w.work
+    (w.obeys None (unknown_fits a.known unknown)) none
 
 pub leaves_nothing_behind : (sort : Call → Bool) (a b : WorkNow) (w : Went sort a b)
-    → IsTold a b w.deeds → Fits a.known None → IsSound a.desk.tables → LeavesNothing a.desk
+    → IsTold a b w.deeds → a.known ≡ None → IsSound a.desk.tables → LeavesNothing a.desk
     → LeavesNothing b.desk
-leaves_nothing_behind sort a b w told fits sound h = record {
-  settled = settled_behind sort a b w told fits sound h.settled;
-  deleted = none_behind sort a b w told fits h.deleted;
+leaves_nothing_behind sort a b w told unknown sound h = record {
+  settled = settled_behind sort a b w told unknown sound h.settled;
+  deleted = none_behind sort a b w told unknown h.deleted;
 }
 
 -- ---- the bytes of resources

@@ -1,11 +1,10 @@
 -- What is done behind the opening is done behind it for the whole.
-use Rattle.std.specs.Prelude.{ℕ, ◌≡◌, List, [], ◌∷◌, map, filter, Bool, true, false, ◌&&◌, ◌||◌, if◌then◌else◌, Option, Some, Err, refl}
+use Rattle.std.specs.Prelude.{ℕ, ◌≡◌, List, [], ◌∷◌, map, filter, Bool, true, false, ◌&&◌, ◌||◌, if◌then◌else◌, Option, Some, None, Result, Ok, Err, refl}
 use Rattle.std.proofs.Common.{◌∙◌, ap, subst, inl, inr}
 use Rattle.std.proofs.lemmas.Bool.{or_left, or_right}
 use Rattle.std.specs.List.{list_any}
 use Rattle.conflicts.specs.declared.error.StepErr.{StepErr}
 use Rattle.conflicts.specs.declared.error.StepErr.TheVariants.{Lost, TargetFault, KeeperFault, FailSafe, NoMemory}
-use Rattle.desk.specs.Desks.{DeskNow}
 use Rattle.download.specs.Downloading.{Downloads}
 use Rattle.jop_base.specs.declared.dir.Dir.TheVariants.{Root}
 use Rattle.jop_base.specs.declared.lock_name.LockKind.TheVariants.{Sync}
@@ -13,33 +12,39 @@ use Rattle.jop_base.specs.declared.path.Path.TheVariants.{Info as InfoFile, OldV
 use Rattle.jop_target.specs.declared.call.Call.{Call}
 use Rattle.jop_target.specs.declared.call.Call.TheVariants.{List as ListDir, Get, Put, Delete, MakeDir}
 use Rattle.jop_target.specs.declared.reply.Reply.TheVariants.{Listed}
-use Rattle.lease.specs.Standing.{IsHeld}
+use Rattle.lease.specs.declared.lease.Lease.{Lease}
 use Rattle.licences.specs.Deeds.{Deed}
 use Rattle.licences.specs.Puts.{has_put}
 use Rattle.licences.specs.Trails.{session_calls}
-use Rattle.licences.specs.Views.{Heard, View}
+use Rattle.licences.specs.Views.{Heard, Shown, Stage, View}
 use Rattle.table_keeper.specs.Keepers.{Kept}
 use Rattle.local_store.specs.Rows.{row_id}
 use Rattle.table_keeper.specs.declared.blob.Blob.{Blob}
 use Rattle.local_store.specs.declared.row.Row.{Row}
 use Rattle.local_store.specs.declared.tables.Tables.{Tables}
 use Rattle.opening.proofs.Merging.{merges_none, merges_on}
+use Rattle.opening.proofs.Unput.{unput_behind}
 use Rattle.opening.proofs.Versions.{MayOnceTold, stays_lawful}
-use Rattle.opening.specs.Opening.{IsLawful, KnowsVersion, MergesBetween, Opens, PutsNoItem, Refuses, is_opening}
+use Rattle.opening.specs.Opening.{IsLawful, KnowsVersion, MergesBetween, Opens, ReadsBadInfo, ReadsVersion, Refuses, is_opening}
 use Rattle.opening.specs.declared.refusal.OpenErr.{OpenErr}
 use Rattle.opening.specs.declared.refusal.OpenErr.TheVariants as open_errors
 use Rattle.session_steps.proofs.Ending.{does_as, gives_up_behind}
 use Rattle.session_steps.proofs.Joins.{does_then}
-use Rattle.session_steps.specs.Doing.{Does, Finishes, GivesUp, Went}
+use Rattle.session_steps.proofs.Recast.{ends_at_placed, gives_up_placed}
+use Rattle.session_steps.specs.Doing.{Does, DoesTo, Finishes, GivesUp, Went}
 use Rattle.session_steps.specs.Parts.{ForEach, Hears, Part, Then}
-use Rattle.session_steps.specs.Work.{WorkNow}
+use Rattle.session_steps.specs.Work.{WorkNow, nowhere, placed, work, work_by}
 use Rattle.target_upgrade.specs.Steps.{SUPPORTED}
 use Rattle.upload.proofs.Left.{same_blobs}
 use Rattle.upload.specs.Conditions.{AreUnput, IsReadable}
 use Rattle.upload.specs.Uploading.{UploadsOne, blobs_of, pending_ids}
 use Rattle.session_steps.proofs.Wider.{IsWithin, does_within, gives_up_within, went_within}
+use Rattle.sync_session.proofs.Settled.{agree_begun}
 use Rattle.sync_session.specs.Errors.{of_opening, of_step}
 use Rattle.sync_session.specs.Keys.{IsActiveKey, has_waiting, needs_key}
+use Rattle.sync_session.specs.declared.sync_err.SyncErr.{SyncErr}
+use Rattle.sync_session.specs.declared.sync_err.SyncErr.TheVariants.{Busy, LeaseLost, TargetOlder, TargetNewer, BadInfo, NoKey}
+use Rattle.sync_session.specs.declared.sync_err.SyncErr.TheVariants as sync_errors
 use Rattle.sync_session.specs.Working.{Exchanges, ExchangesOr, LacksKey, ListsBehind, Sends, Syncs, Works, is_exchange, is_sync}
 
 -- ---- sorts
@@ -106,7 +111,7 @@ stopped_behind a b c e h k =
     (gives_up_within is_exchange is_sync b c e exchange_within k))
 
 -- what came behind the opening
-pub works_both : (a b c : WorkNow) → Does Opens is_opening a b
+works_both : (a b c : WorkNow) → Does Opens is_opening a b
     → Finishes (Exchanges b.desk.keeper.kept) is_exchange b c
     → Finishes (Syncs a.desk.keeper.kept) is_sync a c
 works_both a b c h k =
@@ -142,6 +147,12 @@ works_behind a b c KeeperFault h k =
 works_behind a b c NoMemory h k =
     stopped_behind a b c NoMemory (does_within is_opening is_sync a b opening_within h) k
 
+-- the exchange was done behind the opening, of a session that had called nothing
+pub works_done : (a b c : WorkNow) → session_calls a.desk.line.trail ≡ []
+    → Does Opens is_opening a b → ExchangesOr b (Ok tt) c → Works a (Ok tt) c
+works_done a b c none h k =
+    let whole = works_both a b c h k.0 in (whole, (k.1, whole.agrees (agree_begun a.desk none)))
+
 -- rows wait that can't be sealed
 pub lacks_key : (a b : WorkNow) (t : Tables) (key : Option (List ℕ)) → Does Opens is_opening a b
     → t ≡ b.desk.tables → needs_key t ≡ true → IsActiveKey t.info.active.value key
@@ -151,6 +162,49 @@ lacks_key a b t key h same needs active = record {
   needs = subst (λ (u : Tables). needs_key u ≡ true) same needs;
   active = subst (λ (u : Tables). IsActiveKey u.info.active.value key) same active;
 }
+
+-- ---- by whatever references
+
+does_nowhere : {there : Stage} (P : Part) (a b : WorkNow) → DoesTo there [] P is_sync a b
+    → DoesTo there [] P is_sync (placed nowhere a) (placed nowhere b)
+does_nowhere {there} P a b h =
+    ends_at_placed {R = Unit {0}} there P is_sync nowhere nowhere a b (Ok tt) refl h
+
+stopped_nowhere : (a b : WorkNow) (e : StepErr) → GivesUp is_sync a e b
+    → GivesUp is_sync (placed nowhere a) e (placed nowhere b)
+stopped_nowhere a b e h = gives_up_placed is_sync nowhere nowhere a b e refl h
+
+works_nowhere : (a b : WorkNow) (result : Result (Unit {0}) SyncErr) → Works a result b
+    → Works (placed nowhere a) result (placed nowhere b)
+works_nowhere a b (Ok done) h = (does_nowhere (Syncs a.desk.keeper.kept) a b h.0, h.1)
+works_nowhere a b (Err (LeaseLost seen)) h = stopped_nowhere a b (Lost seen) h
+works_nowhere a b (Err (TargetOlder version)) h = (h.0, does_nowhere (ReadsVersion version) a b h.1)
+works_nowhere a b (Err (TargetNewer version)) h = (h.0, does_nowhere (ReadsVersion version) a b h.1)
+works_nowhere a b (Err BadInfo) h = does_nowhere ReadsBadInfo a b h
+works_nowhere a b (Err (sync_errors.FailSafe count)) h = record {
+  listing = h.listing;
+  listed = does_nowhere (Then Opens (ListsBehind a.desk.keeper.kept h.listing)) a b h.listed;
+  rows = h.rows;
+}
+works_nowhere a b (Err (NoKey key)) h = record {
+  opened = does_nowhere Opens a b h.opened;
+  needs = h.needs;
+  active = h.active;
+}
+works_nowhere a b (Err sync_errors.TargetFault) h = stopped_nowhere a b TargetFault h
+works_nowhere a b (Err sync_errors.KeeperFault) h = stopped_nowhere a b KeeperFault h
+works_nowhere a b (Err sync_errors.NoMemory) h = stopped_nowhere a b NoMemory h
+works_nowhere a b (Err (Busy lock now)) h = absurd h
+
+-- so it is said of the desk, the lease and the report
+pub works_here : (a b : WorkNow) (result : Result (Unit {0}) SyncErr) → a.known ≡ None
+    → b.known ≡ None → Works a result b
+    → Works (work a.desk a.lease a.report) result (work b.desk b.lease b.report)
+works_here a b result before behind h =
+    subst (λ (k : Option Shown). Works (work a.desk a.lease a.report) result
+    (work_by k b.desk b.lease b.report)) behind
+    (subst (λ (k : Option Shown). Works (work_by k a.desk a.lease a.report) result
+    (placed nowhere b)) before (works_nowhere a b result h))
 
 -- ---- what it keeps
 
@@ -175,16 +229,26 @@ exchange_keeps call is = record { keeps = refl; asks_none = λ told. refl }
 -- the opening was done, and the session stands so behind it
 pub record HasOpened (a b : WorkNow) : Type 0 where
   pub does : Does Opens is_opening a b
-  pub held : IsHeld b.lease b.desk.line.trail
   pub sync : b.lease.kind ≡ Sync
   pub lawful : IsLawful b.lease b.desk
   pub told : KnowsVersion b.lease b.desk
   pub merges : MergesBetween a.desk b.desk
 
+pub opened : (a b : WorkNow) → a.lease.kind ≡ Sync → Does Opens is_opening a b
+    → IsLawful b.lease b.desk → KnowsVersion b.lease b.desk → MergesBetween a.desk b.desk
+    → HasOpened a b
+opened a b sync does lawful told merges = record {
+  does = does;
+  sync = ap (λ (l : Lease). l.kind) does.went.same ∙ sync;
+  lawful = lawful;
+  told = told;
+  merges = merges;
+}
+
 pub lawful_behind : (a b c : WorkNow) → HasOpened a b → Went is_exchange b c
     → IsLawful c.lease c.desk
 lawful_behind a b c h went =
-    (stays_lawful is_exchange (Some SUPPORTED) b c exchange_keeps h.held h.sync h.lawful
+    (stays_lawful is_exchange (Some SUPPORTED) b c exchange_keeps h.does.ready.held h.sync h.lawful
     (λ version is. h.told ∙ is) went).lawful
 
 -- no info is put behind the opening
@@ -223,8 +287,8 @@ can_put t none = by t.info.e2ee.value refl where
       inr (ap (map row_id) (none_waiting t.rows rest))
 
 -- the session has put no item yet
-pub unput_opened : (old new : DeskNow) → session_calls old.line.trail ≡ [] → PutsNoItem old new
-    → AreUnput new
+pub unput_opened : (a b : WorkNow) → session_calls a.desk.line.trail ≡ []
+    → Does Opens is_opening a b → AreUnput b.desk
 unfolding has_put
-unput_opened old new none same = λ id new_row.
-    same id ∙ ap (λ (hs : List Heard). has_put id hs) none
+unput_opened a b none h = λ id new_row.
+    unput_behind is_opening a b h id ∙ ap (λ (hs : List Heard). has_put id hs) none

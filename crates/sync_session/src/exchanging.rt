@@ -1,59 +1,37 @@
 ghost use Rattle.std.specs.Prelude.{OnOk};
-ghost use Rattle.lease.specs.Standing.{IsSameBut};
 ghost use Rattle.session_steps.specs.Doing.{Ends};
-ghost use Rattle.session_steps.specs.Work.{IsReady, work};
+ghost use Rattle.session_steps.specs.Work.{IsAtWork};
 ghost use Rattle.upload.specs.Conditions.{AreUnput, IsReadable};
 ghost use Rattle.sync_session.specs.Working.{ExchangesOr, LeavesNothing, Sends, is_exchange};
 
-use conflicts::{StepErr, SyncReport};
-use desk::Desk;
-use download::apply_page;
-use lease::Lease;
+use conflicts::StepErr;
+use download::apply_listed;
+use session_steps::Session;
 use std::alloc::Global;
-use upload::{delete_all, upload_all};
+use upload::{delete_listed, upload_waiting};
 
 /// Uploads what was saved here, and deletes what was removed here.
-fn send<S: Desk>(
-    alloc: Global,
-    site: &mut S,
-    lease: &mut Lease,
-    report: &mut SyncReport,
-) -> Result<(), StepErr>
-    requires ready { IsReady (S.desk site.old) lease.old }
-    requires readable { IsReadable (S.desk site.old).tables }
-    requires first { AreUnput (S.desk site.old) }
+fn send<W: Session>(alloc: Global, s: &mut W) -> Result<(), StepErr>
+    requires ready { IsAtWork (W.now s.old) }
+    requires readable { IsReadable (W.now s.old).desk.tables }
+    requires first { AreUnput (W.now s.old).desk }
 
-    ensures ready { OnOk result (IsReady (S.desk site.new) lease.new) }
-    ensures lease { IsSameBut lease.old lease.new }
-    ensures nothing { OnOk result (LeavesNothing (S.desk site.new)) }
-    ensures sends { Ends (Sends (S.desk site.old).keeper.kept) is_exchange
-        (work (S.desk site.old) lease.old report.old) result
-        (work (S.desk site.new) lease.new report.new) }
-    ensures stays { S.stays site.old site.new }
+    ensures ends { Ends (Sends (W.now s.old).desk.keeper.kept) is_exchange (W.now s.old) result
+        (W.now s.new) }
+    ensures nothing { OnOk result (LeavesNothing (W.now s.new).desk) }
 {
-    upload_all(alloc, site, lease, report)?;
-    delete_all(alloc, site, lease, report)?;
-    Ok(())
+    upload_waiting(alloc, s)?;
+    delete_listed(alloc, s)
 }
 
 /// Uploads what was saved here, deletes what was removed here, and reads what others have done.
-pub(crate) fn exchange<S: Desk>(
-    alloc: Global,
-    site: &mut S,
-    lease: &mut Lease,
-    report: &mut SyncReport,
-) -> Result<(), StepErr>
-    requires ready { IsReady (S.desk site.old) lease.old }
-    requires readable { IsReadable (S.desk site.old).tables }
-    requires first { AreUnput (S.desk site.old) }
+pub(crate) fn exchange<W: Session>(alloc: Global, s: &mut W) -> Result<(), StepErr>
+    requires ready { IsAtWork (W.now s.old) }
+    requires readable { IsReadable (W.now s.old).desk.tables }
+    requires first { AreUnput (W.now s.old).desk }
 
-    ensures ready { OnOk result (IsReady (S.desk site.new) lease.new) }
-    ensures lease { IsSameBut lease.old lease.new }
-    ensures exchanges { ExchangesOr (work (S.desk site.old) lease.old report.old) result
-        (work (S.desk site.new) lease.new report.new) }
-    ensures stays { S.stays site.old site.new }
+    ensures ends { ExchangesOr (W.now s.old) result (W.now s.new) }
 {
-    send(alloc, site, lease, report)?;
-    apply_page(alloc, site, lease, report)?;
-    Ok(())
+    send(alloc, s)?;
+    apply_listed(alloc, s)
 }

@@ -37,6 +37,7 @@ use jop_target::{Diary, Target};
 use kept_tables::notes_are_kept_by_tables;
 use lease::{Lease, LeaseErr, acquire, blocked, held_apart};
 use local_store::{Changes, Tables};
+use session_steps::Hand;
 use std::alloc::Global;
 use table_keeper::Keeper;
 
@@ -225,6 +226,13 @@ fn sync_held<S: Desk>(
     ensures tells { TellsWork (view_of None (S.desk site.old)) (S.desk site.old) (S.desk site.new) }
     ensures stays { S.stays site.old site.new }
 {
-    let worked = work(alloc, site, &mut lease, report);
+    let worked = {
+        let mut s = Hand {
+            site: &mut *site,
+            lease: &mut lease,
+            report: &mut *report,
+        };
+        work(alloc, &mut s)
+    };
     leave(alloc, site, lease, worked)
 }

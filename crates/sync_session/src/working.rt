@@ -1,43 +1,32 @@
 ghost use Rattle.std.specs.Prelude.{◌≡◌, []};
 ghost use Rattle.jop_base.specs.declared.lock_name.LockKind.{LockKind};
-ghost use Rattle.lease.specs.Standing.{IsSameBut};
 ghost use Rattle.licences.specs.Trails.{session_calls};
-ghost use Rattle.session_steps.specs.Work.{IsReady, work};
+ghost use Rattle.session_steps.specs.Work.{IsAtWork};
 ghost use Rattle.opening.specs.Opening.{IsLawful, MergesBetween};
 ghost use Rattle.sync_session.specs.Working.{Works};
 
 use crate::exchanging::exchange;
 use crate::keys::{active_key, needs_key};
 use crate::sync_err::SyncErr;
-use conflicts::SyncReport;
-use desk::Desk;
-use lease::Lease;
-use opening::open;
+use opening::open_session;
+use session_steps::Session;
 use std::alloc::Global;
 
 /// Does what a sync does under its lease.
-pub(crate) fn work<S: Desk>(
-    alloc: Global,
-    site: &mut S,
-    lease: &mut Lease,
-    report: &mut SyncReport,
-) -> Result<(), SyncErr>
-    requires ready { IsReady (S.desk site.old) lease.old }
-    requires sync { lease.old.kind ≡ LockKind.Sync }
-    requires lawful { IsLawful lease.old (S.desk site.old) }
-    requires first { session_calls (S.desk site.old).line.trail ≡ [] }
+pub(crate) fn work<W: Session>(alloc: Global, s: &mut W) -> Result<(), SyncErr>
+    requires ready { IsAtWork (W.now s.old) }
+    requires sync { (W.now s.old).lease.kind ≡ LockKind.Sync }
+    requires lawful { IsLawful (W.now s.old).lease (W.now s.old).desk }
+    requires first { session_calls (W.now s.old).desk.line.trail ≡ [] }
 
-    ensures lease { IsSameBut lease.old lease.new }
-    ensures works { Works (work (S.desk site.old) lease.old report.old) result
-        (work (S.desk site.new) lease.new report.new) }
-    ensures merges { MergesBetween (S.desk site.old) (S.desk site.new) }
-    ensures lawful { IsLawful lease.new (S.desk site.new) }
-    ensures stays { S.stays site.old site.new }
+    ensures ends { Works (W.now s.old) result (W.now s.new) }
+    ensures merges { MergesBetween (W.now s.old).desk (W.now s.new).desk }
+    ensures lawful { IsLawful (W.now s.new).lease (W.now s.new).desk }
 {
-    open(alloc, site, lease, report)?;
-    if needs_key(site.tables()) {
-        return Err(SyncErr::NoKey(active_key(&site.tables().info)));
+    open_session(alloc, s)?;
+    if needs_key(s.tables()) {
+        return Err(SyncErr::NoKey(active_key(&s.tables().info)));
     }
-    exchange(alloc, site, lease, report)?;
+    exchange(alloc, s)?;
     Ok(())
 }
