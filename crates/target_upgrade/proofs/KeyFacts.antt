@@ -8,7 +8,7 @@ use Rattle.std.proofs.lemmas.Slice.Eq.{bytes_eq-Decides}
 use Rattle.jop_base.specs.Times.{last_time}
 use Rattle.item_kinds.specs.Kinds.{IsTimeOrZero, IsUpdated}
 use Rattle.item_kinds.specs.Times.{time_text, IsCount, IsTime}
-use Rattle.item_kinds.proofs.Numerals.{digits_yes, digits_test}
+use Rattle.jop_base.proofs.DecimalLaws.{digits_test, digits_yes}
 use Rattle.item_kinds.proofs.OneTime.{one_time}
 use Rattle.item_text.specs.Grammar.{first_fault, item_in}
 use Rattle.item_text.specs.Props.{value_of}

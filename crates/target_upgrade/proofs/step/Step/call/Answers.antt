@@ -1,7 +1,7 @@
 use Rattle.std.proofs.Common.{◌∷◌, [], ◌∙◌, ap, refl}
 use Rattle.std.proofs.lemmas.Str.{is_utf8-from_IsUtf8}
 use Rattle.std.specs.Str.{is_utf8}
-use Rattle.item_kinds.proofs.Numerals.{digits_utf8}
+use Rattle.jop_base.proofs.DecimalLaws.{digits_utf8}
 use Rattle.target_upgrade.proofs.step.Step.call.Goals as goal
 
 pub returns-in_ok-bytes_of-in-PutsOne-clause-text :
