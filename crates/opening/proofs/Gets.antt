@@ -71,7 +71,7 @@ info_last info v ds h =
     ∙ ap (λ (o : Option Info). or_before o (info_read v.calls)) h.1.1.0
 
 -- an info of the supported version was got
-pub has_read : (info : Info) (a b : WorkNow) → (h : HasHeard (Get InfoFile) is_reading a b)
+has_read : (info : Info) (a b : WorkNow) → (h : HasHeard (Get InfoFile) is_reading a b)
     → a.lease.kind ≡ Sync → IsInfo info → Gives info h.reply → info.version ≡ SUPPORTED
     → HasRead info a b
 has_read info a b h sync valid gives version =

@@ -1,6 +1,7 @@
 -- What the put of the info and its change come to.
-use Rattle.std.specs.Prelude.{ℕ, ◌≡◌, List, Bool, false, Option, Result, refl}
+use Rattle.std.specs.Prelude.{ℕ, ◌≡◌, List, Bool, true, false, Option, Result, refl}
 use Rattle.std.proofs.Common.{◌∙◌, sym, ap, subst, inl, inr}
+use Rattle.std.proofs.lemmas.Bool.{false≢true}
 use Rattle.conflicts.specs.declared.error.StepErr.{StepErr}
 use Rattle.desk.specs.Desks.{DeskNow}
 use Rattle.jop_base.specs.declared.path.Path.TheVariants.{Info as InfoFile}
@@ -32,6 +33,11 @@ use Rattle.sync_info.specs.declared.info.Info.{Info}
 -- no call at all
 abbrev none : Call → Bool
 none call = false
+
+-- of two infos it was found that they differ
+pub differ : (info other : Info) (same : Bool) → (info ≡ other → same ≡ true) → same ≡ false
+    → ¬ (info ≡ other)
+differ info other same both found = λ is. absurd (false≢true (sym found ∙ both is))
 
 -- ---- the put
 
@@ -155,12 +161,12 @@ may_set info remote d shown m other =
 -- ---- both
 
 pub joins : (info remote : Info) (a b c : WorkNow) (result : Result (Unit {0}) StepErr)
-    → info ≡ merged a.desk.tables.info remote → Does (PutsInfo info remote) is_joining a b
+    → IsMerge info remote a.desk → Does (PutsInfo info remote) is_joining a b
     → Ends (SetsInfo info) is_joining b result c → Ends (Joins remote) is_joining a result c
-joins info remote a b c result merge h k =
+joins info remote a b c result m h k =
     ends_as (Then (PutsInfo info remote) (SetsInfo info)) (Joins remote) is_joining a c result
     (λ shown ds. subst (λ (x : Info).
-    Then (PutsInfo x remote) (SetsInfo x) (view_of shown a.desk) ds) merge)
+    Then (PutsInfo x remote) (SetsInfo x) (view_of shown a.desk) ds) m.is)
     (ends_then (PutsInfo info remote) (SetsInfo info) is_joining a b c result h k)
 
 pub joins_merging : (info remote : Info) (a b c : WorkNow) (result : Result (Unit {0}) StepErr)

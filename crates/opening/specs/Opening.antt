@@ -90,7 +90,7 @@ ReadsVersion version v ds = ReadsInfoAt version v ds ⊎ ReadsOld version v ds
 
 -- ---- what is made of it
 
--- the session's last get of the info gave this one, which is of the supported version
+-- this is the info that the session read last, and is of the supported version
 pub record IsRead (info : Info) (d : DeskNow) : Type 0 where
   pub valid : IsInfo info
   pub version : info.version ≡ SUPPORTED

@@ -34,7 +34,7 @@ fn set_info<W: Session>(alloc: Global, s: &mut W, info: Info) -> Result<(), Step
     requires ready { IsAtWork (W.now s.old) }
     requires merge { (remote : Info) × IsMerge info remote (W.now s.old).desk }
 
-    // Whatever its calls are.
+    // It makes no call, so this holds of every sort.
     ensures ends { (sort : Call → Bool)
         → Ends (SetsInfo info) sort (W.now s.old) result (W.now s.new) }
 {

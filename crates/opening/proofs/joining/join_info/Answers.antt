@@ -1,11 +1,10 @@
-use Rattle.std.proofs.Common.{◌∙◌, ap, subst, sym}
+use Rattle.std.proofs.Common.{ap, subst, sym}
 use Rattle.std.proofs.lemmas.Result.{err_from_is_err_and}
 use Rattle.local_store.specs.declared.tables.Tables.{Tables}
 use Rattle.opening.proofs.Joined.{is_merge, joins, joins_merging, none_merging, still_merge}
 use Rattle.opening.specs.Opening.{is_joining}
 use Rattle.session_steps.proofs.Ending.{does_nothing, does_starves}
 use Rattle.sync_info.specs.Info.{IsInfo}
-use Rattle.sync_info.specs.Merge.{merged}
 use Rattle.opening.proofs.joining.join_info.Goals as goal
 
 pub merge-requires-clause-local : goal.merge-requires-clause-local
@@ -50,8 +49,8 @@ returns-clause-ends g c =
     let now = g.W.Session.now in
     joins _ c.args.remote.now (now c.args.s.now) (now c.put_info.new.s) (now c.set_info.new.s)
     c.set_info.result
-    (c.in_ok-info.ensures.merged
-    ∙ ap (λ (t : Tables). merged t.info c.args.remote.now) c.tables.ensures)
+    (is_merge _ c.args.remote.now c.tables.result.now (now c.args.s.now).desk
+    c.in_ok-info.ensures.valid c.requires.read c.in_ok-info.ensures.merged c.tables.ensures)
     c.in_ok-put_info.ensures.ends (c.set_info.ensures.ends is_joining)
 
 pub returns-clause-merges : goal.returns-clause-merges

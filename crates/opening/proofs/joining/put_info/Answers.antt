@@ -2,7 +2,7 @@ use Rattle.std.proofs.Common.{◌∙◌, ap}
 use Rattle.std.proofs.lemmas.Result.{err_from_is_err_and}
 use Rattle.jop_base.proofs.KeyedLaws.{bytes_eq-refl}
 use Rattle.opening.proofs.Informed.{is_info_at-supported}
-use Rattle.opening.proofs.Joined.{none_merging, puts_it, puts_merging, puts_nothing}
+use Rattle.opening.proofs.Joined.{differ, none_merging, puts_it, puts_merging, puts_nothing}
 use Rattle.opening.proofs.Merging.{puts_text}
 use Rattle.opening.specs.Opening.{is_joining}
 use Rattle.session_steps.proofs.Ending.{does_nothing, does_starves}
@@ -35,7 +35,8 @@ returns-clause-ends g c =
     let m = c.requires.merge in
     puts_it c.args.info.now c.args.remote.now _ is_joining _ _ c.ask.result
     c.in_ok-text.ensures.text
-    (λ same. let no = c.is_same.ensures.1 same in let is = c.if-is_same.false in absurd cc)
+    (differ c.args.info.now c.args.remote.now c.is_same.result c.is_same.ensures.1
+    c.if-is_same.false)
     (c.ask.ensures.ends is_joining
     (is_info_at-supported _ c.args.info.now c.in_ok-text.ensures.reads_back
     (ap (λ (i : Info). i.version) m.is ∙ m.read.version)))
@@ -45,6 +46,7 @@ returns-clause-merges g c =
     let text = c.in_ok-text.text in
     puts_merging c.args.info.now c.args.remote.now text (g.W.Session.now c.args.s.now)
     (g.W.Session.now c.ask.new.self) c.ask.result c.in_ok-text.ensures.text
-    (λ same. let no = c.is_same.ensures.1 same in let is = c.if-is_same.false in absurd cc)
+    (differ c.args.info.now c.args.remote.now c.is_same.result c.is_same.ensures.1
+    c.if-is_same.false)
     c.requires.merge c.ask.ensures.same.made
     (c.ask.ensures.ends (puts_text text) (bytes_eq-refl text))

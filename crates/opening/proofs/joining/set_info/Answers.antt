@@ -1,6 +1,6 @@
 use Rattle.std.proofs.Common.{◌∙◌, ap, sym}
 use Rattle.local_store.specs.declared.tables.Tables.{Tables}
-use Rattle.opening.proofs.Joined.{may_set, sets_it, sets_nothing}
+use Rattle.opening.proofs.Joined.{differ, may_set, sets_it, sets_nothing}
 use Rattle.opening.proofs.joining.set_info.Goals as goal
 
 pub make-requires-clause-allowed : goal.make-requires-clause-allowed
@@ -10,10 +10,9 @@ pub make-requires-clause-may : goal.make-requires-clause-may
 make-requires-clause-may g c = λ shown.
     may_set c.args.info c.requires.merge.0 (g.W.Session.now c.args.s.now).desk shown
     c.requires.merge.1
-    (λ same.
-    let no = c.is_same.ensures.1 (same ∙ sym (ap (λ (t : Tables). t.info) c.tables.ensures)) in
-    let is = c.if-is_same.false in
-    absurd cc)
+    (differ c.args.info _ c.is_same.result
+    (λ same. c.is_same.ensures.1 (same ∙ sym (ap (λ (t : Tables). t.info) c.tables.ensures)))
+    c.if-is_same.false)
 
 pub returns-then-is_same : goal.returns-then-is_same
 returns-then-is_same g c = record {
@@ -28,9 +27,8 @@ returns g c = record {
   ends = λ sort.
       sets_it c.args.info sort (g.W.Session.now c.args.s.now) (g.W.Session.now c.make.new.self)
       c.make.result
-      (λ same.
-      let no = c.is_same.ensures.1 (same ∙ sym (ap (λ (t : Tables). t.info) c.tables.ensures)) in
-      let is = c.if-is_same.false in
-      absurd cc)
+      (differ c.args.info _ c.is_same.result
+      (λ same. c.is_same.ensures.1 (same ∙ sym (ap (λ (t : Tables). t.info) c.tables.ensures)))
+      c.if-is_same.false)
       (c.make.ensures.ends sort);
 }
