@@ -3,7 +3,7 @@ use Rattle.std.specs.Prelude.{ℕ, ◌≡◌, List, Bool, true, false, ◌&&◌,
 use Rattle.conflicts.specs.Rules.{folder_gone_changes}
 use Rattle.delta.specs.Page.{IsPageOf, fail_safe}
 use Rattle.delta.specs.declared.page.Page.{Page}
-use Rattle.jop_base.specs.declared.dir.Dir.{Dir}
+use Rattle.download.specs.Taking.{TakesOne, is_taking}
 use Rattle.jop_base.specs.declared.dir.Dir.TheVariants.{Root}
 use Rattle.jop_target.specs.declared.call.Call.{Call}
 use Rattle.jop_target.specs.declared.call.Call.TheVariants.{List as ListDir}
@@ -17,13 +17,9 @@ use Rattle.local_store.specs.Tables.{row_at}
 use Rattle.local_store.specs.declared.change.Change.TheVariants.{ContextIs, Gone}
 use Rattle.local_store.specs.declared.row.Row.{Row}
 use Rattle.session_steps.specs.Parts.{Changes, ForEach, Hears, Nothing, Part, Then}
-use Rattle.download.specs.Taking.{TakesOne, is_taking}
+use Rattle.session_steps.specs.Sessions.{is_root}
 
 -- ---- calls
-
-abbrev pub is_root : Dir → Bool
-is_root Root = true
-is_root dir = false
 
 -- a listing of the root
 abbrev pub is_listing : Call → Bool
@@ -63,7 +59,7 @@ ClosesIf id false v ds = Nothing v ds
 abbrev pub Closes : List ℕ → Part
 Closes id v ds = ClosesIf id (is_place (row_at v.tables id)) v ds
 
--- a row's turn, which is that of the folders or of what is none
+-- the row goes, if it is its turn: that of the folders, or of what is none
 abbrev pub LeavesOne : Bool → List ℕ → Part
 LeavesOne false = Goes
 LeavesOne true = Closes

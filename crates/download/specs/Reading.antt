@@ -5,6 +5,8 @@ use Rattle.conflicts.specs.declared.error.StepErr.TheVariants.{Lost, TargetFault
 use Rattle.delta.specs.Page.{IsPageOf, fail_safe}
 use Rattle.delta.specs.declared.page.Page.{Page}
 use Rattle.desk.specs.Desks.{DeskNow}
+use Rattle.download.specs.Asked.{IsPage}
+use Rattle.download.specs.Downloading.{Downloads, is_download}
 use Rattle.jop_base.specs.declared.dir.Dir.TheVariants.{Root}
 use Rattle.jop_target.specs.declared.call.Call.TheVariants.{List as ListDir}
 use Rattle.jop_target.specs.declared.reply.Listing.{Listing}
@@ -15,8 +17,6 @@ use Rattle.local_store.specs.declared.tables.Tables.{Tables}
 use Rattle.session_steps.specs.Doing.{Does, Ends, Finishes, GivesUp}
 use Rattle.session_steps.specs.Parts.{Hears, Part}
 use Rattle.session_steps.specs.Work.{WorkNow, knowing}
-use Rattle.download.specs.Asked.{IsPage}
-use Rattle.download.specs.Downloading.{Downloads, is_download}
 
 -- ---- the page
 
@@ -31,7 +31,7 @@ pub record Lacks (known : Shown) (id : List ℕ) : Type 0 where
   pub is : IsPage known page
   pub gone : Contains page.gone id
 
--- if it is, it was this part, or gave nothing
+-- if by the session's last listing this file is gone, it was this part, or gave nothing
 abbrev pub EndsIfGone : List ℕ → Part → WorkNow → Result (Unit {0}) StepErr → WorkNow → Type 0
 EndsIfGone id P old result new =
     (known : Shown) → Lacks known id

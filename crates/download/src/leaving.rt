@@ -80,7 +80,7 @@ fn close<W: Session>(alloc: Global, s: &mut W, id: &Id) -> Result<(), StepErr>
     close_folder(alloc, s, id)
 }
 
-/// Lets the row of this id go, if it is what its turn is for: first come rows that are no folders, and then folders.
+/// Lets the row of this id go, if it is its turn: that of the folders, or of what is none.
 fn leave_one<W: Session>(alloc: Global, s: &mut W, folders: bool, id: &Id) -> Result<(), StepErr>
     requires ready { IsAtWork (W.now s.old) }
     requires gone { (known : Shown) × Lacks known id.now }
@@ -94,7 +94,7 @@ fn leave_one<W: Session>(alloc: Global, s: &mut W, folders: bool, id: &Id) -> Re
     go(alloc, s, id)
 }
 
-/// Lets the rows of these ids go that this turn is for.
+/// Lets the rows of these ids go of which it is the turn.
 fn leave_each<W: Session>(
     alloc: Global,
     s: &mut W,
