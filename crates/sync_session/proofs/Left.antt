@@ -205,6 +205,11 @@ pub record HasTaken (client : List ℕ) (lease : Lease) (old held : DeskNow) : T
   pub same : IsSameDesk old held
   pub goes : LeaseGoesOn client old.line held.line
 
+pub has_taken : (client : List ℕ) (lease : Lease) (old held : DeskNow)
+    → HasAcquired Sync client held.line.trail lease → IsSameDesk old held
+    → LeaseGoesOn client old.line held.line → HasTaken client lease old held
+has_taken client lease old held had same goes = record { had = had; same = same; goes = goes }
+
 pub own_client : (client : List ℕ) (lease : Lease) (old held : DeskNow)
     → HasTaken client lease old held → lease.client ≡ client
 own_client client lease old held h = ap (λ (l : Lease). l.client) h.had.whole

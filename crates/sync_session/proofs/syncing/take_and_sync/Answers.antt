@@ -3,7 +3,7 @@ use Rattle.std.proofs.lemmas.Result.{err_from_is_err_and}
 use Rattle.std.specs.Prelude.{Ok}
 use Rattle.session_steps.proofs.Asked.{calls_locks}
 use Rattle.sync_session.proofs.Done.{counted_locked, released_done}
-use Rattle.sync_session.proofs.Left.{HasTaken, goes_idle, goes_taken, lawful_begun, lawful_taken, released_none, tells_taken}
+use Rattle.sync_session.proofs.Left.{goes_idle, goes_taken, has_taken, lawful_begun, lawful_taken, released_none, tells_taken}
 use Rattle.sync_session.proofs.Refused.{ends_from, released_work}
 use Rattle.sync_session.proofs.Telling.{tells_locks}
 use Rattle.sync_session.specs.Syncing.{begun_view}
@@ -37,11 +37,8 @@ sync_held-requires-clause-lawful g c =
     let old = g.S.Desk.desk c.args.site.now in
     let held = g.S.Desk.desk c.take.new.site in
     let begun = lawful_begun client old.line.trail c.requires.begun in
-    let taken : HasTaken client c.in_ok-lease.lease old held = record {
-      had = c.in_ok-lease.ensures.gives;
-      same = c.take.ensures.same;
-      goes = c.take.ensures.goes;
-    } in
+    let taken = has_taken client c.in_ok-lease.lease old held c.in_ok-lease.ensures.gives
+    c.take.ensures.same c.take.ensures.goes in
     lawful_taken client c.in_ok-lease.lease old held begun taken
 
 pub sync_held-requires-clause-first : goal.sync_held-requires-clause-first
@@ -56,11 +53,8 @@ returns-in_err-sync_held-clause-released g c =
     let client = c.args.client.now in
     let old = g.S.Desk.desk c.args.site.now in
     let held = g.S.Desk.desk c.take.new.site in
-    let taken : HasTaken client c.in_ok-lease.lease old held = record {
-      had = c.in_ok-lease.ensures.gives;
-      same = c.take.ensures.same;
-      goes = c.take.ensures.goes;
-    } in
+    let taken = has_taken client c.in_ok-lease.lease old held c.in_ok-lease.ensures.gives
+    c.take.ensures.same c.take.ensures.goes in
     let ends = ends_from _ _ _ _ _ _ _ c.new-report.ensures c.in_err-sync_held.ensures.ends in
     rw (p.1, p.2) (released_work client c.in_ok-lease.lease old held _ _ _ _ refl taken ends)
 
@@ -70,11 +64,8 @@ returns-in_err-sync_held-clause-goes g c =
     let old = g.S.Desk.desk c.args.site.now in
     let held = g.S.Desk.desk c.take.new.site in
     let begun = lawful_begun client old.line.trail c.requires.begun in
-    let taken : HasTaken client c.in_ok-lease.lease old held = record {
-      had = c.in_ok-lease.ensures.gives;
-      same = c.take.ensures.same;
-      goes = c.take.ensures.goes;
-    } in
+    let taken = has_taken client c.in_ok-lease.lease old held c.in_ok-lease.ensures.gives
+    c.take.ensures.same c.take.ensures.goes in
     goes_taken client c.in_ok-lease.lease old held (g.S.Desk.desk c.sync_held.new.site)
     begun taken c.sync_held.ensures.goes
 
@@ -83,11 +74,8 @@ returns-in_err-sync_held-clause-tells g c =
     let client = c.args.client.now in
     let old = g.S.Desk.desk c.args.site.now in
     let held = g.S.Desk.desk c.take.new.site in
-    let taken : HasTaken client c.in_ok-lease.lease old held = record {
-      had = c.in_ok-lease.ensures.gives;
-      same = c.take.ensures.same;
-      goes = c.take.ensures.goes;
-    } in
+    let taken = has_taken client c.in_ok-lease.lease old held c.in_ok-lease.ensures.gives
+    c.take.ensures.same c.take.ensures.goes in
     tells_taken client c.in_ok-lease.lease old held
     (g.S.Desk.desk c.sync_held.new.site) c.requires.begun taken c.sync_held.ensures.tells
 
@@ -96,11 +84,8 @@ returns-clause-released g c =
     let client = c.args.client.now in
     let old = g.S.Desk.desk c.args.site.now in
     let held = g.S.Desk.desk c.take.new.site in
-    let taken : HasTaken client c.in_ok-lease.lease old held = record {
-      had = c.in_ok-lease.ensures.gives;
-      same = c.take.ensures.same;
-      goes = c.take.ensures.goes;
-    } in
+    let taken = has_taken client c.in_ok-lease.lease old held c.in_ok-lease.ensures.gives
+    c.take.ensures.same c.take.ensures.goes in
     let ends = ends_from _ _ _ _ _ _ _ c.new-report.ensures c.in_ok-sync_held.ensures.ends in
     released_done client c.in_ok-lease.lease old held (g.S.Desk.desk c.sync_held.new.site)
     c.sync_held.new.report _ (Ok tt) refl taken ends
@@ -113,11 +98,8 @@ returns-clause-goes g c =
     let old = g.S.Desk.desk c.args.site.now in
     let held = g.S.Desk.desk c.take.new.site in
     let begun = lawful_begun client old.line.trail c.requires.begun in
-    let taken : HasTaken client c.in_ok-lease.lease old held = record {
-      had = c.in_ok-lease.ensures.gives;
-      same = c.take.ensures.same;
-      goes = c.take.ensures.goes;
-    } in
+    let taken = has_taken client c.in_ok-lease.lease old held c.in_ok-lease.ensures.gives
+    c.take.ensures.same c.take.ensures.goes in
     goes_taken client c.in_ok-lease.lease old held (g.S.Desk.desk c.sync_held.new.site)
     begun taken c.sync_held.ensures.goes
 
@@ -126,10 +108,7 @@ returns-clause-tells g c =
     let client = c.args.client.now in
     let old = g.S.Desk.desk c.args.site.now in
     let held = g.S.Desk.desk c.take.new.site in
-    let taken : HasTaken client c.in_ok-lease.lease old held = record {
-      had = c.in_ok-lease.ensures.gives;
-      same = c.take.ensures.same;
-      goes = c.take.ensures.goes;
-    } in
+    let taken = has_taken client c.in_ok-lease.lease old held c.in_ok-lease.ensures.gives
+    c.take.ensures.same c.take.ensures.goes in
     tells_taken client c.in_ok-lease.lease old held
     (g.S.Desk.desk c.sync_held.new.site) c.requires.begun taken c.sync_held.ensures.tells
