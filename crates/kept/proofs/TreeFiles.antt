@@ -4,12 +4,14 @@ use Rattle.std.specs.Prelude.{bytes_eq, codes, option_map}
 use Rattle.std.proofs.lemmas.Bool.{false≢true}
 use Rattle.std.proofs.lemmas.List.{append_cancel_right}
 use Rattle.std.proofs.lemmas.List.Elements.{All-head}
+use Rattle.jop_base.proofs.Folders.{dir_shown, path_shown}
 use Rattle.jop_base.proofs.KeyedLaws.{same_text, bytes_eq-refl, bytes_eq-other, at-put_same, at-cut, IsSorted-put, IsSorted-cut}
 use Rattle.jop_base.specs.Id.{IsIdText, is_digit}
 use Rattle.jop_base.specs.Keyed.{at, put, cut, IsSorted}
 use Rattle.jop_base.specs.Paths.{path_text}
+use Rattle.jop_base.specs.declared.dir.Dir.TheVariants.{Root}
 use Rattle.jop_base.specs.declared.path.Path.{Path}
-use Rattle.jop_base.specs.declared.path.Path.TheVariants.{Item as ItemFile, Blob}
+use Rattle.jop_base.specs.declared.path.Path.TheVariants.{Info as InfoFile, Item as ItemFile, Blob}
 use Rattle.jop_target.proofs.Files.{file_at-other_put, file_at-other_delete}
 use Rattle.jop_target.specs.History.{tree_with}
 use Rattle.jop_target.specs.Store.{file_key, is_same, file_at, with_file, without_file, tree_after}
@@ -51,7 +53,10 @@ other_text id (ItemFile other) is isnt same =
     let test : bytes_eq other id ≡ true =
     ap (λ (t : List ℕ). bytes_eq t id) ids ∙ bytes_eq-refl id in
     false≢true (sym isnt ∙ test)
-other_text id path is isnt same = apart_by_first (path_text path) id refl is same
+other_text id InfoFile is isnt same = apart_by_first (path_text InfoFile) id refl is same
+other_text id path is isnt same =
+    let root : dir_shown (path_text path) ≡ Root = ap dir_shown same ∙ path_shown (ItemFile id) is in
+    absurd cc
 
 -- a file of another path is another one
 pub not_its : (id : List ℕ) (path : Path) → IsIdText id → is_file_of id path ≡ false
