@@ -5,7 +5,6 @@ use Rattle.std.specs.Prelude.{All}
 use Rattle.std.proofs.lemmas.Bool.{false≢true, eqb-true}
 use Rattle.std.proofs.lemmas.List.Elements.{All-nil, All-cons}
 use Rattle.std.proofs.lemmas.Option.{same_Some}
-use Rattle.jop_base.proofs.Folders.{apart}
 use Rattle.jop_base.specs.declared.path.Path.{Path}
 use Rattle.jop_base.specs.declared.path.Path.TheVariants.{Info as InfoFile, OldVersion, Item, Blob, Lock as LockFile, Temp as TempFile}
 use Rattle.jop_target.specs.History.{is_guarded_call}
@@ -22,7 +21,7 @@ use Rattle.sync_info.specs.Read.{info_in}
 use Rattle.sync_info.specs.declared.info.Info.{Info}
 use Rattle.target_upgrade.specs.Course.{is_info_at, is_known, is_version, keeps_version, version_in}
 use Rattle.upgrade_laws.specs.Target.{info_by, info_of, info_within, version_of}
-use Rattle.upgrade_laws.proofs.Files.{differs, info_no_item, old_no_item, is_version_file}
+use Rattle.upgrade_laws.proofs.Files.{apart_by_folder, info_no_item, old_no_item, is_version_file}
 use Rattle.exclusion.specs.Learnt.{Learnt, nothing, with_info, learnt_of_info, learnt_of_old, learnt_by}
 
 -- ---- what a session has read is so
@@ -58,13 +57,13 @@ apart_from_info : (p : Path) → is_version_file p ≡ false → is_same p InfoF
 apart_from_info (Item id) v = info_no_item.right id
 apart_from_info InfoFile v = cc
 apart_from_info OldVersion v = cc
-apart_from_info p v = differs p InfoFile (apart p InfoFile cc)
+apart_from_info p v = apart_by_folder p InfoFile refl
 
 apart_from_old : (p : Path) → is_version_file p ≡ false → is_same p OldVersion ≡ false
 apart_from_old (Item id) v = old_no_item.right id
 apart_from_old InfoFile v = cc
 apart_from_old OldVersion v = cc
-apart_from_old p v = differs p OldVersion (apart p OldVersion cc)
+apart_from_old p v = apart_by_folder p OldVersion refl
 
 -- whether a call puts and deletes neither of the two
 abbrev is_apart : Call → Bool

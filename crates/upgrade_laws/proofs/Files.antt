@@ -1,6 +1,7 @@
 -- What a put of a file and a new folder change in a tree, and what they leave.
 use Rattle.std.proofs.Common.{◌≡◌, ◌∙◌, refl, sym, ap, arith, ℕ, List, [], ◌∷◌, ◌++◌, append_assoc, codes, Bool, true, false, ◌||◌, cond, ◌≢◌, ◌+◌}
 use Rattle.std.specs.Prelude.{bytes_eq}
+use Rattle.std.proofs.lemmas.Bool.{eq-eqb, false≢true}
 use Rattle.jop_base.proofs.Folders.{apart, dir_shown, prefix_shown}
 use Rattle.jop_base.proofs.KeyedLaws.{same_text, bytes_eq-refl}
 use Rattle.jop_base.specs.Keyed.{put, cut, text_lt}
@@ -10,7 +11,7 @@ use Rattle.jop_base.specs.declared.dir.Dir.{Dir}
 use Rattle.jop_base.specs.declared.dir.Dir.TheVariants.{Root}
 use Rattle.jop_base.specs.declared.path.Path.{Path}
 use Rattle.jop_base.specs.declared.path.Path.TheVariants.{Info as InfoFile, OldVersion, Item, Blob, Lock as LockFile, Temp as TempFile, Tomb}
-use Rattle.jop_target.specs.Store.{file_key, is_same, file_at, with_file, without_file, entries_in, is_same_dir}
+use Rattle.jop_target.specs.Store.{file_key, is_same, file_at, with_file, without_file, entries_in, dir_number, is_same_dir}
 use Rattle.jop_target.specs.declared.tree.Content.{Content}
 use Rattle.jop_target.specs.declared.tree.File.{File}
 use Rattle.jop_target.proofs.Files.{file_at-other_delete, file_at-other_put}
@@ -24,6 +25,13 @@ use Rattle.upgrade_laws.specs.Target.{key_at, with_keys, items_of, upgraded_info
 
 pub differs : (p q : Path) → (path_text p ≡ path_text q → ⊥) → is_same p q ≡ false
 differs p q h = never (is_same p q) (λ same. h (same_text (path_text p) (path_text q) same))
+
+-- files whose texts show different folders are two
+pub apart_by_folder : (p q : Path) →
+    is_same_dir (dir_shown (path_text p)) (dir_shown (path_text q)) ≡ false → is_same p q ≡ false
+apart_by_folder p q other = differs p q (apart p q (λ same.
+    false≢true (sym other ∙ eq-eqb (dir_number (dir_shown (path_text p)))
+    (dir_number (dir_shown (path_text q))) (ap dir_number same))))
 
 -- no item has a text that ends otherwise
 ends_apart : (id front text : List ℕ) (last : ℕ) → text ≡ front ++ last ∷ [] → last ≢ 100 →
@@ -70,10 +78,10 @@ is_version_file OldVersion = true
 is_version_file path = false
 
 pub old_apart_info : is_same OldVersion InfoFile ≡ false
-old_apart_info = differs OldVersion InfoFile (apart OldVersion InfoFile cc)
+old_apart_info = apart_by_folder OldVersion InfoFile refl
 
 pub info_apart_old : is_same InfoFile OldVersion ≡ false
-info_apart_old = differs InfoFile OldVersion (apart InfoFile OldVersion cc)
+info_apart_old = apart_by_folder InfoFile OldVersion refl
 
 pub info_apart : (p : Path) → is_lock p ≡ false → is_version_file p ≡ false → is_same InfoFile p ≡
     false
@@ -81,7 +89,7 @@ info_apart (Item id) l v = info_no_item.left id
 info_apart InfoFile l v = cc
 info_apart OldVersion l v = cc
 info_apart (LockFile name) l v = cc
-info_apart p l v = differs InfoFile p (apart InfoFile p cc)
+info_apart p l v = apart_by_folder InfoFile p refl
 
 pub old_apart : (p : Path) → is_lock p ≡ false → is_version_file p ≡ false → is_same OldVersion p ≡
     false
@@ -89,13 +97,13 @@ old_apart (Item id) l v = old_no_item.left id
 old_apart InfoFile l v = cc
 old_apart OldVersion l v = cc
 old_apart (LockFile name) l v = cc
-old_apart p l v = differs OldVersion p (apart OldVersion p cc)
+old_apart p l v = apart_by_folder OldVersion p refl
 
 -- a lock is no other file
 pub lock_apart : (name : Name) (p : Path) → is_lock p ≡ false → is_same (LockFile name) p ≡ false
 lock_apart name (Item id) l = (lock_no_item name).left id
 lock_apart name (LockFile other) l = cc
-lock_apart name p l = differs (LockFile name) p (apart (LockFile name) p cc)
+lock_apart name p l = apart_by_folder (LockFile name) p refl
 
 -- ---- items
 
