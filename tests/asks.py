@@ -1,4 +1,4 @@
-"""A client of `dav_stand` that sends requests as no good client does, for `tests/dav`.
+"""A client of `tool_dav_stand` that sends requests as no good client does, for `tests/dav`.
 
     asks.py PORT packet      two requests in one packet
     asks.py PORT bytes       one byte a packet

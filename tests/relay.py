@@ -1,4 +1,4 @@
-"""Stands between cadaver and the server `dav_stand`, for `tests/dav`.
+"""Stands between cadaver and the server `tool_dav_stand`, for `tests/dav`.
 
     relay.py PORT_FILE SERVER_PORT LOG
 

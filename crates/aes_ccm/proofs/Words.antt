@@ -92,7 +92,8 @@ schedule_key key words n more e l held =
     let cut : take (length key) (take (4 * (n + more)) words) ≡ take (length key) words = take-take (length key) (4 * (n + more)) words (omega (arith, l.whole)) in
     sym cut ∙ ap (take (length key)) held ∙ take-expanded key more
 
-pub schedule_words : (key words : List ℕ) (n more : ℕ) → n ≡ length key / 4 → more ≡ 3 * n + 28 → take (4 * (n + more)) words ≡ expanded key more → take (16 * (words_of key + 7)) words ≡ schedule key
+pub schedule_words : (key words : List ℕ) (n more : ℕ) → n ≡ length key / 4 → more ≡ 3 * n + 28 →
+    take (4 * (n + more)) words ≡ expanded key more → take (16 * (words_of key + 7)) words ≡ schedule key
 unfolding schedule
 schedule_words key words n more e em held =
     let place : 16 * (words_of key + 7) ≡ 4 * (n + more) = omega arith in

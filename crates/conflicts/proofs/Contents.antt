@@ -6,7 +6,7 @@ use Rattle.jop_base.specs.Id.{IsIdText}
 use Rattle.item_text.specs.Props.{value_of}
 use Rattle.item_text.specs.Valid.{IsItem}
 use Rattle.item_text.specs.declared.item.Item.{Item}
-use Rattle.licences.specs.Items.{content_of, if_of, is_text, says}
+use Rattle.law_licences.specs.Items.{content_without_keys, is_text, says}
 use Rattle.local_store.specs.Sound.{IsContentOf, IsItemOf}
 use Rattle.local_store.specs.declared.content.Content.TheVariants.{Plain, Sealed}
 
@@ -32,15 +32,10 @@ sound_if false id item h of_id =
 
 sound_of : (same : Bool) (id : List ℕ) (item : Item)
     → is_text id (value_of (codes "id") item.props) ≡ same → IsItem item → IsIdText id
-    → IfSome (option_map content_of (if same then Some item else None)) (IsContentOf id)
+    → IfSome (option_map content_without_keys (if same then Some item else None)) (IsContentOf id)
 sound_of true id item h valid digits =
     let has : value_of (codes "id") item.props ≡ Some id =
     is_text-true id (value_of (codes "id") item.props) h in
     sound_if (says (codes "encryption_applied") (codes "1") item) id item refl
     (record { valid = valid; has_id = (has, digits) })
 sound_of false id item h valid digits = tt
-
--- the content of a valid item of the id is sound
-pub content_sound : (id : List ℕ) (item : Item) → IsItem item → IsIdText id
-    → IfSome (option_map content_of (if_of id (Some item))) (IsContentOf id)
-content_sound id item valid digits = sound_of (says (codes "id") id item) id item refl valid digits

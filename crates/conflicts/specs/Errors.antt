@@ -1,6 +1,6 @@
 -- Why a step of a session gives nothing.
-use Rattle.table_keeper.specs.declared.keeper_err.KeeperErr.{KeeperErr}
-use Rattle.table_keeper.specs.declared.keeper_err.KeeperErr.TheVariants as keeper_errors
+use Rattle.keeper.specs.declared.keeper_err.KeeperErr.{KeeperErr}
+use Rattle.keeper.specs.declared.keeper_err.KeeperErr.TheVariants as keeper_errors
 use Rattle.conflicts.specs.declared.error.StepErr.{StepErr}
 use Rattle.conflicts.specs.declared.error.StepErr.TheVariants.{KeeperFault, NoMemory}
 

@@ -5,8 +5,8 @@ use Rattle.local_store.specs.declared.change.Change.TheVariants.{Conflict, Moved
 use Rattle.local_store.specs.declared.content.Content.{Content}
 use Rattle.local_store.specs.declared.row.Row.{Row}
 use Rattle.local_store.specs.declared.tables.Tables.{Tables}
-use Rattle.licences.specs.Copies.{copies_for}
-use Rattle.licences.specs.Items.{is_note_in}
+use Rattle.law_licences.specs.Copies.{copies_for}
+use Rattle.law_licences.specs.Items.{is_note_in}
 
 -- the row gives way to what its file holds, or to nothing, and its text is kept if it would be lost
 abbrev pub conflict_change : Row → Option (List ℕ × Content) → Change

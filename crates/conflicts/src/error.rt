@@ -1,6 +1,6 @@
+use keeper::KeeperErr;
 use lease::Seen;
 use std::alloc::AllocError;
-use table_keeper::KeeperErr;
 
 /// Why a session can't go on.
 #[derive(Clone, Copy, Debug, PartialEq, Eq)]

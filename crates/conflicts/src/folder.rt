@@ -1,6 +1,6 @@
 ghost use Rattle.std.specs.Prelude.{◌≡◌, IfOk};
 ghost use Rattle.conflicts.specs.Rules.{folder_gone_changes};
-ghost use Rattle.licences.specs.Items.{is_note_in, says};
+ghost use Rattle.law_licences.specs.Items.{is_note_in, says};
 
 use item_kinds::Kind;
 use item_text::{Item, prop};

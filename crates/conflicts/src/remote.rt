@@ -1,8 +1,8 @@
 ghost use Rattle.std.specs.Prelude.{◌≡◌, IfOk, IfSome, Some, option_map};
-ghost use Rattle.conflicts.specs.Remotes.{content_in};
+ghost use Rattle.conflicts.specs.Remotes.{content_in_file};
 ghost use Rattle.item_text.specs.Valid.{IsItem};
 ghost use Rattle.jop_base.specs.Id.{IsIdText};
-ghost use Rattle.licences.specs.Items.{content_of, if_of};
+ghost use Rattle.law_licences.specs.Items.{content_without_keys, if_of};
 ghost use Rattle.local_store.specs.Sound.{IsContentOf};
 
 use crate::folder::says;
@@ -12,8 +12,8 @@ use local_store::Content;
 use std::alloc::{AllocError, Global};
 
 /// An item as a client without keys has it.
-fn content_of(item: Item) -> Content
-    ensures { result ≡ content_of item }
+fn content_without_keys(item: Item) -> Content
+    ensures { result ≡ content_without_keys item }
 {
     if says(&item, b"encryption_applied", b"1") {
         Content::Sealed(item)
@@ -24,7 +24,7 @@ fn content_of(item: Item) -> Content
 
 /// What a file of these bytes holds. None exactly if it is no item text of this id.
 pub fn content_in(alloc: Global, id: &Id, bytes: &[u8]) -> Result<Option<Content>, AllocError>
-    ensures content { IfOk result (λ content. content ≡ content_in id.now bytes.now) }
+    ensures content { IfOk result (λ content. content ≡ content_in_file id.now bytes.now) }
     ensures sound { IfOk result (λ content. IfSome content (IsContentOf id.now)) }
 {
     id.prove_valid();
@@ -39,11 +39,11 @@ pub fn content_in(alloc: Global, id: &Id, bytes: &[u8]) -> Result<Option<Content
 fn of_id(id: &Id, item: Item) -> Option<Content>
     requires id { IsIdText id.now }
     requires valid { IsItem item }
-    ensures content { result ≡ option_map content_of (if_of id.now (Some item)) }
+    ensures content { result ≡ option_map content_without_keys (if_of id.now (Some item)) }
     ensures sound { IfSome result (IsContentOf id.now) }
 {
     if says(&item, b"id", id.as_str().as_bytes()) {
-        Some(content_of(item))
+        Some(content_without_keys(item))
     } else {
         None
     }

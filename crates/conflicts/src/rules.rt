@@ -1,7 +1,7 @@
 ghost use Rattle.std.specs.Prelude.{◌≡◌};
 ghost use Rattle.conflicts.specs.Rules.{conflict_change};
-ghost use Rattle.licences.specs.Copies.{copies_for, is_alike, is_same_note, must_copy, title_of};
-ghost use Rattle.licences.specs.Items.{is_plain_note};
+ghost use Rattle.law_licences.specs.Copies.{copies_for, is_alike, is_same_note, must_copy, title_or_empty};
+ghost use Rattle.law_licences.specs.Items.{is_plain_note};
 
 use item_kinds::Kind;
 use item_text::Item;
@@ -9,8 +9,8 @@ use jop_base::Bytes;
 use local_store::{Change, Content, Row, has_kind};
 
 /// The title; one that is absent equals an empty one.
-fn title_of(item: &Item) -> &[u8]
-    ensures { result.now ≡ title_of item.now }
+fn title_or_empty(item: &Item) -> &[u8]
+    ensures { result.now ≡ title_or_empty item.now }
 {
     match &item.title {
         Some(title) => title.as_slice(),
@@ -22,7 +22,7 @@ fn title_of(item: &Item) -> &[u8]
 fn is_alike(item: &Item, other: &Item) -> bool
     ensures { result ≡ is_alike item.now other.now }
 {
-    title_of(item) == title_of(other) && item.body.as_slice() == other.body.as_slice()
+    title_or_empty(item) == title_or_empty(other) && item.body.as_slice() == other.body.as_slice()
 }
 
 /// Whether this is a readable note that says the same.

@@ -2,8 +2,8 @@
 use Rattle.std.proofs.Common.{◌≡◌, ◌≤◌, ◌<◌, ◌-◌, ◌∙◌, refl, sym, ap, arith, ℕ, List, [], ◌++◌, length, take, drop, append_assoc, append-nil, take-append-drop, length-append, length-take, Option, Some, None, Ok, Err, subst}
 use Rattle.jop_outside.specs.Outside.{Reads, HasRisen}
 use Rattle.jop_outside.specs.declared.failed.Failed.{Failed}
-use Rattle.dav_link.specs.Links.{LinkNow, ReadsAlone, Takes, IsAtEnd}
-use Rattle.dav_link.specs.Receiving.{HasRead, HasKept, HasEnough, HasEnded, FailsReading}
+use Rattle.dav_link.specs.Links.{LinkNow, ReadsAlone, TakesBytes, IsAtEnd}
+use Rattle.dav_link.specs.Receiving.{HasReadBytes, HasKept, HasEnough, LinkHasEnded, FailsReading}
 use Rattle.dav_link.specs.declared.error.LinkErr.{LinkErr}
 use Rattle.dav_link.specs.declared.error.LinkErr.TheVariants.{Fault, NoMemory}
 
@@ -12,32 +12,32 @@ length-taken n s h = simp length-take (omega arith)
 
 -- ---- what was taken
 
-pub Takes-nil : (a : Option (List ℕ)) → Takes a [] a
-Takes-nil None = refl
-Takes-nil (Some before) = (before, refl, refl)
+pub TakesBytes-nil : (a : Option (List ℕ)) → TakesBytes a [] a
+TakesBytes-nil None = refl
+TakesBytes-nil (Some before) = (before, refl, refl)
 
-pub Takes-append : (a b c : Option (List ℕ)) (first second : List ℕ)
-    → Takes a first b → Takes b second c → Takes a (first ++ second) c
-Takes-append None None c first second h k = k
-Takes-append None (Some w) c first second h k = cc
-Takes-append (Some v) None c first second h k = cc
-Takes-append (Some v) (Some w) c first second h k =
+pub TakesBytes-append : (a b c : Option (List ℕ)) (first second : List ℕ)
+    → TakesBytes a first b → TakesBytes b second c → TakesBytes a (first ++ second) c
+TakesBytes-append None None c first second h k = k
+TakesBytes-append None (Some w) c first second h k = cc
+TakesBytes-append (Some v) None c first second h k = cc
+TakesBytes-append (Some v) (Some w) c first second h k =
     let same : w ≡ h.0 = cc in
     let joined = append_assoc first second k.0 in
     (k.0, cc (h.1, k.1), k.2)
 
-Takes-read : (a b : Option (List ℕ)) (into : List ℕ) (count : ℕ)
-    → Reads a (Ok count) into b → Takes a (take count into) b
-Takes-read None b into count h = h
-Takes-read (Some v) b into count h =
+TakesBytes-read : (a b : Option (List ℕ)) (into : List ℕ) (count : ℕ)
+    → Reads a (Ok count) into b → TakesBytes a (take count into) b
+TakesBytes-read None b into count h = h
+TakesBytes-read (Some v) b into count h =
     let parts = take-append-drop count v in
     let given = h.given in
     (drop count v, cc, h.left)
 
-Takes-failed : (a b : Option (List ℕ)) (into : List ℕ) (e : Failed)
-    → Reads a (Err e) into b → Takes a [] b
-Takes-failed None b into e h = h
-Takes-failed (Some v) b into e h = (v, refl, h)
+TakesBytes-failed : (a b : Option (List ℕ)) (into : List ℕ) (e : Failed)
+    → Reads a (Err e) into b → TakesBytes a [] b
+TakesBytes-failed None b into e h = h
+TakesBytes-failed (Some v) b into e h = (v, refl, h)
 
 ended_at : (a b : Option (List ℕ)) (into : List ℕ)
     → 0 < length into → Reads a (Ok 0) into b → IsAtEnd b
@@ -52,27 +52,27 @@ ended_at (Some v) b into room h =
 alone-append : (a b c : LinkNow) → ReadsAlone a b → ReadsAlone b c → ReadsAlone a c
 alone-append a b c h k = record { written = k.written ∙ h.written; opened = k.opened ∙ h.opened }
 
-pub HasRead-append : (a b c : LinkNow) (first second : List ℕ)
-    → HasRead a first b → HasRead b second c → HasRead a (first ++ second) c
-HasRead-append a b c first second h k = record {
-  left = Takes-append a.left b.left c.left first second h.left k.left;
+pub HasReadBytes-append : (a b c : LinkNow) (first second : List ℕ)
+    → HasReadBytes a first b → HasReadBytes b second c → HasReadBytes a (first ++ second) c
+HasReadBytes-append a b c first second h k = record {
+  left = TakesBytes-append a.left b.left c.left first second h.left k.left;
   alone = alone-append a b c h.alone k.alone;
 }
 
-pub HasRead-nil : (a : LinkNow) → HasRead a [] a
-HasRead-nil a =
-    record { left = Takes-nil a.left; alone = record { written = refl; opened = refl } }
+pub HasReadBytes-nil : (a : LinkNow) → HasReadBytes a [] a
+HasReadBytes-nil a =
+    record { left = TakesBytes-nil a.left; alone = record { written = refl; opened = refl } }
 
 pub kept_nothing : (a : LinkNow) (kept : List ℕ) → HasKept a kept a kept []
 kept_nothing a kept =
-    record { kept = sym (append-nil kept); read = HasRead-nil a; stays = refl }
+    record { kept = sym (append-nil kept); read = HasReadBytes-nil a; stays = refl }
 
 pub kept_more : (a b c : LinkNow) (before mid after first second : List ℕ)
     → HasKept a before b mid first → HasKept b mid c after second
     → HasKept a before c after (first ++ second)
 kept_more a b c before mid after first second h k = record {
   kept = let joined = append_assoc before first second in cc (h.kept, k.kept);
-  read = HasRead-append a b c first second h.read k.read;
+  read = HasReadBytes-append a b c first second h.read k.read;
   stays = k.stays ∙ h.stays;
 }
 
@@ -81,28 +81,28 @@ pub fails_later : (a b c : LinkNow) (before mid bytes : List ℕ) (error : LinkE
     → HasKept a before b mid bytes → FailsReading error b c → FailsReading error a c
 fails_later a b c before mid bytes Fault h k = record {
   bytes = bytes ++ k.bytes;
-  read = HasRead-append a b c bytes k.bytes h.read k.read;
+  read = HasReadBytes-append a b c bytes k.bytes h.read k.read;
   rose = let rose = k.rose in let same = h.stays in omega arith;
 }
 fails_later a b c before mid bytes NoMemory h k = record {
   bytes = bytes ++ k.bytes;
-  read = HasRead-append a b c bytes k.bytes h.read k.read;
+  read = HasReadBytes-append a b c bytes k.bytes h.read k.read;
   stays = k.stays ∙ h.stays;
 }
 
 -- ---- one read
 
 pub read_piece : (a b : LinkNow) (into : List ℕ) (count : ℕ)
-    → Reads a.left (Ok count) into b.left → ReadsAlone a b → HasRead a (take count into) b
+    → Reads a.left (Ok count) into b.left → ReadsAlone a b → HasReadBytes a (take count into) b
 read_piece a b into count reads alone =
-    record { left = Takes-read a.left b.left into count reads; alone = alone }
+    record { left = TakesBytes-read a.left b.left into count reads; alone = alone }
 
 pub read_failed : (a b : LinkNow) (into : List ℕ) (e : Failed)
     → Reads a.left (Err e) into b.left → ReadsAlone a b
     → HasRisen a.faults b.faults → FailsReading Fault a b
 read_failed a b into e reads alone rose = record {
   bytes = [];
-  read = record { left = Takes-failed a.left b.left into e reads; alone = alone };
+  read = record { left = TakesBytes-failed a.left b.left into e reads; alone = alone };
   rose = rose;
 }
 
@@ -163,7 +163,7 @@ at_full old mid new before kept into count missing taken at reads alone stays =
 pub at_end : (old mid new : LinkNow) (before kept into : List ℕ) (count missing : ℕ)
     → IsAt old before count mid kept missing → 0 < missing → 0 < length into
     → Reads mid.left (Ok 0) into new.left → ReadsAlone mid new → new.faults ≡ mid.faults
-    → HasEnded old before count new kept
+    → LinkHasEnded old before count new kept
 at_end old mid new before kept into count missing at some room reads alone stays =
     let none : kept ≡ kept ++ take 0 into = sym (append-nil kept) in
     record {

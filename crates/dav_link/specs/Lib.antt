@@ -1,3 +1,4 @@
+pub mod Awaiting
 pub mod Links
 pub mod Memory
 pub mod Receiving

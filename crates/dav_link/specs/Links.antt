@@ -30,9 +30,9 @@ abbrev pub sink_of : LinkNow → SinkNow
 sink_of link = record { written = link.written; faults = link.faults }
 
 -- these bytes were read of a link, and the rest is left, if it tells
-abbrev pub Takes : Option (List ℕ) → List ℕ → Option (List ℕ) → Type 0
-Takes None bytes after = after ≡ None
-Takes (Some before) bytes after = (rest : List ℕ) × (before ≡ bytes ++ rest) × (after ≡ Some rest)
+abbrev pub TakesBytes : Option (List ℕ) → List ℕ → Option (List ℕ) → Type 0
+TakesBytes None bytes after = after ≡ None
+TakesBytes (Some before) bytes after = (rest : List ℕ) × (before ≡ bytes ++ rest) × (after ≡ Some rest)
 
 -- nothing is left of a link, if it tells
 abbrev pub IsAtEnd : Option (List ℕ) → Type 0

@@ -3,7 +3,7 @@ ghost use Rattle.std.specs.Bool.{OnTrue, OnFalse};
 ghost use Rattle.jop_outside.specs.Outside.{HasCause, Reads, Writes, risen};
 ghost use Rattle.jop_outside.specs.Plan.{after_call, next_fate, with_failing};
 ghost use Rattle.dav_link.specs.Links.{OpensAlone, ReadsAlone, WritesAlone};
-ghost use Rattle.dav_link.specs.Memory.{link_of};
+ghost use Rattle.dav_link.specs.Memory.{KeepsAlone, link_of};
 
 use crate::link::Link;
 use jop_base::Bytes;
@@ -61,8 +61,7 @@ impl MemLink {
         ensures planned { OnTrue result (fate ≡ None) }
         ensures fed { OnTrue result (self.new.starved ≡ self.old.starved) }
         ensures missed { OnFalse result (IsSome fate ⊎ (self.new.starved ≡ risen self.old.starved)) }
-        ensures others { (self.new.faults ≡ self.old.faults) × (self.new.plan ≡ self.old.plan)
-            × (self.new.left ≡ self.old.left) × (self.new.opened ≡ self.old.opened) }
+        ensures alone { KeepsAlone self.old self.new }
     {
         if fate.is_some() {
             return false;

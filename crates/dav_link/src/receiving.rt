@@ -1,4 +1,4 @@
-ghost use Rattle.dav_link.specs.Receiving.{ReadsOn};
+ghost use Rattle.dav_link.specs.Receiving.{ReadsMore};
 
 use crate::error::LinkErr;
 use crate::link::Link;
@@ -10,7 +10,7 @@ const PIECE: usize = 65_536;
 /// Reads until at least so many bytes more are kept: whether they came before the link's end.
 /// `Fault` if the link failed. `NoMemory` if the bytes couldn't be kept.
 pub fn read_on<L: Link>(link: &mut L, kept: &mut Bytes, count: u64) -> Result<bool, LinkErr>
-    ensures { ReadsOn (L.state link.old) kept.old count result (L.state link.new) kept.new }
+    ensures { ReadsMore (L.state link.old) kept.old count result (L.state link.new) kept.new }
 {
     let mut piece = [0; PIECE];
     let mut missing = count;

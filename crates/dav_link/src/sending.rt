@@ -6,8 +6,7 @@ use jop_outside::Failed;
 
 /// Writes all of these bytes. After `Failed` a prefix of them was written.
 pub fn write_message<L: Link>(link: &mut L, bytes: &[u8]) -> Result<(), Failed>
-    ensures written { let before = sink_of (L.state link.old) in
-        WritesAll before bytes.now result (sink_of (L.state link.new)) }
+    ensures written { WritesAll (sink_of (L.state link.old)) bytes.now result (sink_of (L.state link.new)) }
     ensures alone { WritesAlone (L.state link.old) (L.state link.new) }
 {
     let mut rest = bytes;

@@ -1,4 +1,4 @@
-pub mod Waiting
+pub mod Heard
 pub mod Served
 pub mod Turns
 pub mod Told

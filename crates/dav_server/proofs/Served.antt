@@ -3,9 +3,9 @@ use Rattle.std.proofs.Common.{◌≡◌, ◌≤◌, ◌-◌, ◌+◌, ◌^◌, �
 use Rattle.std.proofs.lemmas.List.{drop-append-le}
 use Rattle.jop_outside.specs.Writing.{Appends}
 use Rattle.jop_target.specs.Trail.{LineNow}
-use Rattle.dav_link.specs.Links.{LinkNow, Takes}
+use Rattle.dav_link.specs.Links.{LinkNow, TakesBytes}
 use Rattle.dav_link.specs.Receiving.{HasBroken}
-use Rattle.dav_link.proofs.LinkLaws.{Takes-nil, Takes-append}
+use Rattle.dav_link.proofs.LinkLaws.{TakesBytes-nil, TakesBytes-append}
 use Rattle.httparse.specs.Grammar.{print_request}
 use Rattle.dav_wire.specs.RequestReading.{RequestReadsAs}
 use Rattle.dav_wire.specs.declared.request.Request.{Request}
@@ -15,12 +15,12 @@ use Rattle.dav_wire.proofs.RequestStream.{whole_stays, bad_stays}
 use Rattle.dav_server.specs.declared.error.ServeErr.{ServeErr}
 use Rattle.dav_server.specs.declared.error.ServeErr.TheVariants.{LinkFault, NoMemory}
 use Rattle.dav_server.specs.declared.turn.Next.{Next}
-use Rattle.dav_server.specs.Serving.{Place, Serves, HasServed, Connection, WasServed, WasBroken, WasStarved, HasTurned, HasAnother, HasNoOther, HasBrokenTurn, HasStarvedTurn, Turns, ServesAll, is_over}
+use Rattle.dav_server.specs.Serving.{ServedNow, Serves, HasServed, Connection, WasServed, WasBroken, WasStarved, HasTurned, HasAnother, HasNoOther, HasBrokenTurn, HasStarvedTurn, TurnsAs, ServesAll, is_over}
 
 -- ---- bytes that come later
 
 -- a place with more bytes behind
-abbrev pub behind : Place → List ℕ → Place
+abbrev pub behind : ServedNow → List ℕ → ServedNow
 behind place more =
     record { bytes = place.bytes ++ more; line = place.line; date = place.date }
 
@@ -31,7 +31,7 @@ used_within bytes request used h =
     ap (λ (l : List ℕ). length l) h.2.reads.1 ∙ length-append (print_request h.0) h.1 in
     omega (arith, long, h.3.2, h.3.4)
 
-serves_more : (read : ReadRequest) (old new : Place) (text more : List ℕ)
+serves_more : (read : ReadRequest) (old new : ServedNow) (text more : List ℕ)
     → Serves read old text new → Serves read (behind old more) text (behind new more)
 serves_more (Whole request used) old new text more h = (
   whole_stays old.bytes more request used h.0,
@@ -40,13 +40,13 @@ serves_more (Whole request used) old new text more h = (
   h.2,
 )
 serves_more (Bad status) old new text more h =
-    (bad_stays old.bytes more status h.0, ap (λ (p : Place). behind p more) h.1, h.2)
+    (bad_stays old.bytes more status h.0, ap (λ (p : ServedNow). behind p more) h.1, h.2)
 serves_more More old new text more h = absurd h
 
-pub served_more : (reads : List ReadRequest) (start end : Place) (text more : List ℕ)
+pub served_more : (reads : List ReadRequest) (start end : ServedNow) (text more : List ℕ)
     → HasServed reads start text end → HasServed reads (behind start more) text (behind end more)
 unfolding HasServed
-served_more [] start end text more h = (ap (λ (p : Place). behind p more) h.0, h.1)
+served_more [] start end text more h = (ap (λ (p : ServedNow). behind p more) h.0, h.1)
 served_more (read ∷ reads) start end text more h = (
   behind h.0 more,
   h.1,
@@ -57,11 +57,11 @@ served_more (read ∷ reads) start end text more h = (
   h.6,
 )
 
-served_none : (start : Place) → HasServed [] start [] start
+served_none : (start : ServedNow) → HasServed [] start [] start
 unfolding HasServed
 served_none start = (refl, refl)
 
-served_next : (read : ReadRequest) (reads : List ReadRequest) (start mid end : Place)
+served_next : (read : ReadRequest) (reads : List ReadRequest) (start mid end : ServedNow)
     (text last : List ℕ) → HasServed reads start text mid → is_over reads ≡ false
     → Serves read mid last end → HasServed (read ∷ reads) start (text ++ last) end
 unfolding HasServed
@@ -70,20 +70,20 @@ served_next read reads start mid end text last served going serves =
 
 -- ---- a connection
 
-connection_more : (old mid new : LinkNow) (line : LineNow) (text : List ℕ) (end : Place)
+connection_more : (old mid new : LinkNow) (line : LineNow) (text : List ℕ) (end : ServedNow)
     (reads : List ReadRequest) (bytes : List ℕ) → Connection old mid line text end reads
-    → Takes mid.left bytes new.left → new.opened ≡ mid.opened
+    → TakesBytes mid.left bytes new.left → new.opened ≡ mid.opened
     → Connection old new line text (behind end bytes) reads
 connection_more old mid new line text end reads bytes c takes opened = record {
   heard = c.heard ++ bytes;
   served = served_more reads (record { bytes = c.heard; line = line; date = 0 }) end text bytes
       c.served;
-  left = Takes-append old.left mid.left new.left c.heard bytes c.left takes;
+  left = TakesBytes-append old.left mid.left new.left c.heard bytes c.left takes;
   opened = opened ∙ c.opened;
 }
 
 -- the place where bytes are kept, a line stands, and a moment was told
-abbrev pub place_of : List ℕ → LineNow → ℕ → Place
+abbrev pub place_of : List ℕ → LineNow → ℕ → ServedNow
 place_of kept line date = record { bytes = kept; line = line; date = date }
 
 connection_turn : (old mid new : LinkNow) (line : LineNow) (text kept : List ℕ) (at : LineNow)
@@ -134,7 +134,7 @@ serving_start link line = record {
   connection = record {
     heard = [];
     served = served_none (place_of [] line 0);
-    left = Takes-nil link.left;
+    left = TakesBytes-nil link.left;
     opened = refl;
   };
   written = Appends-none link.written;
@@ -266,7 +266,7 @@ serving_begun link line kept none =
 turn_error : (old mid new : LinkNow) (line at : LineNow) (kept : List ℕ) (date count : ℕ)
     (after : List ℕ) (end : LineNow) (last : ℕ) (error : ServeErr)
     → IsServing old mid line at kept date count
-    → Turns mid new kept at date (Err error) after end last
+    → TurnsAs mid new kept at date (Err error) after end last
     → ServesAll old line (Err error) new end
 turn_error old mid new line at kept date count after end last LinkFault s h =
     was_broken old mid new line at kept date count end s h
@@ -276,8 +276,8 @@ turn_error old mid new line at kept date count after end last NoMemory s h =
 pub turn_failed : (old mid new : LinkNow) (line at : LineNow) (kept : List ℕ) (date count : ℕ)
     (after : List ℕ) (end : LineNow) (last : ℕ) (r : Result Next ServeErr) (error : ServeErr)
     → IsServing old mid line at kept date count
-    → Turns mid new kept at date r after end last → r ≡ Err error
+    → TurnsAs mid new kept at date r after end last → r ≡ Err error
     → ServesAll old line (Err error) new end
 turn_failed old mid new line at kept date count after end last r error s turns is =
-    let T : Result Next ServeErr → Type 0 = λ x. Turns mid new kept at date x after end last in
+    let T : Result Next ServeErr → Type 0 = λ x. TurnsAs mid new kept at date x after end last in
     turn_error old mid new line at kept date count after end last error s (subst T is turns)

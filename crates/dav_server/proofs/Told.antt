@@ -9,38 +9,38 @@ use Rattle.jop_target.specs.declared.call.Call.TheVariants.{List as ListDir, Get
 use Rattle.jop_target.specs.declared.reply.Reply.{Reply}
 use Rattle.jop_target.proofs.Replies.{listed_or_failed, got_absent_or_failed, done_or_failed, done_absent_or_failed, made_or_failed, got_blob_absent_or_failed, blob_done_or_failed}
 use Rattle.dav_wire.specs.ResponseTexts.{IsResponseTo}
-use Rattle.dav_server.specs.Serving.{HasAnswered, IsUntold, later}
+use Rattle.dav_server.specs.Serving.{HasAnswered, IsUntold, later_date}
 
 max_early : (a b c : ℕ) → a ≤ c → b ≤ c → max a b ≤ c
 max_early a b c h k = omega arith
 
 pub later_early : (call : Call) (reply : Reply) (date : ℕ) → date ≤ last_time
-    → IsReplyTo call reply → later date (moment_of reply) ≤ last_time
+    → IsReplyTo call reply → later_date date (moment_of reply) ≤ last_time
 later_early (ListDir dir) reply date early shape =
-    let P : Reply → Type 0 = λ r. later date (moment_of r) ≤ last_time in
+    let P : Reply → Type 0 = λ r. later_date date (moment_of r) ≤ last_time in
     listed_or_failed P dir early (λ l h. max_early date l.now last_time early h.now) reply shape
 later_early (Get path) reply date early shape =
-    let P : Reply → Type 0 = λ r. later date (moment_of r) ≤ last_time in
+    let P : Reply → Type 0 = λ r. later_date date (moment_of r) ≤ last_time in
     got_absent_or_failed P path early
     (λ now content n fits. max_early date now last_time early n)
     (λ now n. max_early date now last_time early n) (λ len long. early) reply shape
 later_early (Put path content) reply date early shape =
-    let P : Reply → Type 0 = λ r. later date (moment_of r) ≤ last_time in
+    let P : Reply → Type 0 = λ r. later_date date (moment_of r) ≤ last_time in
     done_or_failed P path content early (λ now n. max_early date now last_time early n) reply shape
 later_early (Delete path) reply date early shape =
-    let P : Reply → Type 0 = λ r. later date (moment_of r) ≤ last_time in
+    let P : Reply → Type 0 = λ r. later_date date (moment_of r) ≤ last_time in
     done_absent_or_failed P path early (λ now n. max_early date now last_time early n)
     (λ now n. max_early date now last_time early n) reply shape
 later_early (MakeDir dir) reply date early shape =
-    let P : Reply → Type 0 = λ r. later date (moment_of r) ≤ last_time in
+    let P : Reply → Type 0 = λ r. later_date date (moment_of r) ≤ last_time in
     made_or_failed P dir early (λ now n. max_early date now last_time early n) reply shape
 later_early (GetBlob id) reply date early shape =
-    let P : Reply → Type 0 = λ r. later date (moment_of r) ≤ last_time in
+    let P : Reply → Type 0 = λ r. later_date date (moment_of r) ≤ last_time in
     got_blob_absent_or_failed P id early
     (λ now len n fits. max_early date now last_time early n)
     (λ now n. max_early date now last_time early n) (λ len long. early) reply shape
 later_early (PutBlob id len) reply date early shape =
-    let P : Reply → Type 0 = λ r. later date (moment_of r) ≤ last_time in
+    let P : Reply → Type 0 = λ r. later_date date (moment_of r) ≤ last_time in
     blob_done_or_failed P id len early (λ now n. max_early date now last_time early n) reply shape
 
 -- ---- one call
@@ -48,7 +48,7 @@ later_early (PutBlob id len) reply date early shape =
 pub call_answered : (call asked : Call) (blob : List ℕ) (line after : LineNow) (date last : ℕ)
     (text bytes : List ℕ) (reply told : Reply) → asked ≡ call
     → IsAnswered line call blob after bytes reply → told ≡ reply
-    → IsResponseTo asked told bytes date text → last ≡ later date (moment_of told)
+    → IsResponseTo asked told bytes date text → last ≡ later_date date (moment_of told)
     → HasAnswered call blob line date text after last
 call_answered call asked blob line after date last text bytes reply told same made is text_is at =
     record {
@@ -57,7 +57,7 @@ call_answered call asked blob line after date last text bytes reply told same ma
       made = made;
       told = subst (λ (c : Call). IsResponseTo c reply bytes date text) same
           (subst (λ (r : Reply). IsResponseTo asked r bytes date text) is text_is);
-      moment = subst (λ (r : Reply). last ≡ later date (moment_of r)) is at;
+      moment = subst (λ (r : Reply). last ≡ later_date date (moment_of r)) is at;
     }
 
 pub call_unheard : (call : Call) (blob : List ℕ) (line after : LineNow) (bytes : List ℕ)

@@ -3,7 +3,7 @@ use Rattle.std.proofs.Common.{◌≡◌, ◌⊎◌, ◌∙◌, refl, sym, subst,
 use Rattle.jop_outside.specs.Writing.{Appends, WasWritten, WasCut}
 use Rattle.jop_target.specs.Trail.{LineNow}
 use Rattle.jop_target.specs.declared.call.Call.{Call}
-use Rattle.dav_link.specs.Links.{LinkNow, WritesAlone, Takes, sink_of}
+use Rattle.dav_link.specs.Links.{LinkNow, WritesAlone, TakesBytes, sink_of}
 use Rattle.dav_link.specs.Receiving.{HasKept}
 use Rattle.dav_parts.specs.declared.method.Method.{Method}
 use Rattle.dav_parts.specs.declared.method.Method.TheVariants as methods
@@ -16,8 +16,8 @@ use Rattle.dav_wire.specs.RequestReading.{RequestReadsAs, fields_of}
 use Rattle.dav_wire.specs.declared.request.Request.{Request}
 use Rattle.dav_wire.specs.declared.request_reader.ReadRequest.{ReadRequest}
 use Rattle.dav_wire.specs.declared.request_reader.ReadRequest.TheVariants.{Whole, More, Bad}
-use Rattle.dav_server.specs.Awaiting.{HasHeard}
-use Rattle.dav_server.specs.Serving.{Serves, HasTurned, HasAnother, HasNoOther, HasBrokenTurn, HasStarvedTurn, Answers, IsAnswerable, IsUntold, closes}
+use Rattle.dav_server.specs.Hearing.{HasHeardRequest}
+use Rattle.dav_server.specs.Serving.{Serves, HasTurned, HasAnother, HasNoOther, HasBrokenTurn, HasStarvedTurn, Responds, IsAnswerable, IsUntold, is_final}
 use Rattle.dav_server.proofs.Served.{place_of}
 
 -- ---- which calls may be made
@@ -44,7 +44,7 @@ whole_answerable bytes request used h =
 -- ---- a turn
 
 pub no_other : (old new : LinkNow) (before after : List ℕ) (line : LineNow) (date : ℕ)
-    → HasHeard old before More new after → HasNoOther old new before line date after line date
+    → HasHeardRequest old before More new after → HasNoOther old new before line date after line date
 no_other old new before after line date heard = record {
   bytes = heard.bytes;
   kept = heard.kept;
@@ -64,7 +64,7 @@ turned old mid new before kept bytes line date read text after end last held ser
   bytes = bytes;
   serves = subst (λ (l : List ℕ).
       Serves read (place_of l line date) text (place_of after end last)) held.kept serves;
-  left = subst (λ (w : Option (List ℕ)). Takes old.left bytes w) (sym alone.left) held.read.left;
+  left = subst (λ (w : Option (List ℕ)). TakesBytes old.left bytes w) (sym alone.left) held.read.left;
   opened = alone.opened ∙ held.read.alone.opened;
 }
 
@@ -72,7 +72,7 @@ pub answered : (old mid new : LinkNow) (before kept bytes : List ℕ) (line : Li
     (read : ReadRequest) (text after : List ℕ) (end : LineNow) (last : ℕ) (over : Bool)
     → HasKept old before mid kept bytes
     → Serves read (place_of kept line date) text (place_of after end last)
-    → WasWritten (sink_of mid) text (sink_of new) → WritesAlone mid new → closes read ≡ over
+    → WasWritten (sink_of mid) text (sink_of new) → WritesAlone mid new → is_final read ≡ over
     → HasAnother old new before line date over after end last
 answered old mid new before kept bytes line date read text after end last over held serves whole
     alone is = record {
@@ -158,17 +158,17 @@ bad_serves kept line date status text sent reads response same = (
 
 pub whole_serves : (kept : List ℕ) (line end : LineNow) (date last : ℕ) (request : Request)
     (used : ℕ) (text sent : List ℕ) → RequestReadsAs kept (Whole request used)
-    → Answers request.call request.blob request.refusal line date text end last → sent ≡ text
+    → Responds request.call request.blob request.refusal line date text end last → sent ≡ text
     → Serves (Whole request used) (place_of kept line date) sent
     (place_of (drop used kept) end last)
 whole_serves kept line end date last request used text sent reads answers same = (
   reads,
   refl,
   subst (λ (l : List ℕ).
-      Answers request.call request.blob request.refusal line date l end last) (sym same) answers,
+      Responds request.call request.blob request.refusal line date l end last) (sym same) answers,
 )
 
 pub heard_as : (old new : LinkNow) (before after : List ℕ) (read other : ReadRequest)
-    → HasHeard old before read new after → read ≡ other → HasHeard old before other new after
+    → HasHeardRequest old before read new after → read ≡ other → HasHeardRequest old before other new after
 heard_as old new before after read other heard is =
-    subst (λ (r : ReadRequest). HasHeard old before r new after) is heard
+    subst (λ (r : ReadRequest). HasHeardRequest old before r new after) is heard

@@ -1,3 +1,3 @@
-pub mod Awaiting
+pub mod Hearing
 pub mod Errors
 pub mod Serving

@@ -2,7 +2,7 @@ ghost use Rattle.std.specs.Prelude.{◌≡◌, ◌≤◌, Some};
 ghost use Rattle.jop_base.specs.Times.{last_time};
 ghost use Rattle.jop_target.specs.Replies.{IsCallable};
 ghost use Rattle.jop_target.specs.Trail.{moment_of};
-ghost use Rattle.dav_server.specs.Serving.{AnswersOrNot, IsAnswerable, later};
+ghost use Rattle.dav_server.specs.Serving.{CallsOrNot, IsAnswerable, RespondsOrNot, later_date};
 
 use dav_wire::{Request, write_refusal, write_response};
 use jop_base::{Bytes, Copied};
@@ -10,8 +10,8 @@ use jop_target::{Call, Line, Reply};
 use std::alloc::{AllocError, Global};
 
 /// The greatest moment that was told, after one reply more.
-fn later(date: u64, reply: &Reply) -> u64
-    ensures { result ≡ later date (moment_of reply.now) }
+fn later_date(date: u64, reply: &Reply) -> u64
+    ensures { result ≡ later_date date (moment_of reply.now) }
 {
     match reply.moment() {
         None => date,
@@ -30,8 +30,8 @@ fn make_call<N: Line>(
 ) -> Result<Bytes, AllocError>
     requires callable { IsCallable call blob.old }
     requires date { date.old ≤ last_time }
-    ensures answers { let before = N.state line.old in
-        AnswersOrNot (Some call) blob.old 0 before date.old result (N.state line.new) date.new }
+    ensures answers { CallsOrNot call blob.old (N.state line.old) date.old result
+        (N.state line.new) date.new }
     ensures date { date.new ≤ last_time }
     ensures keeps { N.keeps line.old line.new }
 {
@@ -39,7 +39,7 @@ fn make_call<N: Line>(
     line.call(alloc, call, blob)?;
     let reply = line.last();
     let text = write_response(alloc, &asked, reply, blob, *date)?;
-    *date = later(*date, reply);
+    *date = later_date(*date, reply);
     Ok(text)
 }
 
@@ -52,8 +52,7 @@ pub(crate) fn answer<N: Line>(
 ) -> Result<Bytes, AllocError>
     requires answerable { IsAnswerable request.call request.blob }
     requires date { date.old ≤ last_time }
-    ensures answers { let before = N.state line.old in
-        AnswersOrNot request.call request.blob request.refusal before date.old result
+    ensures answers { RespondsOrNot request (N.state line.old) date.old result
         (N.state line.new) date.new }
     ensures date { date.new ≤ last_time }
     ensures keeps { N.keeps line.old line.new }

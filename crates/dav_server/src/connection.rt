@@ -20,8 +20,8 @@ pub fn serve_connection<L: Link, N: Line>(
     link: &mut L,
     line: &mut N,
 ) -> Result<u64, ServeErr>
-    ensures serves { let before = L.state link.old in
-        ServesAll before (N.state line.old) result (L.state link.new) (N.state line.new) }
+    ensures serves { ServesAll (L.state link.old) (N.state line.old) result
+        (L.state link.new) (N.state line.new) }
     ensures keeps { N.keeps line.old line.new }
 {
     let mut kept = Bytes::new(alloc);

@@ -6,10 +6,10 @@
 #![tactic(auto)]
 
 mod answering;
-mod awaiting;
 mod connection;
 mod error;
 mod loop_link;
+mod next_request;
 mod turn;
 
 pub use connection::serve_connection;

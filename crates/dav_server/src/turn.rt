@@ -3,8 +3,8 @@ ghost use Rattle.jop_base.specs.Times.{last_time};
 ghost use Rattle.dav_server.specs.Serving.{Turns};
 
 use crate::answering::answer;
-use crate::awaiting::hear;
 use crate::error::ServeErr;
+use crate::next_request::hear;
 use dav_link::{Link, write_message};
 use dav_wire::{ReadRequest, write_refusal};
 use jop_base::Bytes;
@@ -46,9 +46,8 @@ pub(crate) fn serve_next<L: Link, N: Line>(
     date: &mut u64,
 ) -> Result<Next, ServeErr>
     requires { date.old ≤ last_time }
-    ensures turns { let before = L.state link.old in
-        Turns before (L.state link.new) kept.old (N.state line.old) date.old result
-        kept.new (N.state line.new) date.new }
+    ensures turns { Turns L.state N.state link.old line.old kept.old date.old result
+        link.new line.new kept.new date.new }
     ensures date { date.new ≤ last_time }
     ensures keeps { N.keeps line.old line.new }
 {

@@ -1,8 +1,9 @@
 //! Which items of a target a client has to read again: those written since it listed them last, and those that are
 //! gone.
 //!
-//! Begin with [`delta_of`]. The laws [`misses_nothing`] and [`fetches_once`] say what it comes to over two listings, and
-//! [`absence_alone_deletes_nothing`] what becomes of files that are absent where deletions are recorded.
+//! Begin with [`delta_of`]. The laws [`misses_nothing`] and [`fetches_once`] say what it comes to over two
+//! listings, and [`absence_alone_deletes_nothing`] what becomes of files that are absent where deletions are
+//! recorded.
 #![tactic(auto)]
 
 mod emptied;

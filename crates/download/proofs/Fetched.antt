@@ -2,19 +2,19 @@
 use Rattle.std.specs.Prelude.{ℕ, ◌≡◌, List, Bool, true, false, Result}
 use Rattle.std.proofs.Common.{ap, subst, sym}
 use Rattle.conflicts.specs.declared.error.StepErr.{StepErr}
-use Rattle.desk.specs.Desks.{DeskNow}
+use Rattle.client.specs.Sites.{SiteNow}
 use Rattle.download.specs.Taking.{GetsBytes, is_taking}
-use Rattle.licences.specs.Checks.{last_on}
-use Rattle.licences.specs.Deeds.{Deed}
-use Rattle.licences.specs.Trails.{session_calls}
-use Rattle.licences.specs.Views.{view_from}
-use Rattle.session_steps.proofs.Behind.{behind, last_fetched, tables_fetched}
-use Rattle.session_steps.proofs.Ending.{does_nothing}
-use Rattle.session_steps.proofs.Recast.{ShowsNone, fetches_none}
-use Rattle.session_steps.specs.Doing.{Does, Ends}
-use Rattle.session_steps.specs.Parts.{Nothing}
-use Rattle.session_steps.specs.Sessions.{Fetches}
-use Rattle.session_steps.specs.Work.{IsAtWork, WorkNow}
+use Rattle.law_licences.specs.Checks.{last_on}
+use Rattle.law_licences.specs.Deeds.{Deed}
+use Rattle.law_licences.specs.Trails.{session_calls}
+use Rattle.law_licences.specs.Views.{view_from}
+use Rattle.session.proofs.Behind.{behind, last_fetched, tables_fetched}
+use Rattle.session.proofs.Ending.{does_nothing}
+use Rattle.session.proofs.Recast.{ShowsNone, fetches_none}
+use Rattle.session.specs.Doing.{Does, Ends}
+use Rattle.session.specs.Parts.{Nothing}
+use Rattle.session.specs.Sessions.{Fetches}
+use Rattle.session.specs.Work.{IsAtWork, WorkNow}
 
 -- ---- told
 
@@ -33,12 +33,12 @@ gets_none id is a same ready =
 -- ---- what stands behind it
 
 -- tables are as they were, and so is the last call on an item's file
-pub record Keeps (id : List ℕ) (a b : DeskNow) : Type 0 where
+pub record Keeps (id : List ℕ) (a b : SiteNow) : Type 0 where
   pub tables : b.tables ≡ a.tables
   pub last : last_on id (session_calls b.line.trail) ≡ last_on id (session_calls a.line.trail)
 
 pub got_keeps : (id : List ℕ) (is : Bool) (a b : WorkNow)
-    → Does (GetsBytes id is) is_taking a b → Keeps id a.desk b.desk
+    → Does (GetsBytes id is) is_taking a b → Keeps id a.site b.site
 unfolding view_from
 got_keeps id true a b h = record {
   tables = tables_fetched id is_taking a b h;

@@ -4,15 +4,15 @@ use Rattle.std.proofs.Common.{sym, ap, subst, ◌∙◌, inl}
 use Rattle.std.proofs.lemmas.Bool.{and_parts}
 use Rattle.conflicts.specs.Rules.{folder_gone_changes}
 use Rattle.conflicts.specs.declared.error.StepErr.{StepErr}
-use Rattle.desk.specs.Desks.{DeskNow}
+use Rattle.client.specs.Sites.{SiteNow}
 use Rattle.download.specs.Downloading.{Closes, ClosesIf, Goes, GoesIf, LeavesOne, is_leaf, is_place}
 use Rattle.download.specs.Reading.{Lacks}
 use Rattle.jop_base.specs.Keyed.{IsSorted}
 use Rattle.jop_target.specs.declared.call.Call.{Call}
-use Rattle.licences.specs.Checks.{is_pending}
-use Rattle.licences.specs.Deeds.{Deed}
-use Rattle.licences.specs.Items.{is_folder, is_note_in}
-use Rattle.licences.specs.Views.{Shown, View}
+use Rattle.law_licences.specs.Checks.{is_pending}
+use Rattle.law_licences.specs.Deeds.{Deed}
+use Rattle.law_licences.specs.Items.{is_folder, is_note_in}
+use Rattle.law_licences.specs.Views.{Shown, View}
 use Rattle.local_store.specs.Changing.{after_all}
 use Rattle.local_store.specs.Rows.{item_of, row_id}
 use Rattle.local_store.specs.Sound.{IsAllowed}
@@ -21,12 +21,12 @@ use Rattle.local_store.specs.declared.change.Change.{Change}
 use Rattle.local_store.specs.declared.change.Change.TheVariants.{Gone}
 use Rattle.local_store.specs.declared.row.Row.{Row}
 use Rattle.local_store.specs.declared.tables.Tables.{Tables}
-use Rattle.session_steps.proofs.Ending.{does_as, does_nothing, ends_as}
-use Rattle.session_steps.proofs.Folders.{IsGoing, goes_on, moves_allowed, moves_may}
-use Rattle.session_steps.specs.Doing.{Does, Ends}
-use Rattle.session_steps.specs.Making.{MayMakeAll, MayMakeAllBy, MayMakeBy}
-use Rattle.session_steps.specs.Parts.{Changes, ForEach, Nothing, Then}
-use Rattle.session_steps.specs.Work.{IsReady, WorkNow, view_of}
+use Rattle.session.proofs.Ending.{does_as, does_nothing, ends_as}
+use Rattle.session.proofs.Folders.{IsGoing, goes_on, moves_allowed, moves_may}
+use Rattle.session.specs.Doing.{Does, Ends}
+use Rattle.session.specs.Making.{MayMakeAll, MayMakeAllBy, MayMakeBy}
+use Rattle.session.specs.Parts.{Changes, ForEach, Nothing, Then}
+use Rattle.session.specs.Work.{IsReady, WorkNow, view_of}
 
 -- ---- licences
 
@@ -38,7 +38,7 @@ leaf_by : (row : Option Row) → is_leaf row ≡ true → is_pending row ≡ fal
 leaf_by None h = refl
 leaf_by (Some row) h = not_true row.pending (not (is_folder (item_of row.content))) h
 
-pub may_go : (known : Shown) (id : List ℕ) (d : DeskNow) → Lacks known id
+pub may_go : (known : Shown) (id : List ℕ) (d : SiteNow) → Lacks known id
     → is_pending (row_at d.tables id) ≡ false → MayMakeBy (Some known) d (Gone id)
 may_go known id d lacks unchanged shown fits = record {
   page = lacks.page;
@@ -47,7 +47,7 @@ may_go known id d lacks unchanged shown fits = record {
   unchanged = unchanged;
 }
 
-pub leaf_may_go : (known : Shown) (id : List ℕ) (d : DeskNow) → Lacks known id
+pub leaf_may_go : (known : Shown) (id : List ℕ) (d : SiteNow) → Lacks known id
     → is_leaf (row_at d.tables id) ≡ true → MayMakeBy (Some known) d (Gone id)
 leaf_may_go known id d lacks leaf = may_go known id d lacks (leaf_by (row_at d.tables id) leaf)
 
@@ -71,7 +71,7 @@ place_by t id (Some row) at h = record {
 pub place : (t : Tables) (id : List ℕ) → is_place (row_at t id) ≡ true → IsPlace t id
 place t id h = place_by t id (row_at t id) refl h
 
-pub going : (known : Shown) (id : List ℕ) (d : DeskNow) (shown : Option Shown) → Lacks known id
+pub going : (known : Shown) (id : List ℕ) (d : SiteNow) (shown : Option Shown) → Lacks known id
     → (p : IsPlace d.tables id) → IsSorted row_id d.tables.rows → shown ≡ Some known
     → IsGoing (view_of shown d) id p.row
 going known id d shown lacks p ordered fits = record {
@@ -82,7 +82,7 @@ going known id d shown lacks p ordered fits = record {
 }
 
 -- the notes in the folder may be moved
-pub all_may : (known : Shown) (id : List ℕ) (d : DeskNow) (changes : List Change)
+pub all_may : (known : Shown) (id : List ℕ) (d : SiteNow) (changes : List Change)
     → Lacks known id → IsPlace d.tables id → IsSorted row_id d.tables.rows
     → changes ≡ folder_gone_changes d.tables id
     → MayMakeAllBy (Some known) d changes
@@ -91,14 +91,14 @@ all_may known id d changes lacks p ordered are shown fits =
     (moves_may (filter (is_note_in id) d.tables.rows) (view_of shown d) id p.row
     (going known id d shown lacks p ordered fits) refl)
 
-pub all_allowed : (id : List ℕ) (d : DeskNow) (changes : List Change)
+pub all_allowed : (id : List ℕ) (d : SiteNow) (changes : List Change)
     → changes ≡ folder_gone_changes d.tables id → All IsAllowed changes
 all_allowed id d changes are =
     subst (λ (cs : List Change). All IsAllowed cs) (sym are)
     (moves_allowed (filter (is_note_in id) d.tables.rows))
 
 -- and then the folder may go
-pub closed_may_go : (known : Shown) (id : List ℕ) (old new : DeskNow) (changes : List Change)
+pub closed_may_go : (known : Shown) (id : List ℕ) (old new : SiteNow) (changes : List Change)
     → Lacks known id → IsPlace old.tables id → IsSorted row_id old.tables.rows
     → changes ≡ folder_gone_changes old.tables id
     → new.tables ≡ after_all old.tables changes
@@ -116,10 +116,10 @@ closed_may_go known id old new changes lacks p ordered are tables =
 -- ---- told
 
 pub stays_put : (id : List ℕ) (sort : Call → Bool) (a : WorkNow)
-    → is_leaf (row_at a.desk.tables id) ≡ false → IsReady a.desk a.lease → Does (Goes id) sort a a
+    → is_leaf (row_at a.site.tables id) ≡ false → IsReady a.site a.lease → Does (Goes id) sort a a
 stays_put id sort a leaf ready =
     does_as Nothing (Goes id) sort a a
-    (λ shown ds h. none (is_leaf (row_at a.desk.tables id)) (view_of shown a.desk) ds leaf h)
+    (λ shown ds h. none (is_leaf (row_at a.site.tables id)) (view_of shown a.site) ds leaf h)
     (does_nothing sort a ready) where
       none : (leaf : Bool) (v : View) (ds : List Deed) → leaf ≡ false → Nothing v ds
           → GoesIf id leaf v ds
@@ -127,11 +127,11 @@ stays_put id sort a leaf ready =
       none false v ds e h = h
 
 pub goes_away : {R : Type 0} (id : List ℕ) (sort : Call → Bool) (a b : WorkNow)
-    (result : Result R StepErr) → is_leaf (row_at a.desk.tables id) ≡ true
+    (result : Result R StepErr) → is_leaf (row_at a.site.tables id) ≡ true
     → Ends (Changes (Gone id)) sort a result b → Ends (Goes id) sort a result b
 goes_away id sort a b result leaf h =
     ends_as (Changes (Gone id)) (Goes id) sort a b result
-    (λ shown ds part. some (is_leaf (row_at a.desk.tables id)) (view_of shown a.desk) ds leaf part)
+    (λ shown ds part. some (is_leaf (row_at a.site.tables id)) (view_of shown a.site) ds leaf part)
     h where
       some : (leaf : Bool) (v : View) (ds : List Deed) → leaf ≡ true → Changes (Gone id) v ds
           → GoesIf id leaf v ds
@@ -139,11 +139,11 @@ goes_away id sort a b result leaf h =
       some false v ds e h = absurd cc
 
 pub stays_open : (id : List ℕ) (sort : Call → Bool) (a : WorkNow)
-    → is_place (row_at a.desk.tables id) ≡ false → IsReady a.desk a.lease
+    → is_place (row_at a.site.tables id) ≡ false → IsReady a.site a.lease
     → Does (Closes id) sort a a
 stays_open id sort a place ready =
     does_as Nothing (Closes id) sort a a
-    (λ shown ds h. none (is_place (row_at a.desk.tables id)) (view_of shown a.desk) ds place h)
+    (λ shown ds h. none (is_place (row_at a.site.tables id)) (view_of shown a.site) ds place h)
     (does_nothing sort a ready) where
       none : (place : Bool) (v : View) (ds : List Deed) → place ≡ false → Nothing v ds
           → ClosesIf id place v ds
@@ -151,11 +151,11 @@ stays_open id sort a place ready =
       none false v ds e h = h
 
 pub closes_up : {R : Type 0} (id : List ℕ) (sort : Call → Bool) (a b : WorkNow)
-    (result : Result R StepErr) → is_place (row_at a.desk.tables id) ≡ true
+    (result : Result R StepErr) → is_place (row_at a.site.tables id) ≡ true
     → Ends (ClosesIf id true) sort a result b → Ends (Closes id) sort a result b
 closes_up id sort a b result place h =
     ends_as (ClosesIf id true) (Closes id) sort a b result
-    (λ shown ds part. some (is_place (row_at a.desk.tables id)) (view_of shown a.desk) ds place part)
+    (λ shown ds part. some (is_place (row_at a.site.tables id)) (view_of shown a.site) ds place part)
     h where
       some : (place : Bool) (v : View) (ds : List Deed) → place ≡ true → ClosesIf id true v ds
           → ClosesIf id place v ds
@@ -165,13 +165,13 @@ closes_up id sort a b result place h =
 -- the notes are moved, and then the folder goes
 pub closes_then : {R : Type 0} (id : List ℕ) (sort : Call → Bool) (changes : List Change)
     (a b : WorkNow) (result : Result R StepErr)
-    → changes ≡ folder_gone_changes a.desk.tables id
+    → changes ≡ folder_gone_changes a.site.tables id
     → Ends (Then (ForEach Changes changes) (Changes (Gone id))) sort a result b
     → Ends (ClosesIf id true) sort a result b
 closes_then id sort changes a b result are h =
     ends_as (Then (ForEach Changes changes) (Changes (Gone id))) (ClosesIf id true) sort a b result
     (λ shown ds. subst (λ (cs : List Change).
-    Then (ForEach Changes cs) (Changes (Gone id)) (view_of shown a.desk) ds) are)
+    Then (ForEach Changes cs) (Changes (Gone id)) (view_of shown a.site) ds) are)
     h
 
 -- what a turn is for

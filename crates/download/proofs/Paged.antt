@@ -6,10 +6,10 @@ use Rattle.std.proofs.lemmas.List.Elements.{All-contains_itself, All-from_get_or
 use Rattle.conflicts.specs.declared.error.StepErr.{StepErr}
 use Rattle.conflicts.specs.declared.error.StepErr.TheVariants.{Lost, TargetFault, KeeperFault, FailSafe, NoMemory}
 use Rattle.delta.specs.declared.page.Page.{Page}
-use Rattle.desk.specs.Desks.{DeskNow}
-use Rattle.download.specs.Asked.{AsksFor}
-use Rattle.download.specs.Downloading.{Applies, Downloads, Leaves, is_download, is_listing}
-use Rattle.download.specs.Reading.{EndsDownload, HasListed, Lacks, Lists, PageIn, PageOf, Refuses}
+use Rattle.client.specs.Sites.{SiteNow}
+use Rattle.download.specs.Asked.{AsksFor, AsksForAll, EndsShown}
+use Rattle.download.specs.Downloading.{Applies, Downloads, LeavesGone, is_download, is_listing}
+use Rattle.download.specs.Reading.{EndsDownload, HasListed, Lacks, Lists, PageIn, PageOf, RefusesDownload, EndsIfAllGone}
 use Rattle.download.specs.Taking.{TakesOne, is_taking}
 use Rattle.jop_base.specs.declared.dir.Dir.TheVariants.{Root}
 use Rattle.jop_target.specs.Replies.{IsReplyTo}
@@ -19,19 +19,19 @@ use Rattle.jop_target.specs.declared.reply.Listing.{Listing}
 use Rattle.jop_target.specs.declared.reply.Reply.{Reply}
 use Rattle.jop_target.specs.declared.reply.Reply.TheVariants.{Listed, Got, GotBlob, Absent, Done, Failed, TooLarge}
 use Rattle.lease.specs.Standing.{IsSameBut}
-use Rattle.licences.specs.Pages.{IsPage}
-use Rattle.licences.specs.Views.{Finished, Shown, shown_to}
+use Rattle.law_licences.specs.Pages.{IsPage}
+use Rattle.law_licences.specs.Views.{Finished, Shown, shown_to}
 use Rattle.local_store.specs.declared.change.Change.TheVariants.{ContextIs}
 use Rattle.local_store.specs.declared.tables.Tables.{Tables}
-use Rattle.session_steps.proofs.Ending.{does_as, does_starves, gives_up_behind}
-use Rattle.session_steps.proofs.Joins.{does_then}
-use Rattle.session_steps.proofs.Recast.{does_forgetting, does_listing, ends_at_placed, ends_placed, gives_up_forgetting, gives_up_placed}
-use Rattle.session_steps.proofs.Wider.{IsWithin, does_within}
-use Rattle.session_steps.specs.Doing.{Does, EndsAt, GivesUp, Went}
-use Rattle.session_steps.specs.Making.{MayMakeBy}
-use Rattle.session_steps.specs.Parts.{ForEach, Hears, Then}
-use Rattle.session_steps.specs.Sessions.{HasHeard}
-use Rattle.session_steps.specs.Work.{IsAtWork, WorkNow, knowing, nowhere, placed}
+use Rattle.session.proofs.Ending.{does_as, does_starves, gives_up_behind}
+use Rattle.session.proofs.Joins.{does_then}
+use Rattle.session.proofs.Recast.{does_forgetting, does_listing, ends_at_placed, ends_placed, gives_up_forgetting, gives_up_placed}
+use Rattle.session.proofs.Wider.{IsWithin, does_within}
+use Rattle.session.specs.Doing.{Does, EndsAt, GivesNothing, Went}
+use Rattle.session.specs.Making.{MayMakeBy}
+use Rattle.session.specs.Parts.{ForEach, Hears, Then}
+use Rattle.session.specs.Sessions.{HasHeard}
+use Rattle.session.specs.Work.{IsAtWork, WorkNow, knowing, nowhere, placed}
 
 -- ---- the page's own
 
@@ -52,7 +52,7 @@ all_lack known page ids is same =
     (All-from_get_or (Lacks known) page.gone []
     (λ i within. record { page = page; is = is; gone = own page.gone i within }))
 
-pub may_finish : (known : Shown) (page : Page) (d : DeskNow) → IsPage known page
+pub may_finish : (known : Shown) (page : Page) (d : SiteNow) → IsPage known page
     → MayMakeBy (Some known) d (ContextIs page.next)
 may_finish known page d is shown fits = record {
   page = page;
@@ -63,9 +63,9 @@ may_finish known page d is shown fits = record {
 -- ---- told
 
 pub leaves_as : (ids gone : List (List ℕ)) (sort : Call → Bool) (a b : WorkNow) → ids ≡ gone
-    → Does (Leaves ids) sort a b → Does (Leaves gone) sort a b
+    → Does (LeavesGone ids) sort a b → Does (LeavesGone gone) sort a b
 leaves_as ids gone sort a b same h =
-    subst (λ (xs : List (List ℕ)). Does (Leaves xs) sort a b) same h
+    subst (λ (xs : List (List ℕ)). Does (LeavesGone xs) sort a b) same h
 
 pub taking_within : IsWithin is_taking is_download
 taking_within call is = or_right (is_listing call) (is_taking call) is
@@ -75,6 +75,21 @@ pub takes_as : (ids taken : List (List ℕ)) (a b : WorkNow) → ids ≡ taken
 takes_as ids taken a b same h =
     does_within is_taking is_download a b taking_within
     (subst (λ (xs : List (List ℕ)). Does (ForEach TakesOne xs) is_taking a b) same h)
+
+-- what a page asks for is taken, and what is gone by it
+pub page_taken : (known : Shown) (page : Page) (ids : List (List ℕ)) (a b : WorkNow)
+    → IsPage known page → ids ≡ page.taken
+    → EndsShown (AsksForAll ids) is_taking (ForEach TakesOne ids) a (Ok tt) b
+    → Does (ForEach TakesOne page.taken) is_download (knowing (Some known) a)
+    (knowing (Some known) b)
+page_taken known page ids a b is same h =
+    takes_as ids page.taken _ _ same (h known (all_asked known page ids is same))
+
+pub page_left : (known : Shown) (page : Page) (ids : List (List ℕ)) (a b : WorkNow)
+    → IsPage known page → ids ≡ page.gone → EndsIfAllGone ids (LeavesGone ids) a (Ok tt) b
+    → Does (LeavesGone page.gone) is_download (knowing (Some known) a) (knowing (Some known) b)
+page_left known page ids a b is same h =
+    leaves_as ids page.gone is_download _ _ same (h known (all_lack known page ids is same))
 
 -- ---- the listing
 
@@ -95,8 +110,8 @@ page_at t own reply heard result same is h =
     subst (λ (x : Reply). PageOf own x result) is
     (subst (λ (x : Tables). PageOf x reply result) same h)
 
-pub refuses : (old new : WorkNow) (e : StepErr) → GivesUp is_download old e new
-    → Refuses old e new
+pub refuses : (old new : WorkNow) (e : StepErr) → GivesNothing is_download old e new
+    → RefusesDownload old e new
 refuses old new (Lost seen) h = h
 refuses old new TargetFault h = h
 refuses old new KeeperFault h = h
@@ -104,14 +119,14 @@ refuses old new (FailSafe count) h = absurd h
 refuses old new NoMemory h = h
 
 pub lists : (a b : WorkNow) (result : Result Page StepErr)
-    → (h : HasHeard (ListDir Root) is_download a b) → PageOf a.desk.tables h.reply result
+    → (h : HasHeard (ListDir Root) is_download a b) → PageOf a.site.tables h.reply result
     → Lists a result b
 lists a b result h page =
     let l = listed_by h.reply h.answer.0 h.answer.1 in
     by result l.0
-    (subst (λ (reply : Reply). PageOf a.desk.tables reply result) l.1 page)
+    (subst (λ (reply : Reply). PageOf a.site.tables reply result) l.1 page)
     (subst (λ (reply : Reply). Does (Hears (ListDir Root) reply) is_download a b) l.1 h.does) where
-      by : (result : Result Page StepErr) (listing : Listing) → PageIn a.desk.tables listing result
+      by : (result : Result Page StepErr) (listing : Listing) → PageIn a.site.tables listing result
           → Does (Hears (ListDir Root) (Listed listing)) is_download a b
           → Lists a result b
       by (Ok page) listing is h = record {
@@ -133,11 +148,11 @@ lists a b result h page =
 pub downloads : {R : Type 0} (a b c : WorkNow) (page : Page) (result : Result R StepErr)
     → (h : HasListed a page b) → c.known ≡ None
     → EndsAt Finished (Applies page) is_download
-    (knowing (Some (shown_to a.desk.tables h.listing)) b) result
-    (knowing (Some (shown_to a.desk.tables h.listing)) c)
+    (knowing (Some (shown_to a.site.tables h.listing)) b) result
+    (knowing (Some (shown_to a.site.tables h.listing)) c)
     → EndsDownload a result c
 downloads a b c page (Ok value) h none k =
-    let known = Some (shown_to a.desk.tables h.listing) in
+    let known = Some (shown_to a.site.tables h.listing) in
     let all = Then (Hears (ListDir Root) (Listed h.listing)) (Applies page) in
     does_as all Downloads is_download a c
     (λ shown ds part.
@@ -146,7 +161,7 @@ downloads a b c page (Ok value) h none k =
     (does_then (Hears (ListDir Root) (Listed h.listing)) (Applies page) is_download a
     (knowing known b) (knowing known c) h.does k))
 downloads a b c page (Err e) h none k =
-    let known = Some (shown_to a.desk.tables h.listing) in
+    let known = Some (shown_to a.site.tables h.listing) in
     refuses a c e
     (gives_up_forgetting is_download known a c e
     (gives_up_behind (Hears (ListDir Root) (Listed h.listing)) is_download a (knowing known b)
@@ -154,7 +169,7 @@ downloads a b c page (Err e) h none k =
 
 -- ---- what stands behind it
 
-went_refused : (a b : WorkNow) (e : StepErr) → Refuses a e b → Went is_download a b
+went_refused : (a b : WorkNow) (e : StepErr) → RefusesDownload a e b → Went is_download a b
 went_refused a b (Lost seen) h = h.0.went
 went_refused a b TargetFault h = h.0.went
 went_refused a b KeeperFault h = h.stops.went
@@ -180,8 +195,8 @@ pub place_download : {R : Type 0} (a b : WorkNow) (result : Result R StepErr)
 place_download a b result h = (went_download a b result h).place
 
 -- whatever the references are
-refused_nowhere : (a b : WorkNow) (e : StepErr) → Refuses a e b
-    → Refuses (placed nowhere a) e (placed nowhere b)
+refused_nowhere : (a b : WorkNow) (e : StepErr) → RefusesDownload a e b
+    → RefusesDownload (placed nowhere a) e (placed nowhere b)
 refused_nowhere a b (Lost seen) h =
     gives_up_placed is_download nowhere nowhere a b (Lost seen) refl h
 refused_nowhere a b TargetFault h =

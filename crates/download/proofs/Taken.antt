@@ -3,39 +3,38 @@ use Rattle.std.specs.Prelude.{ℕ, ◌≡◌, List, Bool, true, false, if◌then
 use Rattle.std.proofs.Common.{sym, ap, subst, ◌∙◌}
 use Rattle.conflicts.specs.Rules.{conflict_change}
 use Rattle.conflicts.specs.declared.error.StepErr.{StepErr}
-use Rattle.desk.specs.Desks.{DeskNow}
+use Rattle.client.specs.Sites.{SiteNow}
 use Rattle.download.proofs.Fetched.{Keeps}
 use Rattle.download.specs.Asked.{AsksFor}
-use Rattle.download.specs.Taking.{Meets, MeetsUnlessKey, Reads, TakesOne, is_taking}
-use Rattle.jop_base.proofs.KeyedLaws.{key-at}
-use Rattle.licences.specs.Checks.{IsOther, is_pending}
-use Rattle.licences.specs.Conflicts.{MayConflict}
-use Rattle.licences.specs.Copies.{copies_for}
-use Rattle.licences.specs.Deeds.{Deed}
-use Rattle.licences.specs.Views.{Shown, View, Working, stage_after, view_from}
-use Rattle.local_store.specs.Rows.{row_id}
+use Rattle.download.specs.Taking.{Meets, MeetsUnlessKey, MeetsFound, TakesOne, is_taking}
+use Rattle.law_licences.specs.Checks.{IsOther, is_pending}
+use Rattle.law_licences.specs.Conflicts.{MayConflict}
+use Rattle.law_licences.specs.Copies.{copies_for}
+use Rattle.law_licences.specs.Deeds.{Deed}
+use Rattle.law_licences.specs.Views.{Shown, View, Working, stage_after, view_from}
 use Rattle.local_store.specs.Tables.{base_of, row_at}
 use Rattle.local_store.specs.declared.change.Change.{Change}
 use Rattle.local_store.specs.declared.change.Change.TheVariants.{Taken}
 use Rattle.local_store.specs.declared.content.Content.{Content}
 use Rattle.local_store.specs.declared.row.Row.{Row}
 use Rattle.local_store.specs.declared.tables.Tables.{Tables}
-use Rattle.session_steps.proofs.Behind.{ends_working}
-use Rattle.session_steps.proofs.Ending.{does_as, does_nothing, ends_as, ends_then}
-use Rattle.session_steps.proofs.Found.{other_found}
-use Rattle.session_steps.specs.Doing.{Does, Ends, EndsAt}
-use Rattle.session_steps.specs.Findings.{finding_of, waiting}
-use Rattle.session_steps.specs.Making.{MayMakeBy}
-use Rattle.session_steps.specs.Parts.{Changes, Nothing, Then}
-use Rattle.session_steps.specs.Sessions.{Finds, IsFound}
-use Rattle.session_steps.specs.Work.{IsAtWork, WorkNow, view_of}
-use Rattle.session_steps.specs.declared.finding.Finding.{Finding}
-use Rattle.session_steps.specs.declared.finding.Finding.TheVariants.{Other}
+use Rattle.session.proofs.WaitingRow.{Waits}
+use Rattle.session.proofs.Behind.{ends_working}
+use Rattle.session.proofs.Ending.{does_as, does_nothing, ends_as, ends_then}
+use Rattle.session.proofs.Found.{other_found}
+use Rattle.session.specs.Doing.{Does, Ends, EndsAt}
+use Rattle.session.specs.Findings.{finding_of, waiting}
+use Rattle.session.specs.Making.{MayMakeBy}
+use Rattle.session.specs.Parts.{Changes, Nothing, Then}
+use Rattle.session.specs.Sessions.{FindsFile, IsFound}
+use Rattle.session.specs.Work.{IsAtWork, WorkNow, view_of}
+use Rattle.session.specs.declared.finding.Finding.{Finding}
+use Rattle.session.specs.declared.finding.Finding.TheVariants.{Other}
 
 -- ---- licences
 
 -- what was found is still so behind calls on other files
-pub still_found : (id : List ℕ) (finding : Finding) (a b : DeskNow) → Keeps id a b
+pub still_found : (id : List ℕ) (finding : Finding) (a b : SiteNow) → Keeps id a b
     → IsFound id finding a → IsFound id finding b
 still_found id finding a b keeps h = record {
   reply = h.reply;
@@ -46,7 +45,7 @@ still_found id finding a b keeps h = record {
 }
 
 -- another file that the page asks for may be taken
-pub may_take : (id : List ℕ) (remote : List ℕ × Content) (d : DeskNow) (known : Shown)
+pub may_take : (id : List ℕ) (remote : List ℕ × Content) (d : SiteNow) (known : Shown)
     → AsksFor known id → IsFound id (Other remote) d → is_pending (row_at d.tables id) ≡ false
     → MayMakeBy (Some known) d (Taken id remote.0 remote.1)
 may_take id remote d known asks h unchanged shown fits = record {
@@ -58,33 +57,6 @@ may_take id remote d known asks h unchanged shown fits = record {
   check = h.last;
   other = other_found id (base_of (row_at d.tables id)) h.reply remote h.found;
 }
-
--- this row waits
-pub record Waits (t : Tables) (id : List ℕ) (row : Row) : Type 0 where
-  pub same : row.id ≡ id
-  pub at : row_at t id ≡ Some row
-  pub pending : row.pending ≡ true
-
-waits_if : (t : Tables) (id : List ℕ) (stood row : Row) (pending : Bool)
-    → row_at t id ≡ Some stood → stood.pending ≡ pending
-    → Some row ≡ (if pending then Some stood else None) → Waits t id row
-waits_if t id stood row true at e is =
-    let it : stood ≡ row = cc in
-    subst (λ (r : Row). Waits t id r) it (record {
-      same = key-at row_id t.rows id stood at;
-      at = at;
-      pending = e;
-    })
-waits_if t id stood row false at e is = absurd cc
-
-waits_by : (t : Tables) (id : List ℕ) (stood : Option Row) (row : Row) → row_at t id ≡ stood
-    → Some row ≡ waiting stood → Waits t id row
-waits_by t id None row at is = absurd cc
-waits_by t id (Some stood) row at is = waits_if t id stood row stood.pending at refl is
-
-pub waits : (t : Tables) (id : List ℕ) (row : Row) → Some row ≡ waiting (row_at t id)
-    → Waits t id row
-waits t id row is = waits_by t id (row_at t id) row refl is
 
 unchanged_if : (row : Row) (pending : Bool) → row.pending ≡ pending
     → None ≡ (if pending then Some row else None) → pending ≡ false
@@ -100,7 +72,7 @@ pub unchanged : (t : Tables) (id : List ℕ) → None ≡ waiting (row_at t id)
 unchanged t id is = unchanged_by (row_at t id) is
 
 -- a row that waits may give way to it
-pub may_conflict : (id : List ℕ) (remote : List ℕ × Content) (d : DeskNow) (known : Option Shown)
+pub may_conflict : (id : List ℕ) (remote : List ℕ × Content) (d : SiteNow) (known : Option Shown)
     (row : Row) → Waits d.tables id row → IsFound id (Other remote) d
     → MayMakeBy known d (conflict_change row (Some remote))
 may_conflict id remote d known row w h shown fits =
@@ -139,15 +111,15 @@ conflicts_as id remote row own change a b result same is h =
 
 -- what is done, told by what the file is
 pub reads_as : {R : Type 0} (id : List ℕ) (finding f : Finding) (a b : WorkNow)
-    (result : Result R StepErr) → finding ≡ f → Ends (Reads id f) is_taking a result b
-    → Ends (Reads id finding) is_taking a result b
+    (result : Result R StepErr) → finding ≡ f → Ends (MeetsFound id f) is_taking a result b
+    → Ends (MeetsFound id finding) is_taking a result b
 reads_as id finding f a b result is h =
-    subst (λ (x : Finding). Ends (Reads id x) is_taking a result b) (sym is) h
+    subst (λ (x : Finding). Ends (MeetsFound id x) is_taking a result b) (sym is) h
 
 pub reads_nothing : (id : List ℕ) (finding f : Finding) (a : WorkNow) → finding ≡ f
-    → Does (Reads id f) is_taking a a → Does (Reads id finding) is_taking a a
+    → Does (MeetsFound id f) is_taking a a → Does (MeetsFound id finding) is_taking a a
 reads_nothing id finding f a is h =
-    subst (λ (x : Finding). Does (Reads id x) is_taking a a) (sym is) h
+    subst (λ (x : Finding). Does (MeetsFound id x) is_taking a a) (sym is) h
 
 -- a key is passed over
 pub key_passed : (id : List ℕ) (remote : List ℕ × Content) (key : Bool) (a : WorkNow)
@@ -160,15 +132,15 @@ key_passed id remote false a e ready = absurd cc
 -- and else the item is met
 pub item_met : {R : Type 0} (id : List ℕ) (remote : List ℕ × Content) (key : Bool)
     (a b : WorkNow) (result : Result R StepErr) → key ≡ false
-    → Ends (Meets id remote (waiting (row_at a.desk.tables id))) is_taking a result b
+    → Ends (Meets id remote (waiting (row_at a.site.tables id))) is_taking a result b
     → Ends (MeetsUnlessKey id remote key) is_taking a result b
 item_met id remote true a b result e h = absurd cc
 item_met id remote false a b result e h =
-    ends_as (Meets id remote (waiting (row_at a.desk.tables id))) (MeetsUnlessKey id remote false)
+    ends_as (Meets id remote (waiting (row_at a.site.tables id))) (MeetsUnlessKey id remote false)
     is_taking a b result (λ shown ds part. part) h
 
 one_told : (id : List ℕ) (finding : Finding) (v : View) (ds : List Deed)
-    → Then (Finds id finding) (Reads id finding) v ds → TakesOne id v ds
+    → Then (FindsFile id finding) (MeetsFound id finding) v ds → TakesOne id v ds
 one_told id finding v ds h =
     let f = h.before in (
       f.0,
@@ -179,16 +151,16 @@ one_told id finding v ds h =
           second = h.second;
           both = h.both;
           before = f.4;
-          behind = subst (λ (x : Finding). Reads id x (view_from v h.first) h.second) f.2 h.behind;
+          behind = subst (λ (x : Finding). MeetsFound id x (view_from v h.first) h.second) f.2 h.behind;
         },
       ),
     )
 
 -- the file is got, and then that is done
 pub ends_one : {R : Type 0} (id : List ℕ) (finding : Finding) (a b c : WorkNow)
-    (result : Result R StepErr) → Does (Finds id finding) is_taking a b
-    → Ends (Reads id finding) is_taking b result c → Ends (TakesOne id) is_taking a result c
+    (result : Result R StepErr) → Does (FindsFile id finding) is_taking a b
+    → Ends (MeetsFound id finding) is_taking b result c → Ends (TakesOne id) is_taking a result c
 ends_one id finding a b c result h k =
-    ends_as (Then (Finds id finding) (Reads id finding)) (TakesOne id) is_taking a c result
-    (λ shown ds it. one_told id finding (view_of shown a.desk) ds it)
-    (ends_then (Finds id finding) (Reads id finding) is_taking a b c result h k)
+    ends_as (Then (FindsFile id finding) (MeetsFound id finding)) (TakesOne id) is_taking a c result
+    (λ shown ds it. one_told id finding (view_of shown a.site) ds it)
+    (ends_then (FindsFile id finding) (MeetsFound id finding) is_taking a b c result h k)

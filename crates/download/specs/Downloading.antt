@@ -8,16 +8,16 @@ use Rattle.jop_target.specs.declared.call.Call.{Call}
 use Rattle.jop_target.specs.declared.call.Call.TheVariants.{List as ListDir}
 use Rattle.jop_target.specs.declared.reply.Listing.{Listing}
 use Rattle.jop_target.specs.declared.reply.Reply.TheVariants.{Listed}
-use Rattle.licences.specs.Deeds.{Deed}
-use Rattle.licences.specs.Items.{is_folder}
-use Rattle.licences.specs.Pages.{IsPage, emptied_by}
-use Rattle.licences.specs.Views.{View, shown_to}
+use Rattle.law_licences.specs.Deeds.{Deed}
+use Rattle.law_licences.specs.Items.{is_folder}
+use Rattle.law_licences.specs.Pages.{IsPage, emptied_by}
+use Rattle.law_licences.specs.Views.{View, shown_to}
 use Rattle.local_store.specs.Rows.{item_of}
 use Rattle.local_store.specs.Tables.{row_at}
 use Rattle.local_store.specs.declared.change.Change.TheVariants.{ContextIs, Gone}
 use Rattle.local_store.specs.declared.row.Row.{Row}
-use Rattle.session_steps.specs.Parts.{Changes, ForEach, Hears, Nothing, Part, Then}
-use Rattle.session_steps.specs.Sessions.{is_root}
+use Rattle.session.specs.Parts.{Changes, ForEach, Hears, Nothing, Part, Then}
+use Rattle.session.specs.Sessions.{is_root}
 
 -- ---- calls
 
@@ -65,15 +65,15 @@ LeavesOne false = Goes
 LeavesOne true = Closes
 
 -- what is no folder goes first, and then the folders
-abbrev pub Leaves : List (List ℕ) → Part
-Leaves gone = Then (ForEach (LeavesOne false) gone) (ForEach (LeavesOne true) gone)
+abbrev pub LeavesGone : List (List ℕ) → Part
+LeavesGone gone = Then (ForEach (LeavesOne false) gone) (ForEach (LeavesOne true) gone)
 
 -- ---- the page
 
 -- new files are taken in the order of the page, rows go, and last the client has read the target so far
 abbrev pub Applies : Page → Part
 Applies page =
-    Then (ForEach TakesOne page.taken) (Then (Leaves page.gone) (Changes (ContextIs page.next)))
+    Then (ForEach TakesOne page.taken) (Then (LeavesGone page.gone) (Changes (ContextIs page.next)))
 
 -- The root is listed, and its page applied. It doesn't look as if the target were emptied.
 pub record Downloads (v : View) (ds : List Deed) : Type 0 where

@@ -1,21 +1,21 @@
 -- What a download has found so far.
-use Rattle.std.specs.Prelude.{ℕ, ◌≡◌, List, Contains, Some, None, Result, Ok, Err}
+use Rattle.std.specs.Prelude.{ℕ, ◌≡◌, List, All, Contains, Some, None, Result, Ok, Err}
 use Rattle.conflicts.specs.declared.error.StepErr.{StepErr}
 use Rattle.conflicts.specs.declared.error.StepErr.TheVariants.{Lost, TargetFault, KeeperFault, FailSafe, NoMemory}
 use Rattle.delta.specs.declared.page.Page.{Page}
-use Rattle.desk.specs.Desks.{DeskNow}
-use Rattle.download.specs.Downloading.{Downloads, is_download}
+use Rattle.download.specs.Asked.{EndsShown}
+use Rattle.download.specs.Downloading.{Applies, Downloads, is_download}
 use Rattle.jop_base.specs.declared.dir.Dir.TheVariants.{Root}
 use Rattle.jop_target.specs.declared.call.Call.TheVariants.{List as ListDir}
 use Rattle.jop_target.specs.declared.reply.Listing.{Listing}
 use Rattle.jop_target.specs.declared.reply.Reply.{Reply}
 use Rattle.jop_target.specs.declared.reply.Reply.TheVariants.{Listed}
-use Rattle.licences.specs.Pages.{IsPage, emptied_by}
-use Rattle.licences.specs.Views.{Shown, shown_to}
+use Rattle.law_licences.specs.Pages.{IsPage, emptied_by}
+use Rattle.law_licences.specs.Views.{Finished, Shown, shown_to}
 use Rattle.local_store.specs.declared.tables.Tables.{Tables}
-use Rattle.session_steps.specs.Doing.{Does, Ends, Finishes, GivesUp}
-use Rattle.session_steps.specs.Parts.{Hears, Part}
-use Rattle.session_steps.specs.Work.{WorkNow, knowing}
+use Rattle.session.specs.Doing.{Does, EndsAt, Finishes, GivesNothing}
+use Rattle.session.specs.Parts.{Hears, Part}
+use Rattle.session.specs.Work.{WorkNow, knowing}
 
 -- ---- the page
 
@@ -28,8 +28,24 @@ pub record Lacks (known : Shown) (id : List ℕ) : Type 0 where
 -- if by the session's last listing this file is gone, it was this part, or gave nothing
 abbrev pub EndsIfGone : List ℕ → Part → WorkNow → Result (Unit {0}) StepErr → WorkNow → Type 0
 EndsIfGone id P old result new =
-    (known : Shown) → Lacks known id
-    → Ends P is_download (knowing (Some known) old) result (knowing (Some known) new)
+    EndsShown (λ known. Lacks known id) is_download P old result new
+
+-- all of these are
+abbrev pub LacksAll : List (List ℕ) → Shown → Type 0
+LacksAll ids known = All (Lacks known) ids
+
+-- if these are, it was this part, or gave nothing
+abbrev pub EndsIfAllGone : List (List ℕ) → Part → WorkNow → Result (Unit {0}) StepErr → WorkNow →
+    Type 0
+EndsIfAllGone ids P old result new = EndsShown (LacksAll ids) is_download P old result new
+
+-- if the session was shown a listing that asks for this page, the page was applied, which is the session's last
+-- part, or it gave nothing
+abbrev pub EndsPage : Page → WorkNow → Result (Unit {0}) StepErr → WorkNow → Type 0
+EndsPage page old result new =
+    (known : Shown) → IsPage known page
+    → EndsAt Finished (Applies page) is_download (knowing (Some known) old) result
+    (knowing (Some known) new)
 
 -- ---- the listing
 
@@ -48,10 +64,10 @@ PageOf t reply result = ⊥
 -- the root was listed, which is a part of the session, and asks for this
 pub record HasListed (old : WorkNow) (page : Page) (new : WorkNow) : Type 0 where
   pub listing : Listing
-  pub is : IsPage (shown_to old.desk.tables listing) page
-  pub safe : emptied_by (shown_to old.desk.tables listing) ≡ None
+  pub is : IsPage (shown_to old.site.tables listing) page
+  pub safe : emptied_by (shown_to old.site.tables listing) ≡ None
   pub does : Does (Hears (ListDir Root) (Listed listing)) is_download old
-      (knowing (Some (shown_to old.desk.tables listing)) new)
+      (knowing (Some (shown_to old.site.tables listing)) new)
 
 -- ---- the whole
 
@@ -59,22 +75,22 @@ pub record HasListed (old : WorkNow) (page : Page) (new : WorkNow) : Type 0 wher
 pub record IsEmptied (old : WorkNow) (count : ℕ) (new : WorkNow) : Type 0 where
   pub listing : Listing
   pub listed : Does (Hears (ListDir Root) (Listed listing)) is_download old new
-  pub rows : emptied_by (shown_to old.desk.tables listing) ≡ Some count
+  pub rows : emptied_by (shown_to old.site.tables listing) ≡ Some count
 
 -- why a download gives nothing, by each error
-abbrev pub Refuses : WorkNow → StepErr → WorkNow → Type 0
-Refuses old (Lost seen) new = GivesUp is_download old (Lost seen) new
-Refuses old TargetFault new = GivesUp is_download old TargetFault new
-Refuses old KeeperFault new = GivesUp is_download old KeeperFault new
-Refuses old (FailSafe count) new = IsEmptied old count new
-Refuses old NoMemory new = GivesUp is_download old NoMemory new
+abbrev pub RefusesDownload : WorkNow → StepErr → WorkNow → Type 0
+RefusesDownload old (Lost seen) new = GivesNothing is_download old (Lost seen) new
+RefusesDownload old TargetFault new = GivesNothing is_download old TargetFault new
+RefusesDownload old KeeperFault new = GivesNothing is_download old KeeperFault new
+RefusesDownload old (FailSafe count) new = IsEmptied old count new
+RefusesDownload old NoMemory new = GivesNothing is_download old NoMemory new
 
 -- each answer of the listing, by its cause
 abbrev pub Lists : WorkNow → Result Page StepErr → WorkNow → Type 0
 Lists old (Ok page) new = HasListed old page new
-Lists old (Err e) new = Refuses old e new
+Lists old (Err e) new = RefusesDownload old e new
 
 -- the page was applied, which is the session's last part, or it gave nothing
 abbrev pub EndsDownload : {R : Type 0} → WorkNow → Result R StepErr → WorkNow → Type 0
 EndsDownload old (Ok value) new = Finishes Downloads is_download old new
-EndsDownload old (Err e) new = Refuses old e new
+EndsDownload old (Err e) new = RefusesDownload old e new

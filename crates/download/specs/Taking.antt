@@ -7,18 +7,18 @@ use Rattle.jop_base.specs.declared.path.Path.TheVariants.{Item as ItemFile}
 use Rattle.jop_target.specs.declared.call.Call.{Call}
 use Rattle.jop_target.specs.declared.call.Call.TheVariants.{Get, GetBlob}
 use Rattle.jop_target.specs.declared.reply.Reply.{Reply}
-use Rattle.licences.specs.Items.{is_resource}
+use Rattle.law_licences.specs.Items.{is_resource}
 use Rattle.local_store.specs.Rows.{has_kind, item_of}
 use Rattle.local_store.specs.Tables.{base_of, row_at}
 use Rattle.local_store.specs.declared.change.Change.TheVariants.{Taken}
 use Rattle.local_store.specs.declared.content.Content.{Content}
 use Rattle.local_store.specs.declared.row.Row.{Row}
-use Rattle.session_steps.specs.Asking.{IsAnswer}
-use Rattle.session_steps.specs.Findings.{finding_of, waiting}
-use Rattle.session_steps.specs.Parts.{Changes, Hears, Nothing, Part, Then}
-use Rattle.session_steps.specs.Sessions.{Fetches}
-use Rattle.session_steps.specs.declared.finding.Finding.{Finding}
-use Rattle.session_steps.specs.declared.finding.Finding.TheVariants.{Same, Other, Missing, Unreadable}
+use Rattle.session.specs.Asking.{IsAnswer}
+use Rattle.session.specs.Findings.{finding_of, waiting}
+use Rattle.session.specs.Parts.{Changes, Hears, Nothing, Part, Then}
+use Rattle.session.specs.Sessions.{Fetches}
+use Rattle.session.specs.declared.finding.Finding.{Finding}
+use Rattle.session.specs.declared.finding.Finding.TheVariants.{Same, Other, Missing, Unreadable}
 
 -- ---- calls
 
@@ -39,10 +39,14 @@ abbrev pub GetsBytes : List ℕ → Bool → Part
 GetsBytes id true = Fetches id
 GetsBytes id false = Nothing
 
+-- those that belong to an item
+abbrev pub GetsBytesOf : List ℕ → Content → Part
+GetsBytesOf id content = GetsBytes id (is_resource (item_of content))
+
 -- the row becomes what the file holds; of a resource the bytes come first
 abbrev pub TakesIn : List ℕ → List ℕ × Content → Part
 TakesIn id remote =
-    Then (GetsBytes id (is_resource (item_of remote.1))) (Changes (Taken id remote.0 remote.1))
+    Then (GetsBytesOf id remote.1) (Changes (Taken id remote.0 remote.1))
 
 -- a row that waits gives way to the file, and else it is taken
 abbrev pub Meets : List ℕ → List ℕ × Content → Option Row → Part
@@ -50,8 +54,8 @@ Meets id remote None = TakesIn id remote
 Meets id remote (Some row) = Changes (conflict_change row (Some remote))
 
 -- a notebook's key, which other clients keep as an item
-abbrev pub is_key : Item → Bool
-is_key item = has_kind (record { 0 = 9 }) item
+abbrev pub is_key_item : Item → Bool
+is_key_item item = has_kind (record { 0 = 9 }) item
 
 -- keys are passed over
 abbrev pub MeetsUnlessKey : List ℕ → List ℕ × Content → Bool → Part
@@ -59,14 +63,14 @@ MeetsUnlessKey id remote true v ds = Nothing v ds
 MeetsUnlessKey id remote false v ds = Meets id remote (waiting (row_at v.tables id)) v ds
 
 -- What is done by what the file is. If it is as the client left it, is gone, or can't be read, that is nothing.
-abbrev pub Reads : List ℕ → Finding → Part
-Reads id Same = Nothing
-Reads id (Other remote) = MeetsUnlessKey id remote (is_key (item_of remote.1))
-Reads id Missing = Nothing
-Reads id Unreadable = Nothing
+abbrev pub MeetsFound : List ℕ → Finding → Part
+MeetsFound id Same = Nothing
+MeetsFound id (Other remote) = MeetsUnlessKey id remote (is_key_item (item_of remote.1))
+MeetsFound id Missing = Nothing
+MeetsFound id Unreadable = Nothing
 
 -- the file is got, and then that is done
 abbrev pub TakesOne : List ℕ → Part
 TakesOne id v ds =
     (reply : Reply) × (IsAnswer (Get (ItemFile id)) reply × Then (Hears (Get (ItemFile id)) reply)
-    (Reads id (finding_of id (base_of (row_at v.tables id)) reply)) v ds)
+    (MeetsFound id (finding_of id (base_of (row_at v.tables id)) reply)) v ds)

@@ -1,18 +1,17 @@
-ghost use Rattle.std.specs.Prelude.{◌≡◌, All, Some, true};
-ghost use Rattle.download.specs.Downloading.{Closes, ClosesIf, Goes, Leaves, LeavesOne, is_download, is_leaf, is_place};
-ghost use Rattle.download.specs.Reading.{EndsIfGone, Lacks};
-ghost use Rattle.licences.specs.Items.{is_folder};
-ghost use Rattle.licences.specs.Views.{Shown};
+ghost use Rattle.std.specs.Prelude.{◌≡◌};
+ghost use Rattle.download.specs.Downloading.{Closes, Goes, LeavesGone, LeavesOne, is_leaf, is_place};
+ghost use Rattle.download.specs.Reading.{EndsIfAllGone, EndsIfGone, Lacks, LacksAll};
+ghost use Rattle.law_licences.specs.Items.{is_folder};
+ghost use Rattle.law_licences.specs.Views.{Shown};
 ghost use Rattle.local_store.specs.Rows.{item_of};
 ghost use Rattle.local_store.specs.Tables.{row_at};
-ghost use Rattle.session_steps.specs.Doing.{Ends};
-ghost use Rattle.session_steps.specs.Parts.{ForEach};
-ghost use Rattle.session_steps.specs.Work.{IsAtWork, knowing};
+ghost use Rattle.session.specs.Parts.{ForEach};
+ghost use Rattle.session.specs.Work.{IsAtWork};
 
 use conflicts::{StepErr, folder_gone_changes};
 use jop_base::Id;
 use local_store::{Change, Row, Tables, is_folder};
-use session_steps::Session;
+use session::Session;
 use std::alloc::Global;
 
 /// Whether the row of this id doesn't wait, and is no folder.
@@ -47,19 +46,6 @@ fn go<W: Session>(alloc: Global, s: &mut W, id: &Id) -> Result<(), StepErr>
     s.make_shown(alloc, Change::Gone(*id))
 }
 
-/// Moves the notes out of a folder, and then lets it go.
-fn close_folder<W: Session>(alloc: Global, s: &mut W, id: &Id) -> Result<(), StepErr>
-    requires ready { IsAtWork (W.now s.old) }
-    requires gone { (known : Shown) × Lacks known id.now }
-    requires place { is_place (row_at (W.now s.old).desk.tables id.now) ≡ true }
-
-    ensures ends { EndsIfGone id.now (ClosesIf id.now true) (W.now s.old) result (W.now s.new) }
-{
-    let moves = folder_gone_changes(alloc, s.tables(), id)?;
-    s.make_each(alloc, moves.as_slice())?;
-    s.make_shown(alloc, Change::Gone(*id))
-}
-
 /// Lets the row of this id go behind the notes in it, if it is a folder and doesn't wait.
 fn close<W: Session>(alloc: Global, s: &mut W, id: &Id) -> Result<(), StepErr>
     requires ready { IsAtWork (W.now s.old) }
@@ -70,7 +56,9 @@ fn close<W: Session>(alloc: Global, s: &mut W, id: &Id) -> Result<(), StepErr>
     if !is_place(s.tables(), id) {
         return Ok(());
     }
-    close_folder(alloc, s, id)
+    let moves = folder_gone_changes(alloc, s.tables(), id)?;
+    s.make_each(alloc, moves.as_slice())?;
+    s.make_shown(alloc, Change::Gone(*id))
 }
 
 /// Lets the row of this id go, if it is its turn: that of the folders, or of what is none.
@@ -95,11 +83,10 @@ fn leave_each<W: Session>(
     gone: &[Id],
 ) -> Result<(), StepErr>
     requires ready { IsAtWork (W.now s.old) }
-    requires gone { (known : Shown) × All (Lacks known) gone.now }
+    requires gone { (known : Shown) × LacksAll gone.now known }
 
-    ensures ends { (known : Shown) → All (Lacks known) gone.now
-        → Ends (ForEach (LeavesOne folders) gone.now) is_download
-        (knowing (Some known) (W.now s.old)) result (knowing (Some known) (W.now s.new)) }
+    ensures ends { EndsIfAllGone gone.now (ForEach (LeavesOne folders) gone.now) (W.now s.old)
+        result (W.now s.new) }
 {
     for index in 0..gone.len() {
         leave_one(alloc, s, folders, &gone[index])?;
@@ -110,11 +97,9 @@ fn leave_each<W: Session>(
 /// Lets the rows go whose files are gone: first what is no folder, and then the folders.
 pub(crate) fn leave<W: Session>(alloc: Global, s: &mut W, gone: &[Id]) -> Result<(), StepErr>
     requires ready { IsAtWork (W.now s.old) }
-    requires gone { (known : Shown) × All (Lacks known) gone.now }
+    requires gone { (known : Shown) × LacksAll gone.now known }
 
-    ensures ends { (known : Shown) → All (Lacks known) gone.now
-        → Ends (Leaves gone.now) is_download (knowing (Some known) (W.now s.old)) result
-        (knowing (Some known) (W.now s.new)) }
+    ensures ends { EndsIfAllGone gone.now (LeavesGone gone.now) (W.now s.old) result (W.now s.new) }
 {
     leave_each(alloc, s, false, gone)?;
     leave_each(alloc, s, true, gone)

@@ -1,27 +1,22 @@
-ghost use Rattle.std.specs.Prelude.{◌≡◌, IfOk, OnOk, Some};
-ghost use Rattle.delta.specs.declared.page.Page.{Page as Asked};
-ghost use Rattle.download.specs.Downloading.{Applies, Leaves, is_download};
-ghost use Rattle.download.specs.Reading.{EndsDownload, Lists, PageIn, PageOf};
+ghost use Rattle.std.specs.Prelude.{◌≡◌, IfOk, OnOk};
+ghost use Rattle.download.specs.Reading.{EndsDownload, EndsPage, Lists, PageIn, PageOf};
 ghost use Rattle.jop_target.specs.declared.reply.Reply.TheVariants.{Listed};
 ghost use Rattle.jop_target.specs.declared.reply.Listing.{Listing as Shows};
 ghost use Rattle.lease.specs.Standing.{IsSameBut};
-ghost use Rattle.licences.specs.Pages.{IsPage};
-ghost use Rattle.licences.specs.Views.{Finished, Shown, synced_ids};
-ghost use Rattle.local_store.specs.declared.change.Change.TheVariants.{ContextIs};
-ghost use Rattle.session_steps.specs.Doing.{EndsAt};
-ghost use Rattle.session_steps.specs.Parts.{Changes, Then};
-ghost use Rattle.session_steps.specs.Work.{IsAtWork, IsReady, knowing, work};
+ghost use Rattle.law_licences.specs.Pages.{IsPage};
+ghost use Rattle.law_licences.specs.Views.{Shown, synced_ids};
+ghost use Rattle.session.specs.Work.{IsAtWork, IsReady, work};
 
 use crate::leaving::leave;
 use crate::taking::take_listed;
+use client::Client;
 use conflicts::{StepErr, SyncReport};
 use delta::{Page, delta_of, fail_safe};
-use desk::Desk;
 use jop_base::{Context, Copied, Dir, Id, Seq};
 use jop_target::{Call, Listing, Reply};
 use lease::Lease;
 use local_store::{Change, Tables};
-use session_steps::{Hand, Session};
+use session::{Hand, Session};
 use std::alloc::{AllocError, Global};
 
 /// The items of which the client has a base, in the order of their ids.
@@ -70,43 +65,18 @@ fn list<W: Session>(alloc: Global, s: &mut W) -> Result<Page, StepErr>
     page_of(alloc, s.tables(), s.last())
 }
 
-/// Says how far the client has read the target now, which is the session's last change.
-fn finish<W: Session>(alloc: Global, s: &mut W, next: &Context) -> Result<(), StepErr>
-    requires ready { IsAtWork (W.now s.old) }
-
-    ensures ends { (known : Shown) (page : Asked) → IsPage known page → next.now ≡ page.next
-        → EndsAt Finished (Changes (ContextIs page.next)) is_download
-        (knowing (Some known) (W.now s.old)) result (knowing (Some known) (W.now s.new)) }
-{
-    let copy = next.copy(alloc)?;
-    s.make_shown(alloc, Change::ContextIs(copy))
-}
-
-/// Lets the rows go that are gone by the page, and says how far the client has read the target now.
-fn close_page<W: Session>(alloc: Global, s: &mut W, page: &Page) -> Result<(), StepErr>
-    requires ready { IsAtWork (W.now s.old) }
-    requires listed { (known : Shown) × IsPage known page.now }
-
-    ensures ends { (known : Shown) → IsPage known page.now
-        → EndsAt Finished (Then (Leaves page.now.gone) (Changes (ContextIs page.now.next)))
-        is_download (knowing (Some known) (W.now s.old)) result
-        (knowing (Some known) (W.now s.new)) }
-{
-    leave(alloc, s, page.gone.as_slice())?;
-    finish(alloc, s, &page.next)
-}
-
-/// Does what a page asks for.
+/// Does what a page asks for, and then says how far the client has read the target now, which is the session's last
+/// change.
 fn apply<W: Session>(alloc: Global, s: &mut W, page: &Page) -> Result<(), StepErr>
     requires ready { IsAtWork (W.now s.old) }
     requires listed { (known : Shown) × IsPage known page.now }
 
-    ensures ends { (known : Shown) → IsPage known page.now
-        → EndsAt Finished (Applies page.now) is_download (knowing (Some known) (W.now s.old))
-        result (knowing (Some known) (W.now s.new)) }
+    ensures ends { EndsPage page.now (W.now s.old) result (W.now s.new) }
 {
     take_listed(alloc, s, page.taken.as_slice())?;
-    close_page(alloc, s, page)
+    leave(alloc, s, page.gone.as_slice())?;
+    let next = page.next.copy(alloc)?;
+    s.make_shown(alloc, Change::ContextIs(next))
 }
 
 /// Lists the root, reads what other clients have written since this one listed it last, and lets go
@@ -122,20 +92,20 @@ pub fn apply_listed<W: Session>(alloc: Global, s: &mut W) -> Result<(), StepErr>
     apply(alloc, s, &page)
 }
 
-/// The same at a desk, under a lease, counted in a report.
-pub fn apply_page<S: Desk>(
+/// The same for a client, under a lease, counted in a report.
+pub fn apply_page<S: Client>(
     alloc: Global,
     site: &mut S,
     lease: &mut Lease,
     report: &mut SyncReport,
 ) -> Result<(), StepErr>
-    requires ready { IsReady (S.desk site.old) lease.old }
+    requires ready { IsReady (S.site site.old) lease.old }
 
-    ensures ready { OnOk result (IsReady (S.desk site.new) lease.new) }
+    ensures ready { OnOk result (IsReady (S.site site.new) lease.new) }
     ensures lease { IsSameBut lease.old lease.new }
-    ensures ends { EndsDownload (work (S.desk site.old) lease.old report.old) result
-        (work (S.desk site.new) lease.new report.new) }
-    ensures stays { S.stays site.old site.new }
+    ensures ends { EndsDownload (work (S.site site.old) lease.old report.old) result
+        (work (S.site site.new) lease.new report.new) }
+    ensures stays { S.place site.new ≡ S.place site.old }
 {
     let mut s = Hand {
         site: &mut *site,

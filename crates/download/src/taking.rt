@@ -1,24 +1,21 @@
-ghost use Rattle.std.specs.Prelude.{◌≡◌, All, Bool, Some, false};
-ghost use Rattle.download.specs.Asked.{AsksFor, EndsIfAsked};
-ghost use Rattle.download.specs.Taking.{GetsBytes, Meets, MeetsUnlessKey, Reads, TakesIn, TakesOne, is_taking, is_key};
-ghost use Rattle.licences.specs.Checks.{is_pending};
-ghost use Rattle.licences.specs.Items.{is_resource};
-ghost use Rattle.licences.specs.Views.{Shown};
+ghost use Rattle.std.specs.Prelude.{◌≡◌, false};
+ghost use Rattle.download.specs.Asked.{AsksForAll, EndsIfAsked, EndsMet, EndsShown, IsGot};
+ghost use Rattle.download.specs.Taking.{GetsBytesOf, MeetsFound, TakesIn, TakesOne, is_key_item, is_taking};
+ghost use Rattle.law_licences.specs.Checks.{is_pending};
+ghost use Rattle.law_licences.specs.Items.{is_resource};
+ghost use Rattle.law_licences.specs.Views.{Shown};
 ghost use Rattle.local_store.specs.Rows.{item_of};
-ghost use Rattle.local_store.specs.Sound.{IsContentOf};
 ghost use Rattle.local_store.specs.Tables.{row_at};
-ghost use Rattle.session_steps.specs.Doing.{Ends};
-ghost use Rattle.session_steps.specs.Findings.{IsSoundFinding, waiting};
-ghost use Rattle.session_steps.specs.Parts.{ForEach};
-ghost use Rattle.session_steps.specs.Sessions.{IsFound};
-ghost use Rattle.session_steps.specs.Work.{IsAtWork, knowing};
-ghost use Rattle.session_steps.specs.declared.finding.Finding.TheVariants.{Other};
+ghost use Rattle.session.specs.Doing.{Ends};
+ghost use Rattle.session.specs.Parts.{ForEach};
+ghost use Rattle.session.specs.Work.{IsAtWork};
+ghost use Rattle.session.specs.declared.finding.Finding.TheVariants.{Other};
 
 use conflicts::{StepErr, conflict_change};
 use item_kinds::Kind;
 use jop_base::{Bytes, Id, let_go};
 use local_store::{Change, Content, has_kind};
-use session_steps::{Finding, Session, waiting_row};
+use session::{Finding, Session, waiting_row};
 use std::alloc::Global;
 
 fn is_resource(content: &Content) -> bool
@@ -36,8 +33,8 @@ fn get_bytes_of<W: Session>(
 ) -> Result<(), StepErr>
     requires ready { IsAtWork (W.now s.old) }
 
-    ensures ends { Ends (GetsBytes id.now (is_resource (item_of content.now))) is_taking
-        (W.now s.old) result (W.now s.new) }
+    ensures ends { Ends (GetsBytesOf id.now content.now) is_taking (W.now s.old) result
+        (W.now s.new) }
 {
     if !is_resource(content) {
         return Ok(());
@@ -53,9 +50,8 @@ fn take_in<W: Session>(
     remote: (Bytes, Content),
 ) -> Result<(), StepErr>
     requires ready { IsAtWork (W.now s.old) }
-    requires sound { IsContentOf id.now remote.1 }
-    requires found { IsFound id.now (Other remote) (W.now s.old).desk }
-    requires unchanged { is_pending (row_at (W.now s.old).desk.tables id.now) ≡ false }
+    requires got { IsGot id.now (Other remote) (W.now s.old).site }
+    requires unchanged { is_pending (row_at (W.now s.old).site.tables id.now) ≡ false }
 
     ensures ends { EndsIfAsked id.now (TakesIn id.now remote) (W.now s.old) result (W.now s.new) }
 {
@@ -71,12 +67,9 @@ fn meet<W: Session>(
     remote: (Bytes, Content),
 ) -> Result<(), StepErr>
     requires ready { IsAtWork (W.now s.old) }
-    requires sound { IsContentOf id.now remote.1 }
-    requires found { IsFound id.now (Other remote) (W.now s.old).desk }
+    requires got { IsGot id.now (Other remote) (W.now s.old).site }
 
-    ensures ends { EndsIfAsked id.now
-        (Meets id.now remote (waiting (row_at (W.now s.old).desk.tables id.now)))
-        (W.now s.old) result (W.now s.new) }
+    ensures ends { EndsMet id.now remote (W.now s.old) result (W.now s.new) }
 {
     let waiting = waiting_row(alloc, s.tables(), id)?;
     match waiting {
@@ -91,41 +84,25 @@ fn meet<W: Session>(
 
 /// Whether this is a notebook's key.
 fn is_key(content: &Content) -> bool
-    ensures { result ≡ is_key (item_of content.now) }
+    ensures { result ≡ is_key_item (item_of content.now) }
 {
     has_kind(content.item(), Kind::MASTER_KEY)
 }
 
-/// Does with an item that another client has written what it asks for. A notebook's key is passed over.
-fn meet_item<W: Session>(
-    alloc: Global,
-    s: &mut W,
-    id: &Id,
-    remote: (Bytes, Content),
-) -> Result<(), StepErr>
-    requires ready { IsAtWork (W.now s.old) }
-    requires sound { IsContentOf id.now remote.1 }
-    requires found { IsFound id.now (Other remote) (W.now s.old).desk }
-
-    ensures ends { EndsIfAsked id.now (MeetsUnlessKey id.now remote (is_key (item_of remote.1)))
-        (W.now s.old) result (W.now s.new) }
-{
-    if is_key(&remote.1) {
-        return Ok(());
-    }
-    meet(alloc, s, id, remote)
-}
-
-/// Does with a file what it asks for.
+/// Does with a file what it asks for. A notebook's key is passed over.
 fn read<W: Session>(alloc: Global, s: &mut W, id: &Id, finding: Finding) -> Result<(), StepErr>
     requires ready { IsAtWork (W.now s.old) }
-    requires sound { IsSoundFinding id.now finding }
-    requires found { IsFound id.now finding (W.now s.old).desk }
+    requires got { IsGot id.now finding (W.now s.old).site }
 
-    ensures ends { EndsIfAsked id.now (Reads id.now finding) (W.now s.old) result (W.now s.new) }
+    ensures ends { EndsIfAsked id.now (MeetsFound id.now finding) (W.now s.old) result (W.now s.new) }
 {
     match finding {
-        Finding::Other(remote) => meet_item(alloc, s, id, remote),
+        Finding::Other(remote) => {
+            if is_key(&remote.1) {
+                return Ok(());
+            }
+            meet(alloc, s, id, remote)
+        }
         Finding::Same => Ok(()),
         Finding::Missing => Ok(()),
         Finding::Unreadable => Ok(()),
@@ -146,11 +123,10 @@ fn take_one<W: Session>(alloc: Global, s: &mut W, id: &Id) -> Result<(), StepErr
 /// each what it asks for.
 pub(crate) fn take_listed<W: Session>(alloc: Global, s: &mut W, ids: &[Id]) -> Result<(), StepErr>
     requires ready { IsAtWork (W.now s.old) }
-    requires asked { (known : Shown) × All (AsksFor known) ids.now }
+    requires asked { (known : Shown) × AsksForAll ids.now known }
 
-    ensures ends { (known : Shown) → All (AsksFor known) ids.now
-        → Ends (ForEach TakesOne ids.now) is_taking (knowing (Some known) (W.now s.old)) result
-        (knowing (Some known) (W.now s.new)) }
+    ensures ends { EndsShown (AsksForAll ids.now) is_taking (ForEach TakesOne ids.now)
+        (W.now s.old) result (W.now s.new) }
 {
     for index in 0..ids.len() {
         take_one(alloc, s, &ids[index])?;

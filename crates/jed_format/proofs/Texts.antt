@@ -155,7 +155,8 @@ utf8_sizes c small =
 pub IsUtf8-chunk_text : (c : SjclChunk) → AreSmall c → IsUtf8 (chunk_text c)
 unfolding chunk_text
 IsUtf8-chunk_text c small =
-    let salt = IsUtf8-append (codes ",\"mode\":\"ccm\",\"adata\":\"\",\"cipher\":\"aes\",\"salt\":\"") (encoded c.salt) (utf8_text (codes ",\"mode\":\"ccm\",\"adata\":\"\",\"cipher\":\"aes\",\"salt\":\"") refl) (utf8_encoded c.salt) in
+    let salt = IsUtf8-append (codes ",\"mode\":\"ccm\",\"adata\":\"\",\"cipher\":\"aes\",\"salt\":\"")
+    (encoded c.salt) (utf8_text (codes ",\"mode\":\"ccm\",\"adata\":\"\",\"cipher\":\"aes\",\"salt\":\"") refl) (utf8_encoded c.salt) in
     let ct = IsUtf8-append (codes "\",\"ct\":\"" ++ encoded c.ct) (codes "\"}")
     (IsUtf8-append (codes "\",\"ct\":\"") (encoded c.ct) (utf8_text (codes "\",\"ct\":\"") refl) (utf8_encoded c.ct)) (utf8_text (codes "\"}") refl) in
     IsUtf8-append _ _ (IsUtf8-append _ _ (IsUtf8-append _ _ (utf8_iv c) (utf8_sizes c small)) salt) ct

@@ -1,5 +1,5 @@
-use command_line::Words;
 use jop_base::{Seq, Text};
+use jop_words::Words;
 use std::alloc::AllocError;
 use std::env::{self, Args};
 use std::io::ErrorKind;

@@ -10,16 +10,16 @@ use Rattle.jop_target.specs.declared.event.Event.{Event}
 use Rattle.jop_target.specs.declared.event.Event.TheVariants.{Called}
 use Rattle.jop_target.specs.declared.reply.Reply.{Reply}
 use Rattle.jop_target.specs.declared.reply.Reply.TheVariants.{Absent, Got}
-use Rattle.licences.proofs.Joins.{view_from-append}
-use Rattle.licences.proofs.Told.{calls-view_from, calls_from-append}
-use Rattle.licences.specs.Deeds.{Deed, Asks, events_of}
-use Rattle.licences.specs.Trails.{calls_from, session_calls}
-use Rattle.licences.specs.Views.{View, is_about_locks, view_from, with_call}
-use Rattle.opening.specs.Opening.{ReadsBadInfo, ReadsInfoAt, ReadsOld, ReadsVersion}
-use Rattle.session_steps.proofs.Seen.{view_from-but_locks}
-use Rattle.session_steps.specs.Doing.{Went}
-use Rattle.session_steps.specs.Parts.{but_locks}
-use Rattle.session_steps.specs.Work.{WorkNow, view_of}
+use Rattle.law_licences.proofs.Joins.{view_from-append}
+use Rattle.law_licences.proofs.Told.{calls-view_from, calls_from-append}
+use Rattle.law_licences.specs.Deeds.{Deed, Asks, events_of}
+use Rattle.law_licences.specs.Trails.{calls_from, session_calls}
+use Rattle.law_licences.specs.Views.{View, is_about_locks, view_from, with_call}
+use Rattle.session_opening.specs.Opening.{ReadsBadInfo, ReadsInfoAt, ReadsOld, ReadsVersion}
+use Rattle.session.proofs.Seen.{view_from-but_locks}
+use Rattle.session.specs.Doing.{Went}
+use Rattle.session.specs.Parts.{but_locks}
+use Rattle.session.specs.Work.{WorkNow, view_of}
 use Rattle.sync_run.specs.Outcomes.{ReadsBadInfo as UpgradeReadsBad, ReadsNewer}
 use Rattle.sync_run.specs.Upgrades.{HasLeft as HasLeftUpgrade}
 use Rattle.jop_cli.specs.Causes.{HasFound, HasGot, HasGotBad, HasGotOld, HasLeft, IsLast}
@@ -71,14 +71,14 @@ bad_left client trail h = record {
 
 -- the calls that were heard are those that these deeds tell
 pub heard_after : (sort : Call → Bool) (a b : WorkNow) (went : Went sort a b) →
-    session_calls b.desk.line.trail
-    ≡ (view_from (view_of None a.desk) (but_locks went.deeds)).calls
+    session_calls b.site.line.trail
+    ≡ (view_from (view_of None a.site) (but_locks went.deeds)).calls
 heard_after sort a b went =
-    let v = view_of None a.desk in
-    let es = events_of (length a.desk.made) went.deeds in
+    let v = view_of None a.site in
+    let es = events_of (length a.site.made) went.deeds in
     ap (λ (t : List Event). calls_from [] t) went.trail
-    ∙ (calls_from-append [] a.desk.line.trail es
-    ∙ (sym (calls-view_from (length a.desk.made) v went.deeds went.work)
+    ∙ (calls_from-append [] a.site.line.trail es
+    ∙ (sym (calls-view_from (length a.site.made) v went.deeds went.work)
     ∙ ap (λ (w : View). w.calls) (sym (view_from-but_locks v went.deeds))))
 
 heard_then : (v : View) (front : List Deed) (call : Call) (reply : Reply) →
@@ -92,9 +92,9 @@ heard_then v front call reply =
 pub last_heard : (sort : Call → Bool) (a b : WorkNow) (went : Went sort a b) (front : List Deed)
     (call : Call) (reply : Reply) →
     but_locks went.deeds ≡ front ++ Asks call (Some reply) ∷ [] → is_about_locks call ≡ false →
-    IsLast call reply (session_calls b.desk.line.trail)
+    IsLast call reply (session_calls b.site.line.trail)
 last_heard sort a b went front call reply ends plain =
-    let v = view_of None a.desk in (
+    let v = view_of None a.site in (
       (view_from v front).calls,
       heard_after sort a b went
           ∙ (ap (λ (ds : List Deed). (view_from v ds).calls) ends
@@ -104,7 +104,7 @@ last_heard sort a b went front call reply ends plain =
 -- ---- what was found
 
 found_info : (version : ℕ) (sort : Call → Bool) (a b : WorkNow) (went : Went sort a b) (v : View) →
-    ReadsInfoAt version v (but_locks went.deeds) → HasGot version (session_calls b.desk.line.trail)
+    ReadsInfoAt version v (but_locks went.deeds) → HasGot version (session_calls b.site.line.trail)
 found_info version sort a b went v h =
     let read = h.1.1 in
     let reply = Got read.0 read.1.0 in
@@ -117,7 +117,7 @@ found_info version sort a b went v h =
     }
 
 found_old : (version : ℕ) (sort : Call → Bool) (a b : WorkNow) (went : Went sort a b) (v : View) →
-    ReadsOld version v (but_locks went.deeds) → HasGotOld version (session_calls b.desk.line.trail)
+    ReadsOld version v (but_locks went.deeds) → HasGotOld version (session_calls b.site.line.trail)
 unfolding view_from
 found_old version sort a b went v h =
     let both = h.1 in
@@ -129,19 +129,19 @@ found_old version sort a b went v h =
     record {
       now = h.0;
       reply = file.0;
-      earlier = session_calls a.desk.line.trail;
+      earlier = session_calls a.site.line.trail;
       last = heard_after sort a b went
-          ∙ ap (λ (ds : List Deed). (view_from (view_of None a.desk) ds).calls) ends;
+          ∙ ap (λ (ds : List Deed). (view_from (view_of None a.site) ds).calls) ends;
       tells = file.1.0;
     }
 
 pub found : (version : ℕ) (sort : Call → Bool) (a b : WorkNow) (went : Went sort a b) (v : View) →
     ReadsVersion version v (but_locks went.deeds) →
-    HasFound version (session_calls b.desk.line.trail)
+    HasFound version (session_calls b.site.line.trail)
 found version sort a b went v (inl h) = inl (found_info version sort a b went v h)
 found version sort a b went v (inr h) = inr (found_old version sort a b went v h)
 
 pub found_bad : (sort : Call → Bool) (a b : WorkNow) (went : Went sort a b) (v : View) →
-    ReadsBadInfo v (but_locks went.deeds) → HasGotBad (session_calls b.desk.line.trail)
+    ReadsBadInfo v (but_locks went.deeds) → HasGotBad (session_calls b.site.line.trail)
 found_bad sort a b went v h =
     (h.0, last_heard sort a b went [] (Get InfoFile) h.0 h.1.1 refl, h.1.0)

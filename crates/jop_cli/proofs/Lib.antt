@@ -2,15 +2,13 @@ mod Checked
 mod Heard
 mod Licensed
 mod Local
-mod LocalLicences
-mod Naming
+mod OwnLicences
 mod Owned
-mod Two
 mod Runs
 mod Sessions
 mod SyncCauses
-mod OwnLicences
 mod SyncSides
 mod Synced
 mod Tidied
+mod Two
 mod Upgraded

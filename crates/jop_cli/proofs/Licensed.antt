@@ -1,6 +1,8 @@
 -- What is done outside a session, and under a lease alone, has its licences.
-use Rattle.std.proofs.Common.{◌≡◌, refl, sym, subst, inl, inr, ℕ, ◌+◌, List, [], ◌∷◌, ◌++◌, append-nil, All, true, Option, Some, None, Result, Ok, Err}
+use Rattle.std.proofs.Common.{◌≡◌, ◌∙◌, ap, sym, subst, inl, inr, ℕ, List, [], ◌∷◌, ◌++◌, append-nil, All, true, Option, Some, None, Result, Ok, Err}
 use Rattle.std.proofs.lemmas.List.Elements.{All-head, All-tail}
+use Rattle.client.specs.Outside.{OutsideNow}
+use Rattle.jop_cli.specs.Run.{IsFresh}
 use Rattle.jop_base.specs.declared.path.Path.TheVariants.{Item, Blob}
 use Rattle.jop_target.specs.declared.call.Call.{Call}
 use Rattle.jop_target.specs.declared.call.Call.TheVariants.{Put, Delete, PutBlob}
@@ -9,15 +11,12 @@ use Rattle.jop_target.specs.declared.event.Event.TheVariants.{Began, Called, End
 use Rattle.jop_target.specs.declared.reply.Reply.{Reply}
 use Rattle.lease.specs.Calls.{IsLeaseCall, IsLeaseEvent}
 use Rattle.lease.specs.WholeSession.{AddsBegun, AddsWhole}
-use Rattle.licences.specs.Deeds.{Asks, Begins, deeds_of}
-use Rattle.licences.specs.Licences.{Each, IsInside, IsLocal, MayCall, MayDo, ObeysData}
-use Rattle.licences.specs.Views.{View, at_rest, changed, heard, seen}
-use Rattle.local_commands.specs.Following.{numbered}
-use Rattle.local_store.specs.Changing.{after}
+use Rattle.law_licences.specs.Deeds.{Asks, Begins, deeds_of}
+use Rattle.law_licences.specs.Licences.{Each, IsInside, MayCall, MayDo, ObeysData}
+use Rattle.law_licences.specs.Views.{View, at_rest, heard, seen}
 use Rattle.local_store.specs.declared.change.Change.{Change}
-use Rattle.local_store.specs.declared.change.Change.TheVariants.{Cleared, InfoIs, Named, Removed, Saved}
 use Rattle.local_store.specs.declared.tables.Tables.{Tables}
-use Rattle.session_steps.proofs.LockDeeds.{AreLocks, obeys-locks}
+use Rattle.session.proofs.LockDeeds.{AreLocks, obeys-locks}
 use Rattle.sync_run.specs.Checks.{AddsCheck, CheckAnswers}
 use Rattle.sync_run.specs.Sessions.{AddsSession}
 use Rattle.sync_run.specs.Upgrades.{AddsUpgrade, UpgradeAnswers}
@@ -63,6 +62,16 @@ pub record AddsLicensed (old new : List Event) : Type 0 where
   pub more : List Event
   pub is : new ≡ old ++ more
   pub licensed : (t : Tables) → ObeysData (at_rest t) (deeds_of more [])
+
+-- so has a run that had done nothing before, and has made no change
+pub licensed_fresh : (before : OutsideNow) (trail : List Event) (t : Tables) → IsFresh before →
+    AddsLicensed before.line.trail trail → ObeysData (at_rest t) (deeds_of trail before.made)
+licensed_fresh before trail t fresh adds =
+    let is : trail ≡ adds.more =
+    adds.is ∙ ap (λ (es : List Event). es ++ adds.more) fresh.unwritten in
+    subst (λ (es : List Event). ObeysData (at_rest t) (deeds_of es before.made)) (sym is)
+    (subst (λ (cs : List Change). ObeysData (at_rest t) (deeds_of adds.more cs))
+    (sym fresh.unchanged) (adds.licensed t))
 
 whole_licensed : (P : Event → Type 0) → AreFree P → (client : List ℕ) (old new : List Event) →
     AddsWhole P client old new → AddsLicensed old new
@@ -140,14 +149,12 @@ locks_free client = record {
   unended = λ own. own;
 }
 
-pub check_licensed : (client : List ℕ) (trail : List Event) (t : Tables)
-    (result : Result (Unit {0}) SessionErr) → AddsCheck client [] trail result →
-    ObeysData (at_rest t) (deeds_of trail [])
-check_licensed client trail t result adds =
-    let more = session_licensed (IsLeaseEvent client) (locks_free client) (CheckAnswers client)
-    client [] trail result adds in
-    subst (λ (es : List Event). ObeysData (at_rest t) (deeds_of es [])) (sym more.is)
-    (more.licensed t)
+pub check_licensed : (client : List ℕ) (old new : List Event)
+    (result : Result (Unit {0}) SessionErr) → AddsCheck client old new result →
+    AddsLicensed old new
+check_licensed client old new result adds =
+    session_licensed (IsLeaseEvent client) (locks_free client) (CheckAnswers client) client old new
+    result adds
 
 -- ---- an upgrade
 
@@ -171,28 +178,3 @@ pub upgrade_licensed : (client : List ℕ) (old new : List Event) (result : Resu
     AddsUpgrade client old new result → AddsLicensed old new
 upgrade_licensed client old new result adds =
     session_licensed IsCall upgrade_free (UpgradeAnswers client) client old new result adds
-
--- ---- changes of a user
-
-unfoldable pub AllLocal : List Change → Type 0
-AllLocal [] = Unit {0}
-AllLocal (c ∷ cs) = IsLocal c × AllLocal cs
-
--- a user's change leaves a client in no session
-pub local_rest : (t : Tables) (c : Change) → IsLocal c → changed (at_rest t) c ≡ at_rest (after t c)
-local_rest t (Named client) local = refl
-local_rest t (Saved id item) local = refl
-local_rest t (Removed id) local = refl
-local_rest t (Cleared number) local = refl
-local_rest t (InfoIs info) local = refl
-local_rest t c local = absurd local
-
-pub local_licensed : (n : ℕ) (t : Tables) (made : List Change) → AllLocal made →
-    ObeysData (at_rest t) (deeds_of (numbered n made) made)
-unfolding deeds_of Each AllLocal
-local_licensed n t [] local = tt
-local_licensed n t (c ∷ made) local = (
-  local.0,
-  subst (λ (v : View). Each MayDo v (deeds_of (numbered (n + 1) made) made))
-      (sym (local_rest t c local.0)) (local_licensed (n + 1) (after t c) made local.1),
-)

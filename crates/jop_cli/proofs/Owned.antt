@@ -1,26 +1,27 @@
--- What is known of a client's own side once its client is known, or isn't.
-use Rattle.std.proofs.Common.{◌≡◌, ◌∙◌, refl, sym, ap, subst, inl, inr, ℕ, List, [], ◌∷◌, true, false, Option, Some, None, Ok, Err}
+-- What is known of the outside once its client is known, or isn't.
+use Rattle.std.proofs.Common.{◌≡◌, ◌∙◌, refl, sym, ap, subst, arith, inl, inr, ℕ, ◌≤◌, List, [], ◌∷◌, true, false, Option, Some, None, Ok, Err}
 use Rattle.std.specs.Prelude.{option_map}
 use Rattle.std.proofs.lemmas.List.Elements.{All-cons, All-nil}
-use Rattle.exit_status.specs.Refusals.{own_status}
-use Rattle.exit_status.specs.Statuses.{is_early}
-use Rattle.jop_outside.specs.Random.{EntropyNow}
+use Rattle.client.specs.Outside.{OutsideNow, with_change}
+use Rattle.client.specs.Owning.{NamesClient, Owns}
+use Rattle.client.specs.declared.own_err.OwnErr.{OwnErr}
+use Rattle.client.specs.declared.own_err.OwnErr.TheVariants as own_errors
+use Rattle.jop_cli.proofs.Runs.{Comes, keeps_none, none_licensed, uncalled_yet, unfailed_uncalled, uses_changes}
+use Rattle.jop_cli.specs.Causes.{IsExplained}
+use Rattle.jop_cli.specs.Commands.{ComesTo, used}
+use Rattle.jop_cli.specs.Commands.Sessions.{IsChange, IsUncalled, Session}
+use Rattle.jop_cli.specs.Run.{IsFresh, KeepsChanges, Sessions, UsesTarget, with_changes}
+use Rattle.jop_status.specs.Refusals.{own_status}
+use Rattle.jop_status.specs.Statuses.{is_early}
+use Rattle.jop_status.specs.declared.status.Status.{Status}
+use Rattle.jop_target.specs.Replies.{TargetNow}
+use Rattle.jop_target.specs.Trail.{LineNow}
 use Rattle.jop_target.specs.declared.event.Event.{Event}
 use Rattle.jop_target.specs.declared.event.Event.TheVariants.{Made}
+use Rattle.jop_words.specs.declared.verb.Verb.{Verb}
+use Rattle.keeper.specs.Keepers.{KeeperNow, Kept, changed}
 use Rattle.local_store.specs.Changing.{after_all}
-use Rattle.table_keeper.specs.Keepers.{KeeperNow, Kept, changed}
-use Rattle.local_store.specs.declared.change.Change.{Change}
 use Rattle.local_store.specs.declared.change.Change.TheVariants.{Named}
-use Rattle.site.specs.Owning.{NamesClient, OwnNow, Owns, own}
-use Rattle.site.specs.Sites.{IsAsBefore, SiteNow}
-use Rattle.site.specs.declared.own_err.OwnErr.{OwnErr}
-use Rattle.site.specs.declared.own_err.OwnErr.TheVariants as own_errors
-use Rattle.command_line.specs.declared.verb.Verb.{Verb}
-use Rattle.jop_cli.proofs.Runs.{keeps_none, unfailed_uncalled}
-use Rattle.jop_cli.specs.Causes.{IsExplained}
-use Rattle.jop_cli.specs.Commands.Sessions.{IsChange, IsUncalled}
-use Rattle.jop_cli.specs.Outside.{Outside, did}
-use Rattle.jop_cli.specs.Run.{KeepsChanges, with_changes}
 
 pub early_own : (error : OwnErr) → is_early (own_status error) ≡ true
 early_own own_errors.KeeperFault = refl
@@ -29,11 +30,16 @@ early_own own_errors.NoMemory = refl
 
 -- ---- the client is known
 
--- what is known of a side that began with nothing, once its client is known
-pub record IsOwned (client : List ℕ) (keeper : KeeperNow) (named : OwnNow) : Type 0 where
-  pub uncalled : IsUncalled named.site.trail
-  pub tables : KeepsChanges false keeper named.site.made named.site.keeper
-  pub names : NamesClient named.site.keeper.kept (Some client)
+-- what is known of an outside with which nothing was done before, once its client is known
+pub record IsOwned (client : List ℕ) (before named : OutsideNow) : Type 0 where
+  pub uncalled : IsUncalled named.line.trail
+  pub tables : KeepsChanges false before.keeper named.made named.keeper
+  pub names : NamesClient named.keeper.kept (Some client)
+  pub later : before.keeper.faults ≤ named.keeper.faults
+  pub target : named.line.target ≡ before.line.target
+  pub input : named.input ≡ before.input
+  pub out : named.out ≡ before.out
+  pub clock : named.clock ≡ before.clock
 
 named_kept : (client : List ℕ) (kept : Option Kept) →
     option_map (changed (Named client)) kept ≡ option_map (with_changes (Named client ∷ [])) kept
@@ -46,41 +52,124 @@ names_itself : (client : List ℕ) (kept : Option Kept) →
 names_itself client None = tt
 names_itself client (Some kept) = refl
 
-pub owned : (client : List ℕ) (keeper : KeeperNow) (entropy : EntropyNow) (named : OwnNow) →
-    Owns (own keeper entropy [] []) (Ok client) named → IsOwned client keeper named
-owned client keeper entropy named (inl was) = rw (was.same) (record {
-  uncalled = All-nil IsChange;
-  tables = keeps_none keeper keeper refl;
-  names = was.named;
-})
-owned client keeper entropy named (inr is) = record {
-  uncalled = subst IsUncalled (sym is.made.trail)
-      (All-cons IsChange (Made 0) [] tt (All-nil IsChange));
-  tables = subst (λ (m : List Change). KeepsChanges false keeper m named.site.keeper) (sym is.made.made)
-      (is.made.kept ∙ named_kept client keeper.kept);
-  names = subst (λ (k : Option Kept). NamesClient k (Some client)) (sym is.made.kept)
-      (names_itself client keeper.kept);
+owned_before : (client : List ℕ) (before : OutsideNow) → IsFresh before →
+    NamesClient before.keeper.kept (Some client) → IsOwned client before before
+owned_before client before fresh names = record {
+  uncalled = uncalled_yet before fresh;
+  tables = keeps_none false before.keeper before.keeper before.made fresh.unchanged refl;
+  names = names;
+  later = omega arith;
+  target = refl;
+  input = refl;
+  out = refl;
+  clock = refl;
 }
+
+numbered_only : (trail : List Event) (n : ℕ) → trail ≡ Made n ∷ [] → IsUncalled trail
+numbered_only trail n is =
+    subst IsUncalled (sym is) (All-cons IsChange (Made n) [] tt (All-nil IsChange))
+
+-- the client was named, with this state of the random source
+owned_now : (client : List ℕ) (before old : OutsideNow) → IsFresh before →
+    old ≡ record before { entropy = old.entropy } →
+    IsOwned client before (with_change (Named client) old)
+owned_now client before old fresh same =
+    let line : old.line ≡ before.line = ap (λ (o : OutsideNow). o.line) same in
+    let keeper : old.keeper ≡ before.keeper = ap (λ (o : OutsideNow). o.keeper) same in
+    let made : old.made ≡ [] = ap (λ (o : OutsideNow). o.made) same ∙ fresh.unchanged in
+    let trail : old.line.trail ≡ [] = ap (λ (l : LineNow). l.trail) line ∙ fresh.unwritten in
+    record {
+      uncalled = numbered_only (with_change (Named client) old).line.trail 0
+          (rw (trail, made) refl);
+      tables = rw made
+          (ap (λ (k : KeeperNow). option_map (changed (Named client)) k.kept) keeper
+          ∙ named_kept client before.keeper.kept);
+      names = names_itself client old.keeper.kept;
+      later = omega (arith, ap (λ (k : KeeperNow). k.faults) keeper);
+      target = ap (λ (l : LineNow). l.target) line;
+      input = ap (λ (o : OutsideNow). o.input) same;
+      out = ap (λ (o : OutsideNow). o.out) same;
+      clock = ap (λ (o : OutsideNow). o.clock) same;
+    }
+
+pub owned : (client : List ℕ) (before named : OutsideNow) → IsFresh before →
+    Owns before (Ok client) named → IsOwned client before named
+owned client before named fresh (inl was) =
+    subst (λ (o : OutsideNow). IsOwned client before o) (sym was.same)
+    (owned_before client before fresh was.named)
+owned client before named fresh (inr is) =
+    subst (λ (o : OutsideNow). IsOwned client before o) (sym is.made)
+    (owned_now client before (record before { entropy = named.entropy }) fresh refl)
 
 -- ---- or it isn't
 
-pub unowned : (before after : OwnNow) (error : OwnErr) → Owns before (Err error) after →
-    IsAsBefore before.site after.site
-unowned before after own_errors.KeeperFault h = h.1
-unowned before after own_errors.EntropyFault h = record {
-  kept = ap (λ (s : SiteNow). s.keeper.kept) h.1;
-  trail = ap (λ (s : SiteNow). s.trail) h.1;
-  made = ap (λ (s : SiteNow). s.made) h.1;
-}
-unowned before after own_errors.NoMemory h = h
+-- nothing was done then
+pub record IsLeft (before after : OutsideNow) : Type 0 where
+  pub line : after.line ≡ before.line
+  pub kept : after.keeper.kept ≡ before.keeper.kept
+  pub made : after.made ≡ before.made
+  pub input : after.input ≡ before.input
+  pub out : after.out ≡ before.out
+  pub clock : after.clock ≡ before.clock
 
--- why the command ends then
-pub explained_unowned : (verb : Option Verb) (before after : Outside) (trail : List Event)
-    (made : List Change) (error : OwnErr) →
-    Owns (own before.keeper before.entropy [] []) (Err error)
-    (own after.keeper after.entropy trail made) → IsUncalled trail →
-    IsExplained verb before (did trail made) (own_status error) after
-explained_unowned verb before after trail made own_errors.KeeperFault h uncalled = h.0
-explained_unowned verb before after trail made own_errors.EntropyFault h uncalled = h.0
-explained_unowned verb before after trail made own_errors.NoMemory h uncalled =
-    unfailed_uncalled trail uncalled
+left_same : (before after : OutsideNow) (keeper : KeeperNow) → keeper.kept ≡ before.keeper.kept →
+    after ≡ record before { keeper = keeper; entropy = after.entropy } → IsLeft before after
+left_same before after keeper kept same = record {
+  line = ap (λ (o : OutsideNow). o.line) same;
+  kept = ap (λ (o : OutsideNow). o.keeper.kept) same ∙ kept;
+  made = ap (λ (o : OutsideNow). o.made) same;
+  input = ap (λ (o : OutsideNow). o.input) same;
+  out = ap (λ (o : OutsideNow). o.out) same;
+  clock = ap (λ (o : OutsideNow). o.clock) same;
+}
+
+left : (before after : OutsideNow) (error : OwnErr) → Owns before (Err error) after →
+    IsLeft before after
+left before after own_errors.KeeperFault h =
+    left_same before after (record after.keeper { kept = before.keeper.kept }) refl h.same
+left before after own_errors.EntropyFault h = left_same before after before.keeper refl h.1
+left before after own_errors.NoMemory h = left_same before after before.keeper refl h
+
+explained_unowned : (v : Verb) (before after : OutsideNow) (error : OwnErr) →
+    Owns before (Err error) after → IsUncalled after.line.trail →
+    IsExplained (Some v) before (own_status error) after
+explained_unowned v before after own_errors.KeeperFault h uncalled = h.risen
+explained_unowned v before after own_errors.EntropyFault h uncalled = h.0
+explained_unowned v before after own_errors.NoMemory h uncalled =
+    unfailed_uncalled after.line.trail uncalled
+
+-- a command that runs a session of the client that the tables name, and comes to nothing
+pub comes_unowned : (v : Verb) (session : Session) (before after : OutsideNow) (error : OwnErr) →
+    IsFresh before → (used (Some v)).session ≡ Some session → (used (Some v)).input ≡ None →
+    (used (Some v)).tables ≡ true → (used (Some v)).clock ≡ false → (used (Some v)).random ≡ true →
+    ComesTo v before (Err (own_status error)) after → Owns before (Err error) after →
+    Comes v before (Err (own_status error)) after
+comes_unowned v session before after error fresh runs unread tabled timeless draws comes owns =
+    let h = left before after error owns in
+    let trail : after.line.trail ≡ [] = ap (λ (l : LineNow). l.trail) h.line ∙ fresh.unwritten in
+    let behind : IsFresh after = record { unwritten = trail; unchanged = h.made ∙ fresh.unchanged } in
+    let uncalled = uncalled_yet after behind in
+    record {
+      comes = comes;
+      quiet = h.out;
+      explained = λ status is.
+          let same : own_status error ≡ status = cc is in
+          subst (λ (s : Status). IsExplained (Some v) before s after) same
+          (explained_unowned v before after error owns uncalled);
+      sessions = λ status told.
+          subst (λ (s : Option Session). Sessions s after.keeper after.line.trail status) (sym runs)
+          (inl uncalled);
+      tables = keeps_none (used (Some v)).bytes before.keeper after.keeper after.made
+          behind.unchanged h.kept;
+      target = subst (λ (t : TargetNow). UsesTarget before.line.target after.line.trail t)
+          (sym (ap (λ (l : LineNow). l.target) h.line))
+          (uses_changes before.line.target after.line.trail uncalled);
+      alone = record {
+        input = rw unread h.input;
+        target = rw runs tt;
+        tables = rw tabled tt;
+        clock = rw timeless h.clock;
+        random = rw draws tt;
+      };
+      licensed = none_licensed before after behind;
+    }

@@ -4,38 +4,44 @@ use Rattle.std.proofs.Common.{Bool, true, false, Option, Some, None, Ok, Err}
 use Rattle.std.specs.Prelude.{option_map}
 use Rattle.std.proofs.lemmas.List.{append-nil}
 use Rattle.std.proofs.lemmas.List.Elements.{All-nil}
-use Rattle.exit_status.specs.Outcomes.{Emits, Outcome}
-use Rattle.exit_status.specs.Statuses.{is_early, is_refusal, usage_line}
-use Rattle.exit_status.specs.declared.status.Status.{Status}
-use Rattle.exit_status.specs.declared.status.Status.TheVariants as statuses
+use Rattle.client.specs.Outside.{OutsideNow}
+use Rattle.jop_cli.specs.Causes.{IsUnexplained, IsExplained}
+use Rattle.jop_cli.specs.Commands.{ComesTo, Uses, nothing, used}
+use Rattle.jop_cli.specs.Commands.Sessions.{IsChange, IsUncalled, Session}
+use Rattle.jop_cli.specs.Run.{Acts, AnswersWords, Does, HasLicences, IsFresh, IsUnsaved, KeepsChanges, LeavesAlone, LeavesTables, LeavesTarget, Prints, Sessions, TidiesTold, UsesTarget, may_be_late, with_changes}
+use Rattle.jop_cli.specs.Worlds.{EmitsTo}
 use Rattle.jop_outside.specs.Clocks.{ClockNow}
-use Rattle.jop_outside.specs.Outside.{SourceNow}
+use Rattle.jop_outside.specs.Outside.{HasRisen, SinkNow, SourceNow}
 use Rattle.jop_outside.specs.Random.{EntropyNow}
 use Rattle.jop_outside.specs.Reading.{IsRestOf}
+use Rattle.jop_status.specs.Outcomes.{Emits, Outcome}
+use Rattle.jop_status.specs.Statuses.{is_early, is_refusal}
+use Rattle.jop_status.specs.declared.status.Status.{Status}
+use Rattle.jop_status.specs.declared.status.Status.TheVariants as statuses
 use Rattle.jop_target.specs.Replies.{TargetNow}
 use Rattle.jop_target.specs.Runs.{Continues, LeadsTo, TellsRun, has_failed}
 use Rattle.jop_target.specs.Store.{Store}
+use Rattle.jop_target.specs.Trail.{LineNow}
 use Rattle.jop_target.specs.declared.event.Event.{Event}
 use Rattle.jop_target.specs.declared.event.Event.TheVariants.{Began, Called, Ended, Made, Sent}
-use Rattle.kept_tables.specs.Trails.{KeepsNotes}
-use Rattle.lease.proofs.WholeSessions.{line_of}
-use Rattle.licences.specs.Deeds.{deeds_of}
-use Rattle.licences.specs.Licences.{Each, ObeysData}
-use Rattle.licences.specs.Views.{at_rest}
-use Rattle.local_commands.proofs.Acting.{none_kept}
+use Rattle.jop_words.specs.declared.verb.Verb.{Verb}
+use Rattle.jop_words.specs.declared.verb.Verb.TheVariants.{Local, Tidy}
+use Rattle.keeper.specs.Keepers.{KeeperNow, Kept}
+use Rattle.law_kept.specs.Trails.{KeepsNotes}
+use Rattle.law_licences.specs.Deeds.{deeds_of}
+use Rattle.law_licences.specs.Licences.{Each, ObeysData}
+use Rattle.law_licences.specs.Views.{at_rest}
+use Rattle.local_commands.specs.Keeping.{kept_after_all}
 use Rattle.local_commands.specs.Sparing.{SparesClock, SparesInput, SparesRandom}
 use Rattle.local_commands.specs.declared.local_command.LocalCommand.{LocalCommand}
 use Rattle.local_store.specs.Changing.{after_all}
-use Rattle.table_keeper.specs.Keepers.{KeeperNow, Kept}
 use Rattle.local_store.specs.declared.change.Change.{Change}
 use Rattle.local_store.specs.declared.tables.Tables.{Tables}
-use Rattle.jop_cli.specs.Causes.{HasNoCause, IsExplained}
-use Rattle.jop_cli.specs.Commands.{ComesTo, Uses, used}
-use Rattle.jop_cli.specs.Commands.Sessions.{IsChange, IsUncalled, Session}
-use Rattle.jop_cli.specs.Outside.{Outside, Ran, did}
-use Rattle.jop_cli.specs.Run.{Acts, Answers, Does, HasLicences, IsIdle, IsUnsaved, KeepsChanges, LeavesAlone, LeavesTables, LeavesTarget, Obeys, Prints, Sessions, TidiesTold, UsesTarget, may_be_late, with_changes}
-use Rattle.command_line.specs.declared.verb.Verb.{Verb}
-use Rattle.command_line.specs.declared.verb.Verb.TheVariants.{Help, Local, Tidy}
+
+-- ---- nothing is written down yet
+
+pub uncalled_yet : (o : OutsideNow) → IsFresh o → IsUncalled o.line.trail
+uncalled_yet o fresh = subst IsUncalled (sym fresh.unwritten) (All-nil IsChange)
 
 -- ---- the target
 
@@ -81,30 +87,20 @@ tells_behind old more (Some s) after h tells =
     (tells.0, tells.1, leads_behind old more s tells.0 h tells.2)
 
 -- what a line adds behind changes was done to its target
-pub uses_behind : (P : Event → Type 0) (before after : TargetNow) (old trail : List Event) →
-    IsUncalled old → Continues P (line_of old before) (line_of trail after) →
-    UsesTarget before trail after
-uses_behind P before after old trail uncalled h =
-    subst (λ (t : List Event). UsesTarget before t after) (sym h.trail) (record {
+pub uses_behind : (P : Event → Type 0) (old new : LineNow) → IsUncalled old.trail →
+    Continues P old new → UsesTarget old.target new.trail new.target
+uses_behind P old new uncalled h =
+    subst (λ (t : List Event). UsesTarget old.target t new.target) (sym h.trail) (record {
       later = h.later;
-      fault = λ failed. h.fault (sym (unfailed old h.more uncalled) ∙ failed);
-      stays = λ failed. h.stays (sym (unfailed old h.more uncalled) ∙ failed);
-      told = tells_behind old h.more before.store after.store uncalled h.store;
+      fault = λ failed. h.fault (sym (unfailed old.trail h.more uncalled) ∙ failed);
+      stays = λ failed. h.stays (sym (unfailed old.trail h.more uncalled) ∙ failed);
+      told = tells_behind old.trail h.more old.target.store new.target.store uncalled h.store;
     })
 
 told_none : (store : Option Store) → TellsRun store [] store
 unfolding LeadsTo
 told_none None = refl
 told_none (Some s) = (s, refl, refl)
-
-pub uses_none : (target : TargetNow) → UsesTarget target [] target
-unfolding has_failed
-uses_none target = record {
-  later = omega arith;
-  fault = λ failed. absurd (cc failed);
-  stays = λ _. refl;
-  told = told_none target.store;
-}
 
 same_behind : (target : TargetNow) (trail : List Event) → IsUncalled trail →
     UsesTarget target (trail ++ []) target
@@ -130,14 +126,36 @@ unfolding after_all
 unchanged None = refl
 unchanged (Some kept) = refl
 
-pub keeps_none : (keeper after : KeeperNow) → after.kept ≡ keeper.kept →
-    KeepsChanges false keeper [] after
-keeps_none keeper after same = same ∙ unchanged keeper.kept
+none_kept : (kept : Option Kept) → kept ≡ option_map (kept_after_all []) kept
+none_kept None = refl
+none_kept (Some k) = refl
 
--- so does a command that may save bytes, and did not
-keeps_nothing : (bytes : Bool) (keeper : KeeperNow) → KeepsChanges bytes keeper [] keeper
-keeps_nothing false keeper = keeps_none keeper keeper refl
-keeps_nothing true keeper = record { acts = []; changes = refl; kept = none_kept keeper.kept }
+keeps_nothing : (bytes : Bool) (before after : KeeperNow) → after.kept ≡ before.kept →
+    KeepsChanges bytes before [] after
+keeps_nothing false before after same = same ∙ unchanged before.kept
+keeps_nothing true before after same =
+    record { acts = []; changes = refl; kept = same ∙ none_kept before.kept }
+
+-- no change was made, and what is kept is as it was
+pub keeps_none : (bytes : Bool) (before after : KeeperNow) (made : List Change) → made ≡ [] →
+    after.kept ≡ before.kept → KeepsChanges bytes before made after
+keeps_none bytes before after made none same =
+    subst (λ (m : List Change). KeepsChanges bytes before m after) (sym none)
+    (keeps_nothing bytes before after same)
+
+-- ---- licences
+
+obeys_none : (t : Tables) → ObeysData (at_rest t) (deeds_of [] [])
+unfolding deeds_of Each
+obeys_none t = tt
+
+-- nothing was done
+pub none_licensed : (before after : OutsideNow) → IsFresh after → HasLicences before after
+none_licensed before after fresh = λ k told.
+    subst (λ (t : List Event). ObeysData (at_rest k.tables) (deeds_of t after.made))
+    (sym fresh.unwritten)
+    (subst (λ (m : List Change). ObeysData (at_rest k.tables) (deeds_of [] m)) (sym fresh.unchanged)
+    (obeys_none k.tables))
 
 -- ---- without a cause
 
@@ -147,62 +165,56 @@ went_or_not statuses.Ok = inr (inl refl)
 went_or_not statuses.NoMemory = inr (inr refl)
 went_or_not status = inl refl
 
-completes : (verb : Option Verb) (before after : Outside) (ran : Ran) (status : Status) →
-    IsExplained verb before ran status after → HasNoCause verb before ran after →
+completes : (verb : Option Verb) (before after : OutsideNow) (status : Status) →
+    IsExplained verb before status after → IsUnexplained verb before after →
     (status ≡ statuses.Ok) ⊎ (status ≡ statuses.NoMemory)
-completes verb before after ran status explained none = elim (went_or_not status) [
+completes verb before after status explained none = elim (went_or_not status) [
   | inl refusal ↦ absurd (none status refusal explained)
   | inr well ↦ well
 ]
 
 -- ---- what is printed
 
-unprinted : (verb : Option Verb) (before after : Outside) (ran : Ran) (status : Status) →
-    is_early status ≡ true → after.out ≡ before.out → Prints verb before ran status after
-unprinted verb before after ran statuses.Ok early same = cc
-unprinted verb before after ran statuses.SinkFault early same = cc
-unprinted verb before after ran status early same = same
+unprinted : (verb : Option Verb) (before after : OutsideNow) (status : Status) →
+    is_early status ≡ true → after.out ≡ before.out → Prints verb before status after
+unprinted verb before after statuses.Ok early same = cc
+unprinted verb before after statuses.SinkFault early same = cc
+unprinted verb before after status early same = same
 
-as_status : (verb : Option Verb) (before after : Outside) (ran : Ran) (s t : Status) →
-    s ≡ t → Prints verb before ran t after → Prints verb before ran s after
-as_status verb before after ran s t is h =
-    subst (λ (x : Status). Prints verb before ran x after) (sym is) h
+as_status : (verb : Option Verb) (before after : OutsideNow) (s t : Status) → s ≡ t →
+    Prints verb before t after → Prints verb before s after
+as_status verb before after s t is h =
+    subst (λ (x : Status). Prints verb before x after) (sym is) h
 
-prints_obeyed : (v : Verb) (before after : Outside) (ran : Ran) (status : Status)
-    (outcome : Outcome) → ComesTo v before ran outcome after →
-    Emits outcome before.out status after.out → Prints (Some v) before ran status after
-prints_obeyed v before after ran status (Ok text) comes (inl went) =
-    as_status (Some v) before after ran status statuses.Ok went.0 (text, (v, refl, comes), went.1)
-prints_obeyed v before after ran status (Ok text) comes (inr cut) =
-    as_status (Some v) before after ran status statuses.SinkFault cut.0
-    (text, (v, refl, comes), cut.1)
-prints_obeyed v before after ran status (Err error) comes emits =
-    as_status (Some v) before after ran status error emits.0
-    (unprinted (Some v) before after ran error emits.1 emits.2)
+prints_obeyed : (v : Verb) (before mid after : OutsideNow) (status : Status) (outcome : Outcome) →
+    ComesTo v before outcome mid → after ≡ record mid { out = after.out } →
+    mid.out ≡ before.out → Emits outcome before.out status after.out →
+    Prints (Some v) before status after
+prints_obeyed v before mid after status (Ok text) comes same quiet (inl went) =
+    as_status (Some v) before after status statuses.Ok went.0
+    (text, (v, refl, mid, comes, same), went.1)
+prints_obeyed v before mid after status (Ok text) comes same quiet (inr cut) =
+    as_status (Some v) before after status statuses.SinkFault cut.0
+    (text, (v, refl, mid, comes, same), cut.1)
+prints_obeyed v before mid after status (Err error) comes same quiet emits =
+    as_status (Some v) before after status error emits.0
+    (unprinted (Some v) before after error emits.1 emits.2)
 
-quiet : (before after : Outside) (ran : Ran) → IsIdle before ran after → after.out ≡ before.out
-quiet before after ran idle = ap (λ (o : Outside). o.out) idle.same
+quiet : (before after : OutsideNow) → after ≡ before → after.out ≡ before.out
+quiet before after same = ap (λ (o : OutsideNow). o.out) same
 
-prints_of : (verb : Option Verb) (before after : Outside) (ran : Ran) (status : Status) →
-    Answers verb before ran status after → Prints verb before ran status after
-prints_of None before after ran status (inl usage, idle) =
-    as_status None before after ran status statuses.Usage usage (quiet before after ran idle)
-prints_of None before after ran status (inr memory, idle) =
-    as_status None before after ran status statuses.NoMemory memory (quiet before after ran idle)
-prints_of (Some v) before after ran status (inl memory) =
-    as_status (Some v) before after ran status statuses.NoMemory memory.0
-    (quiet before after ran memory.1)
-prints_of (Some v) before after ran status (inr obeys) =
-    prints_obeyed v before after ran status obeys.outcome obeys.comes obeys.emits
-
--- what was printed explains how it ends
-pub explained_emit : (verb : Option Verb) (before after : Outside) (ran : Ran) (status : Status)
-    (text : List ℕ) → Emits (Ok text) before.out status after.out →
-    IsExplained verb before ran status after
-explained_emit verb before after ran status text (inl went) =
-    subst (λ (s : Status). IsExplained verb before ran s after) (sym went.0) tt
-explained_emit verb before after ran status text (inr cut) =
-    subst (λ (s : Status). IsExplained verb before ran s after) (sym cut.0) cut.1.rose
+prints_of : (verb : Option Verb) (before after : OutsideNow) (status : Status) →
+    AnswersWords verb before status after → Prints verb before status after
+prints_of None before after status (inl usage, idle) =
+    as_status None before after status statuses.Usage usage (quiet before after idle)
+prints_of None before after status (inr memory, idle) =
+    as_status None before after status statuses.NoMemory memory (quiet before after idle)
+prints_of (Some v) before after status (inl memory) =
+    as_status (Some v) before after status statuses.NoMemory memory.0 (quiet before after memory.1)
+prints_of (Some v) before after status (inr obeys) =
+    prints_obeyed v before obeys.mid after status obeys.outcome obeys.comes obeys.emits.same
+    obeys.quiet
+    (subst (λ (o : SinkNow). Emits obeys.outcome o status after.out) obeys.quiet obeys.emits.emits)
 
 -- ---- what is left alone
 
@@ -215,7 +227,7 @@ leaves_input None input = refl
 leaves_input (Some limit) input = record { later = omega arith; rest = rest_all limit input.left }
 
 leaves_target : (session : Option Session) (target : TargetNow) →
-    LeavesTarget session target (did [] []) target
+    LeavesTarget session target [] [] target
 leaves_target None target = (refl, refl)
 leaves_target (Some session) target = tt
 
@@ -231,134 +243,200 @@ leaves_random : (uses : Bool) (entropy : EntropyNow) → SparesRandom uses entro
 leaves_random false entropy = refl
 leaves_random true entropy = tt
 
-leaves_all : (uses : Uses) (before : Outside) → LeavesAlone uses before (did [] []) before
-leaves_all uses before = record {
+leaves_all : (uses : Uses) (before : OutsideNow) → IsFresh before → LeavesAlone uses before before
+leaves_all uses before fresh = record {
   input = leaves_input uses.input before.input;
-  target = leaves_target uses.session before.target;
-  tables = leaves_tables uses.tables before.keeper;
+  target = rw (fresh.unwritten, fresh.unchanged) (leaves_target uses.session before.line.target);
+  tables = rw fresh.unchanged (leaves_tables uses.tables before.keeper);
   clock = leaves_clock uses.clock before.clock;
   random = leaves_random uses.random before.entropy;
 }
 
 -- ---- nothing is done
 
-no_sessions : (session : Option Session) (keeper : KeeperNow) (status : Status) →
-    Sessions session keeper [] status
-no_sessions None keeper status = All-nil IsChange
-no_sessions (Some session) keeper status = inl (All-nil IsChange)
-
-pub none_licensed : (before : Outside) → HasLicences before (did [] [])
-unfolding deeds_of Each
-none_licensed before = λ k told. tt
+no_sessions : (session : Option Session) (keeper : KeeperNow) (trail : List Event) (status : Status) →
+    IsUncalled trail → Sessions session keeper trail status
+no_sessions None keeper trail status uncalled = uncalled
+no_sessions (Some session) keeper trail status uncalled = inl uncalled
 
 -- nothing was done, for this status
-acts_none : (verb : Option Verb) (before : Outside) (status : Status) →
-    Answers verb before (did [] []) status before →
-    IsExplained verb before (did [] []) status before → Acts verb before (did [] []) status before
-acts_none verb before status answers explained = record {
+acts_none : (verb : Option Verb) (before : OutsideNow) (status : Status) → IsFresh before →
+    AnswersWords verb before status before → IsExplained verb before status before →
+    Acts verb before status before
+acts_none verb before status fresh answers explained = record {
   answers = answers;
   explained = explained;
-  sessions = no_sessions (used verb).session before.keeper status;
-  tables = keeps_nothing (used verb).bytes before.keeper;
-  target = uses_none before.target;
-  alone = leaves_all (used verb) before;
-  licensed = none_licensed before;
+  sessions = no_sessions (used verb).session before.keeper before.line.trail status
+      (uncalled_yet before fresh);
+  tables = keeps_none (used verb).bytes before.keeper before.keeper before.made fresh.unchanged refl;
+  target = uses_changes before.line.target before.line.trail (uncalled_yet before fresh);
+  alone = leaves_all (used verb) before fresh;
+  licensed = none_licensed before before fresh;
 }
 
-idle : (before : Outside) → IsIdle before (did [] []) before
-idle before = record { uncalled = refl; unchanged = refl; same = refl }
+no_memory : (verb : Option Verb) (before : OutsideNow) →
+    AnswersWords verb before statuses.NoMemory before
+no_memory None before = (inr refl, refl)
+no_memory (Some verb) before = inl (refl, refl)
 
-no_memory : (verb : Option Verb) (before : Outside) →
-    Answers verb before (did [] []) statuses.NoMemory before
-no_memory None before = (inr refl, idle before)
-no_memory (Some verb) before = inl (refl, idle before)
+pub starved : (verb : Option Verb) (before : OutsideNow) → IsFresh before →
+    Acts verb before statuses.NoMemory before
+starved verb before fresh =
+    acts_none verb before statuses.NoMemory fresh (no_memory verb before)
+    (unfailed_uncalled before.line.trail (uncalled_yet before fresh))
 
-as_none : (verb : Option Verb) (before : Outside) (trail : List Event) (made : List Change)
-    (status : Status) → trail ≡ [] → made ≡ [] → Acts verb before (did [] []) status before →
-    Acts verb before (did trail made) status before
-as_none verb before trail made status uncalled unchanged h = rw (uncalled, unchanged) h
+pub misused : (verb : Option Verb) (before : OutsideNow) → verb ≡ None → IsFresh before →
+    Acts verb before statuses.Usage before
+misused verb before none fresh =
+    subst (λ (v : Option Verb). Acts v before statuses.Usage before) (sym none)
+    (acts_none None before statuses.Usage fresh (inl refl, refl) refl)
 
-pub starved : (verb : Option Verb) (before : Outside) (trail : List Event) (made : List Change) →
-    trail ≡ [] → made ≡ [] → Acts verb before (did trail made) statuses.NoMemory before
-starved verb before trail made uncalled unchanged =
-    as_none verb before trail made statuses.NoMemory uncalled unchanged
-    (acts_none verb before statuses.NoMemory (no_memory verb before)
-    (unfailed_uncalled [] (All-nil IsChange)))
+-- ---- what a command came to
 
-pub misused : (verb : Option Verb) (before : Outside) (trail : List Event) (made : List Change) →
-    verb ≡ None → trail ≡ [] → made ≡ [] → Acts verb before (did trail made) statuses.Usage before
-misused verb before trail made none uncalled unchanged =
-    subst (λ (v : Option Verb). Acts v before (did trail made) statuses.Usage before) (sym none)
-    (as_none None before trail made statuses.Usage uncalled unchanged
-    (acts_none None before statuses.Usage (inl refl, idle before) refl))
+-- an outcome is told as this status
+abbrev pub IsToldAs : Outcome → Status → Type 0
+IsToldAs (Ok text) status = (status ≡ statuses.Ok) ⊎ (status ≡ statuses.SinkFault)
+IsToldAs (Err error) status = status ≡ error
 
--- ---- a command by its name
+-- what a command has done before anything is printed, and what it is told as
+pub record Comes (v : Verb) (before : OutsideNow) (outcome : Outcome) (mid : OutsideNow)
+    : Type 0 where
+  pub comes : ComesTo v before outcome mid
+  pub quiet : mid.out ≡ before.out
+  pub explained : (error : Status) → outcome ≡ Err error → IsExplained (Some v) before error mid
+  pub sessions : (status : Status) → IsToldAs outcome status →
+      Sessions (used (Some v)).session mid.keeper mid.line.trail status
+  pub tables : KeepsChanges (used (Some v)).bytes before.keeper mid.made mid.keeper
+  pub target : UsesTarget before.line.target mid.line.trail mid.line.target
+  pub alone : LeavesAlone (used (Some v)) before mid
+  pub licensed : HasLicences before mid
 
-pub acts_as : (verb v : Verb) (before after : Outside) (ran : Ran) (status : Status) → verb ≡ v →
-    Acts (Some v) before ran status after → Acts (Some verb) before ran status after
-acts_as verb v before after ran status is h =
-    subst (λ (x : Verb). Acts (Some x) before ran status after) (sym is) h
+told_as : (outcome : Outcome) (a b : SinkNow) (status : Status) → Emits outcome a status b →
+    IsToldAs outcome status
+told_as (Ok text) a b status (inl went) = inl went.0
+told_as (Ok text) a b status (inr cut) = inr cut.0
+told_as (Err error) a b status emits = emits.0
 
--- nothing was changed
-pub as_unchanged : (verb : Option Verb) (before after : Outside) (trail : List Event)
-    (made : List Change) (status : Status) → made ≡ [] → Acts verb before (did trail []) status after →
-    Acts verb before (did trail made) status after
-as_unchanged verb before after trail made status none h =
-    subst (λ (m : List Change). Acts verb before (did trail m) status after) (sym none) h
+-- what was printed explains how it ends
+explained_emit : (v : Verb) (before mid : OutsideNow) (outcome : Outcome) (status : Status)
+    (out : SinkNow) → Comes v before outcome mid → Emits outcome mid.out status out →
+    IsExplained (Some v) before status (record mid { out = out })
+explained_emit v before mid (Ok text) status out h (inl went) =
+    subst (λ (s : Status). IsExplained (Some v) before s (record mid { out = out })) (sym went.0) tt
+explained_emit v before mid (Ok text) status out h (inr cut) =
+    subst (λ (s : Status). IsExplained (Some v) before s (record mid { out = out })) (sym cut.0)
+    (subst (λ (o : SinkNow). HasRisen o.faults out.faults) h.quiet cut.1.rose)
+explained_emit v before mid (Err error) status out h emits =
+    subst (λ (s : Status). IsExplained (Some v) before s (record mid { out = out })) (sym emits.0)
+    (subst (λ (o : SinkNow). IsExplained (Some v) before error (record mid { out = o }))
+    (sym emits.2) (h.explained error refl))
+
+emitted : (v : Verb) (before mid : OutsideNow) (outcome : Outcome) (status : Status) (out : SinkNow) →
+    Comes v before outcome mid → Emits outcome mid.out status out →
+    Acts (Some v) before status (record mid { out = out })
+emitted v before mid outcome status out h emits = record {
+  answers = inr (record {
+    outcome = outcome;
+    mid = mid;
+    comes = h.comes;
+    quiet = h.quiet;
+    emits = record { emits = emits; same = refl };
+  });
+  explained = explained_emit v before mid outcome status out h emits;
+  sessions = h.sessions status (told_as outcome mid.out out status emits);
+  tables = h.tables;
+  target = h.target;
+  alone = record {
+    input = h.alone.input;
+    target = h.alone.target;
+    tables = h.alone.tables;
+    clock = h.alone.clock;
+    random = h.alone.random;
+  };
+  licensed = h.licensed;
+}
+
+-- whatever is printed then
+pub acts_emitted : (v : Verb) (before mid after : OutsideNow) (outcome : Outcome) (status : Status) →
+    Comes v before outcome mid → EmitsTo outcome mid status after → Acts (Some v) before status after
+acts_emitted v before mid after outcome status h emits =
+    subst (λ (a : OutsideNow). Acts (Some v) before status a) (sym emits.same)
+    (emitted v before mid outcome status after.out h emits.emits)
+
+-- nothing is printed of a refusal
+pub acts_refused : (v : Verb) (before mid : OutsideNow) (error status : Status) →
+    Comes v before (Err error) mid → status ≡ error → is_early error ≡ true →
+    Acts (Some v) before status mid
+acts_refused v before mid error status h is early =
+    emitted v before mid (Err error) status mid.out h (is, early, refl)
 
 -- a command that touches neither target nor tables
-pub acts_quiet : (v : Verb) (before after : Outside) (trail : List Event) (made : List Change)
-    (status : Status) → trail ≡ [] → made ≡ [] → (used (Some v)).session ≡ None →
-    (used (Some v)).bytes ≡ false →
-    after.target ≡ before.target → after.keeper ≡ before.keeper →
-    Obeys v before (did [] []) status after → IsExplained (Some v) before (did [] []) status after →
-    LeavesAlone (used (Some v)) before (did [] []) after →
-    Acts (Some v) before (did trail made) status after
-acts_quiet v before after trail made status uncalled unchanged none nowhere same kept obeys explained alone =
-    rw (uncalled, unchanged) (record {
-      answers = inr obeys;
+pub comes_quiet : (v : Verb) (before mid : OutsideNow) (outcome : Outcome) → IsFresh before →
+    (used (Some v)).session ≡ None → (used (Some v)).tables ≡ false →
+    (used (Some v)).clock ≡ false → (used (Some v)).random ≡ false →
+    ComesTo v before outcome mid → mid ≡ record before { input = mid.input } →
+    SparesInput (used (Some v)).input before.input mid.input →
+    ((error : Status) → outcome ≡ Err error → IsExplained (Some v) before error mid) →
+    Comes v before outcome mid
+comes_quiet v before mid outcome fresh none untouched timeless drawless comes same input explained =
+    let line = ap (λ (o : OutsideNow). o.line) same in
+    let keeper = ap (λ (o : OutsideNow). o.keeper) same in
+    let made = ap (λ (o : OutsideNow). o.made) same in
+    let after : IsFresh mid = record {
+      unwritten = ap (λ (l : LineNow). l.trail) line ∙ fresh.unwritten;
+      unchanged = made ∙ fresh.unchanged;
+    } in
+    record {
+      comes = comes;
+      quiet = ap (λ (o : OutsideNow). o.out) same;
       explained = explained;
-      sessions = subst (λ (s : Option Session). Sessions s after.keeper [] status) (sym none)
-          (All-nil IsChange);
-      tables = subst (λ (b : Bool). KeepsChanges b before.keeper [] after.keeper) (sym nowhere)
-          (keeps_none before.keeper after.keeper (ap (λ (k : KeeperNow). k.kept) kept));
-      target = subst (λ (t : TargetNow). UsesTarget before.target [] t) (sym same)
-          (uses_none before.target);
-      alone = alone;
-      licensed = none_licensed before;
-    })
+      sessions = λ status told.
+          no_sessions (used (Some v)).session mid.keeper mid.line.trail status
+          (uncalled_yet mid after);
+      tables = keeps_none (used (Some v)).bytes before.keeper mid.keeper mid.made after.unchanged
+          (ap (λ (k : KeeperNow). k.kept) keeper);
+      target = subst (λ (t : TargetNow). UsesTarget before.line.target mid.line.trail t)
+          (sym (ap (λ (l : LineNow). l.target) line))
+          (uses_changes before.line.target mid.line.trail (uncalled_yet mid after));
+      alone = record {
+        input = input;
+        target = rw (none, after.unwritten, after.unchanged)
+            (refl, ap (λ (l : LineNow). l.target) line);
+        tables = rw (untouched, after.unchanged) (refl, keeper);
+        clock = rw timeless (ap (λ (o : OutsideNow). o.clock) same);
+        random = rw drawless (ap (λ (o : OutsideNow). o.entropy) same);
+      };
+      licensed = none_licensed before mid after;
+    }
 
--- a command that prints a constant
-pub acts_help : (before after : Outside) (trail : List Event) (made : List Change)
-    (status : Status) → trail ≡ [] → made ≡ [] → after ≡ record before { out = after.out } →
-    Emits (Ok usage_line) before.out status after.out →
-    Acts (Some Help) before (did trail made) status after
-acts_help before after trail made status uncalled unchanged same emits =
-    acts_quiet Help before after trail made status uncalled unchanged refl refl
-    (ap (λ (o : Outside). o.target) same) (ap (λ (o : Outside). o.keeper) same)
-    (record { outcome = Ok usage_line; comes = refl; emits = emits })
-    (explained_emit (Some Help) before after (did [] []) status usage_line emits)
-    (record {
-      input = ap (λ (o : Outside). o.input) same;
-      target = (refl, ap (λ (o : Outside). o.target) same);
-      tables = (refl, ap (λ (o : Outside). o.keeper) same);
-      clock = ap (λ (o : Outside). o.clock) same;
-      random = ap (λ (o : Outside). o.entropy) same;
-    })
+-- a command that prints a constant, and uses nothing else
+pub comes_printed : (v : Verb) (before : OutsideNow) (text : List ℕ) → IsFresh before →
+    used (Some v) ≡ nothing → ComesTo v before (Ok text) before → Comes v before (Ok text) before
+comes_printed v before text fresh uses comes =
+    comes_quiet v before before (Ok text) fresh (ap (λ (u : Uses). u.session) uses)
+    (ap (λ (u : Uses). u.tables) uses) (ap (λ (u : Uses). u.clock) uses)
+    (ap (λ (u : Uses). u.random) uses) comes refl
+    (rw (ap (λ (u : Uses). u.input) uses) refl) (λ error is. absurd (cc is))
+
+-- a command by its name
+pub acts_as : (verb v : Verb) (before after : OutsideNow) (status : Status) → verb ≡ v →
+    Acts (Some v) before status after → Acts (Some verb) before status after
+acts_as verb v before after status is h =
+    subst (λ (x : Verb). Acts (Some x) before status after) (sym is) h
 
 -- ---- the whole
 
-pub does_of : (verb : Option Verb) (before after : Outside) (ran : Ran) (status : Status) →
+pub does_of : (verb : Option Verb) (before after : OutsideNow) (status : Status) →
     ((bytes : List ℕ) → verb ≡ Some Tidy → before.input.left ≡ Some bytes → TidiesTold bytes status) →
     ((command : LocalCommand) → verb ≡ Some (Local command) → may_be_late status ≡ false →
-    IsUnsaved before ran after) →
+    IsUnsaved before after) →
     ((client : List ℕ) (t : Tables) (trail : List Event) (made : List Change) →
     ObeysData (at_rest t) (deeds_of trail made) → KeepsNotes client t trail made) →
-    Acts verb before ran status after → Does verb before ran status after
-does_of verb before after ran status exact unsaved joined h = record {
+    Acts verb before status after → Does verb before status after
+does_of verb before after status exact unsaved joined h = record {
   answers = h.answers;
   explained = h.explained;
-  complete = completes verb before after ran status h.explained;
+  complete = completes verb before after status h.explained;
   exact = exact;
   unsaved = unsaved;
   sessions = h.sessions;
@@ -367,9 +445,27 @@ does_of verb before after ran status exact unsaved joined h = record {
       let obeys = h.licensed k told in
       record {
         obeys = obeys;
-        kept = λ client. joined client k.tables ran.trail ran.made obeys;
+        kept = λ client. joined client k.tables after.line.trail after.made obeys;
       };
   target = h.target;
   alone = h.alone;
-  out = prints_of verb before after ran status h.answers;
+  out = prints_of verb before after status h.answers;
 }
+
+-- by other names of what stands behind it
+pub does_as : (verb : Option Verb) (before after same : OutsideNow) (status : Status) →
+    Does verb before status after → after.line.trail ≡ same.line.trail →
+    after.line.target ≡ same.line.target → after.keeper ≡ same.keeper → after.made ≡ same.made →
+    after.input ≡ same.input → after.out ≡ same.out → after.clock ≡ same.clock →
+    after.entropy ≡ same.entropy → Does verb before status same
+does_as verb before after same status h trail target keeper made input out clock entropy =
+    let is : after ≡ same = λ i. record {
+      line = record { trail = trail i; target = target i };
+      keeper = keeper i;
+      made = made i;
+      input = input i;
+      out = out i;
+      clock = clock i;
+      entropy = entropy i;
+    } in
+    subst (λ (o : OutsideNow). Does verb before status o) is h

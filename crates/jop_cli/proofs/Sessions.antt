@@ -1,12 +1,13 @@
 -- What follows of how a session ended.
-use Rattle.std.proofs.Common.{◌≡◌, ◌∙◌, refl, sym, ap, inl, inr, ℕ, List, [], ◌∷◌, ◌++◌, append_assoc}
-use Rattle.std.proofs.Common.{Bool, true, false, ◌||◌, Result, Ok, Err}
-use Rattle.exit_status.specs.Outcomes.{Emits}
-use Rattle.exit_status.specs.Refusals.{session_status}
-use Rattle.exit_status.specs.Statuses.{is_early}
-use Rattle.exit_status.specs.declared.status.Status.{Status}
-use Rattle.exit_status.specs.declared.status.Status.TheVariants as statuses
-use Rattle.jop_outside.specs.Outside.{SinkNow}
+use Rattle.std.proofs.Common.{◌≡◌, ◌∙◌, refl, sym, ap, subst, inl, inr, ℕ, List, [], ◌∷◌, ◌++◌, append_assoc}
+use Rattle.std.proofs.Common.{Bool, true, false, ◌||◌, Option, Result, Ok, Err}
+use Rattle.jop_base.specs.declared.lock_name.LockKind.{LockKind}
+use Rattle.jop_base.specs.declared.lock_name.LockKind.TheVariants as kinds
+use Rattle.jop_cli.proofs.Runs.{IsToldAs}
+use Rattle.jop_cli.specs.Commands.Sessions.{lock_named, outcome_by, went_well}
+use Rattle.jop_status.specs.Refusals.{session_status}
+use Rattle.jop_status.specs.Statuses.{is_early}
+use Rattle.jop_status.specs.declared.status.Status.{Status}
 use Rattle.jop_target.proofs.Runs.{has_failed-append}
 use Rattle.jop_target.specs.Runs.{has_failed}
 use Rattle.jop_target.specs.declared.call.Call.{Call}
@@ -16,9 +17,9 @@ use Rattle.jop_target.specs.declared.reply.Reply.TheVariants.{Failed}
 use Rattle.lease.specs.Calls.{EndsFailed}
 use Rattle.lease.specs.WholeSession.{AddsWhole}
 use Rattle.lease.specs.declared.lock.Lock.{Lock}
+use Rattle.sync_run.specs.Leases.{KeepsLease, blocked_in, is_done}
 use Rattle.sync_run.specs.declared.session_err.SessionErr.{SessionErr}
 use Rattle.sync_run.specs.declared.session_err.SessionErr.TheVariants.{Busy, LeaseLost, TargetNewer, BadInfo, TargetFault, NoMemory}
-use Rattle.jop_cli.specs.Commands.Sessions.{outcome_by}
 
 pub early_session : (error : SessionErr) → is_early (session_status error) ≡ true
 early_session (Busy lock now) = refl
@@ -28,24 +29,45 @@ early_session BadInfo = refl
 early_session TargetFault = refl
 early_session NoMemory = refl
 
-busy_status : (error : SessionErr) (lock : Lock) (now : ℕ) →
-    session_status error ≡ statuses.Busy lock now → error ≡ Busy lock now
-busy_status (Busy l n) lock now is = cc (is)
-busy_status (LeaseLost seen) lock now is = cc (is)
-busy_status (TargetNewer version) lock now is = cc (is)
-busy_status BadInfo lock now is = cc (is)
-busy_status TargetFault lock now is = cc (is)
-busy_status NoMemory lock now is = cc (is)
+-- ---- what a lease promises
 
--- a busy status is that of a session that gave up for a lock
-pub busy_result : {T : Type 0} (text : T → List ℕ) (result : Result T SessionErr)
-    (before after : SinkNow) (status : Status) (lock : Lock) (now : ℕ) →
-    Emits (outcome_by text result) before status after → status ≡ statuses.Busy lock now →
-    result ≡ Err (Busy lock now)
-busy_result text (Ok value) before after status lock now (inl went) is = cc (went.0, is)
-busy_result text (Ok value) before after status lock now (inr cut) is = cc (cut.0, is)
-busy_result text (Err error) before after status lock now emits is =
-    ap (λ (e : SessionErr). Err e) (busy_status error lock now (sym emits.0 ∙ is))
+-- of a sync lock, whatever is said of an upgrade
+pub any_done : (client : List ℕ) (blocked : Option (Lock × ℕ)) (before after : Bool)
+    (events : List Event) → KeepsLease kinds.Sync client blocked before events →
+    KeepsLease kinds.Sync client blocked after events
+any_done client blocked before after events h = record {
+  obeys = h.obeys;
+  apart = h.apart;
+  exclusive = h.exclusive;
+  busy = h.busy;
+  redone = λ is. tt;
+}
+
+refused_lease : (T : Type 0) (kind : LockKind) (client : List ℕ) (error : SessionErr)
+    (events : List Event) → KeepsLease kind client (blocked_in {T = T} (Err error)) false events →
+    KeepsLease kind client (lock_named (session_status error)) (went_well (session_status error)) events
+refused_lease T kind client (Busy lock now) events h = h
+refused_lease T kind client (LeaseLost seen) events h = h
+refused_lease T kind client (TargetNewer version) events h = h
+refused_lease T kind client BadInfo events h = h
+refused_lease T kind client TargetFault events h = h
+refused_lease T kind client NoMemory events h = h
+
+-- what is promised by a session's answer is so by the status that it is told as
+pub told_lease : (T : Type 0) (text : T → List ℕ) (kind : LockKind) (client : List ℕ)
+    (result : Result T SessionErr) (status : Status) (events : List Event) →
+    IsToldAs (outcome_by text result) status →
+    KeepsLease kind client (blocked_in result) (is_done result) events →
+    KeepsLease kind client (lock_named status) (went_well status) events
+told_lease T text kind client (Ok value) status events (inl went) h =
+    subst (λ (s : Status). KeepsLease kind client (lock_named s) (went_well s) events) (sym went) h
+told_lease T text kind client (Ok value) status events (inr cut) h =
+    subst (λ (s : Status). KeepsLease kind client (lock_named s) (went_well s) events) (sym cut) h
+told_lease T text kind client (Err error) status events told h =
+    subst (λ (s : Status). KeepsLease kind client (lock_named s) (went_well s) events) (sym told)
+    (refused_lease T kind client error events h)
+
+-- ---- a session that failed
 
 or-true : (b : Bool) → (b || true) ≡ true
 or-true true = refl

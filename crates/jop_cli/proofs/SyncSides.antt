@@ -8,27 +8,30 @@ use Rattle.std.proofs.lemmas.Option.{same_Some}
 use Rattle.conflicts.specs.declared.report.SyncReport.{SyncReport}
 use Rattle.jop_target.specs.declared.event.Event.{Event}
 use Rattle.jop_target.specs.declared.event.Event.TheVariants.{Began, Called, Ended, Made, Sent}
-use Rattle.licences.proofs.Settled.{made_inside, stays_inside}
-use Rattle.licences.specs.Deeds.{Deed, Begins, Asks, Makes, MakesUntold, Ends, Stops, changes_in, deeds_of, events_of}
-use Rattle.licences.specs.Licences.{Each, IsInside, MayChange, MayDo, MergesInfo, ObeysData}
-use Rattle.licences.specs.Views.{View, at_rest, changed, heard, seen}
-use Rattle.local_commands.specs.Keeping.{Act, MakeChange, SaveBlob, kept_after_all}
+use Rattle.law_licences.proofs.Settled.{made_inside, stays_inside}
+use Rattle.law_licences.specs.Deeds.{Deed, Begins, Asks, Makes, MakesUntold, Ends, Stops, changes_in, deeds_of, events_of}
+use Rattle.law_licences.specs.Licences.{Each, IsInside, MayChange, MayDo, MergesInfo, ObeysData}
+use Rattle.law_licences.specs.Views.{View, at_rest, changed, heard, seen}
+use Rattle.local_commands.specs.Keeping.{kept_after_all}
+use Rattle.local_commands.specs.declared.act.Act.{Act}
+use Rattle.local_commands.specs.declared.act.Act.TheVariants.{MakeChange, SaveBlob}
 use Rattle.local_commands.specs.Keeping as keeping
 use Rattle.local_store.specs.Changing.{after, after_all, conflicted, uploaded}
-use Rattle.table_keeper.specs.Keepers.{IsOfKept, KeeperNow, Kept, with_blob}
-use Rattle.table_keeper.specs.Keepers as keepers
+use Rattle.keeper.specs.Keepers.{IsOfKept, KeeperNow, Kept, with_blob}
+use Rattle.keeper.specs.Keepers as keepers
 use Rattle.local_store.specs.Tables.{row_at}
-use Rattle.table_keeper.specs.declared.blob.Blob.{Blob}
+use Rattle.keeper.specs.declared.blob.Blob.{Blob}
 use Rattle.local_store.specs.declared.change.Change.{Change}
 use Rattle.local_store.specs.declared.change.Change.TheVariants.{Conflict, ContextIs, Dropped, Gone, InfoIs, Moved, Taken, Uploaded}
 use Rattle.local_store.specs.declared.content.Content.{Content}
 use Rattle.local_store.specs.declared.row.Row.{Row}
 use Rattle.local_store.specs.declared.tables.Tables.{Tables}
-use Rattle.session_steps.proofs.Joins.{kept_after-append}
-use Rattle.session_steps.specs.Saving.{kept_after, saved_all}
-use Rattle.session_steps.specs.Steps.{IsStep}
-use Rattle.site.specs.Owning.{NamesClient}
-use Rattle.sync_session.specs.Syncing.{AddsFrom, IsOpenSync, IsWholeSync, SyncNow, desk_at}
+use Rattle.session.proofs.Joins.{kept_after-append}
+use Rattle.session.specs.Saving.{kept_after_saves, saved_all}
+use Rattle.session.specs.Steps.{IsStep}
+use Rattle.client.specs.Owning.{NamesClient}
+use Rattle.client.specs.Sites.{SiteNow}
+use Rattle.sync_session.specs.Syncing.{AddsFrom, IsOpenSync, IsWholeSync}
 use Rattle.sync_session.specs.Telling.{Tells}
 use Rattle.sync_session.specs.Working.{is_sync}
 use Rattle.sync_session.specs.declared.sync_err.SyncErr.{SyncErr}
@@ -38,21 +41,21 @@ use Rattle.jop_cli.specs.Run.{KeepsChanges, with_changes}
 -- ---- what was made
 
 -- a session made these changes, and had these bytes of resources saved, and they are kept
-pub record IsAdded (old new : SyncNow) : Type 0 where
+pub record IsAdded (old new : SiteNow) : Type 0 where
   pub changes : List Change
   pub saves : List Blob
   pub made : new.made ≡ old.made ++ changes
-  pub kept : new.keeper.kept ≡ option_map (kept_after changes saves) old.keeper.kept
+  pub kept : new.keeper.kept ≡ option_map (kept_after_saves changes saves) old.keeper.kept
 
-of_tale : (t : Tables) (old new : SyncNow) → Tells (at_rest t) (desk_at t old) (desk_at t new) →
+of_tale : (old new : SiteNow) → Tells (at_rest old.tables) old new →
     IsAdded old new
-of_tale t old new h =
+of_tale old new h =
     record { changes = changes_in h.deeds; saves = h.saves; made = h.made; kept = h.kept }
 
-pub added : (client : List ℕ) (t : Tables) (old new : SyncNow) (result : Result SyncReport SyncErr) →
-    AddsFrom client t old result new → IsAdded old new
-added client t old new (Err NoMemory) h = of_tale t old new h.tells
-added client t old new result h = of_tale t old new h.tells
+pub added : (client : List ℕ) (old new : SiteNow) (result : Result SyncReport SyncErr) →
+    AddsFrom client old result new → IsAdded old new
+added client old new (Err NoMemory) h = of_tale old new h.tells
+added client old new result h = of_tale old new h.tells
 
 -- ---- as acts
 
@@ -60,48 +63,48 @@ added client t old new result h = of_tale t old new h.tells
 abbrev acts_of : List Change → List Blob → List Act
 acts_of changes saves = map MakeChange changes ++ map SaveBlob saves
 
-only_saves : (saves : List Blob) → keeping.changes_in (map SaveBlob saves) ≡ []
+only_saves : (saves : List Blob) → keeping.changes_among (map SaveBlob saves) ≡ []
 only_saves [] = refl
 only_saves (b ∷ saves) = only_saves saves
 
 acts_changes : (changes : List Change) (saves : List Blob) →
-    keeping.changes_in (acts_of changes saves) ≡ changes
+    keeping.changes_among (acts_of changes saves) ≡ changes
 acts_changes [] saves = only_saves saves
 acts_changes (c ∷ changes) saves = ap (λ (cs : List Change). c ∷ cs) (acts_changes changes saves)
 
 saves_kept : (saves : List Blob) (k : Kept) →
-    kept_after_all (map SaveBlob saves) k ≡ kept_after [] saves k
+    kept_after_all (map SaveBlob saves) k ≡ kept_after_saves [] saves k
 unfolding after_all saved_all
 saves_kept [] k = refl
 saves_kept (b ∷ saves) k = saves_kept saves (with_blob b.id b.bytes k)
 
 acts_kept : (changes : List Change) (saves : List Blob) (k : Kept) →
-    kept_after_all (acts_of changes saves) k ≡ kept_after changes saves k
+    kept_after_all (acts_of changes saves) k ≡ kept_after_saves changes saves k
 unfolding after_all
 acts_kept [] saves k = saves_kept saves k
 acts_kept (c ∷ changes) saves k = acts_kept changes saves (keepers.changed c k)
 
 all_kept : (changes : List Change) (saves : List Blob) (kept : Option Kept) →
     option_map (kept_after_all (acts_of changes saves)) kept
-    ≡ option_map (kept_after changes saves) kept
+    ≡ option_map (kept_after_saves changes saves) kept
 all_kept changes saves None = refl
 all_kept changes saves (Some k) = ap (λ (x : Kept). Some x) (acts_kept changes saves k)
 
 as_kept : (changes : List Change) (kept : Option Kept) →
-    option_map (with_changes changes) kept ≡ option_map (kept_after changes []) kept
+    option_map (with_changes changes) kept ≡ option_map (kept_after_saves changes []) kept
 unfolding saved_all
 as_kept changes None = refl
 as_kept changes (Some k) = refl
 
 -- behind changes alone, those of a session are kept with them
-pub keeps_acts : (keeper : KeeperNow) (old new : SyncNow) →
+pub keeps_acts : (keeper : KeeperNow) (old new : SiteNow) →
     KeepsChanges false keeper old.made old.keeper → IsAdded old new →
     KeepsChanges true keeper new.made new.keeper
 keeps_acts keeper old new before more = record {
   acts = acts_of (old.made ++ more.changes) more.saves;
   changes = more.made ∙ sym (acts_changes (old.made ++ more.changes) more.saves);
   kept = more.kept
-      ∙ (ap (option_map (kept_after more.changes more.saves)) (before ∙ as_kept old.made keeper.kept)
+      ∙ (ap (option_map (kept_after_saves more.changes more.saves)) (before ∙ as_kept old.made keeper.kept)
       ∙ (kept_after-append keeper.kept old.made more.changes [] more.saves
       ∙ sym (all_kept (old.made ++ more.changes) more.saves keeper.kept)));
 }
@@ -153,14 +156,14 @@ unfolding IsOneSession
 one_none = tt
 
 -- what was told of a session, and its events
-record HasTold (t : Tables) (old new : SyncNow) (more : List Event) : Type 0 where
-  pub tells : Tells (at_rest t) (desk_at t old) (desk_at t new)
+record HasTold (old new : SiteNow) (more : List Event) : Type 0 where
+  pub tells : Tells (at_rest old.tables) old new
   pub one : IsOneSession more
 
-told_whole : (client : List ℕ) (t : Tables) (old new : SyncNow) (result : Result SyncReport SyncErr)
+told_whole : (client : List ℕ) (old new : SiteNow) (result : Result SyncReport SyncErr)
     (more : List Event) → new.line.trail ≡ old.line.trail ++ more →
-    IsWholeSync client t old result new → HasTold t old new more
-told_whole client t old new result more is h =
+    IsWholeSync client old result new → HasTold old new more
+told_whole client old new result more is h =
     let same : more ≡ Began ∷ (h.whole.middle ++ Ended ∷ []) =
     append_cancel_left old.line.trail more (Began ∷ (h.whole.middle ++ Ended ∷ []))
     (sym is ∙ h.whole.trail) in
@@ -169,9 +172,9 @@ told_whole client t old new result more is h =
       one = subst IsOneSession (sym same) (one_whole client h.whole.middle h.whole.each);
     }
 
-told_open : (client : List ℕ) (t : Tables) (old new : SyncNow) (more : List Event) →
-    new.line.trail ≡ old.line.trail ++ more → IsOpenSync client t old new → HasTold t old new more
-told_open client t old new more is h =
+told_open : (client : List ℕ) (old new : SiteNow) (more : List Event) →
+    new.line.trail ≡ old.line.trail ++ more → IsOpenSync client old new → HasTold old new more
+told_open client old new more is h =
     let same : more ≡ h.begun.more =
     append_cancel_left old.line.trail more h.begun.more (sym is ∙ h.begun.trail) in
     record {
@@ -185,13 +188,13 @@ told_open client t old new more is h =
       ]);
     }
 
-told_from : (client : List ℕ) (t : Tables) (old new : SyncNow) (result : Result SyncReport SyncErr)
+told_from : (client : List ℕ) (old new : SiteNow) (result : Result SyncReport SyncErr)
     (more : List Event) → new.line.trail ≡ old.line.trail ++ more →
-    AddsFrom client t old result new → HasTold t old new more
-told_from client t old new (Err NoMemory) more is h = told_open client t old new more is h
-told_from client t old new (Ok report) more is h = told_whole client t old new (Ok report) more is h
-told_from client t old new (Err error) more is h =
-    told_whole client t old new (Err error) more is h
+    AddsFrom client old result new → HasTold old new more
+told_from client old new (Err NoMemory) more is h = told_open client old new more is h
+told_from client old new (Ok report) more is h = told_whole client old new (Ok report) more is h
+told_from client old new (Err error) more is h =
+    told_whole client old new (Err error) more is h
 
 -- ---- the client's name
 
@@ -273,7 +276,7 @@ session_name n w t (Ends ∷ ds) may one each = absurd one
 
 -- each call and change of what was added has its licence, from the tables that are kept, if they are
 -- told
-abbrev pub IsLicensed : SyncNow → SyncNow → List Event → Type 0
+abbrev pub IsLicensed : SiteNow → SiteNow → List Event → Type 0
 IsLicensed old new more =
     (k : Kept) (changes : List Change) → old.keeper.kept ≡ Some k → new.made ≡ old.made ++ changes →
     ObeysData (at_rest k.tables) (deeds_of more changes)
@@ -286,25 +289,26 @@ told_tables (Some other) k t told is =
     told ∙ ap (λ (x : Kept). x.tables) (same_Some other k is)
 
 -- so it is from tables that are those that are kept, if that is told
-pub licensed_kept : (t : Tables) (old new : SyncNow) (more : List Event) →
-    IsOfKept old.keeper.kept t →
+pub licensed_kept : (old new : SiteNow) (more : List Event) →
+    IsOfKept old.keeper.kept old.tables →
     ((changes : List Change) → new.made ≡ old.made ++ changes →
-    ObeysData (at_rest t) (deeds_of more changes) × MergesInfo (at_rest t) (deeds_of more changes)) →
+    ObeysData (at_rest old.tables) (deeds_of more changes)
+    × MergesInfo (at_rest old.tables) (deeds_of more changes)) →
     IsLicensed old new more
-licensed_kept t old new more of_kept licensed = λ k changes told made.
+licensed_kept old new more of_kept licensed = λ k changes told made.
     subst (λ (u : Tables). ObeysData (at_rest u) (deeds_of more changes)
-    × MergesInfo (at_rest u) (deeds_of more changes)) (told_tables old.keeper.kept k t of_kept told)
+    × MergesInfo (at_rest u) (deeds_of more changes)) (told_tables old.keeper.kept k old.tables of_kept told)
     (licensed changes made)
 
-named_still : (t : Tables) (old new : SyncNow) (more : List Event) →
-    new.line.trail ≡ old.line.trail ++ more → HasTold t old new more → IsLicensed old new more →
+named_still : (old new : SiteNow) (more : List Event) →
+    new.line.trail ≡ old.line.trail ++ more → HasTold old new more → IsLicensed old new more →
     (client : List ℕ) → NamesClient old.keeper.kept (Some client) →
     NamesClient new.keeper.kept (Some client)
-named_still t old new more is h licensed client names =
+named_still old new more is h licensed client names =
     subst (λ (k : Option Kept). NamesClient k (Some client)) (sym h.tells.kept)
     (by old.keeper.kept refl names) where
       by : (kept : Option Kept) → old.keeper.kept ≡ kept → NamesClient kept (Some client) →
-          NamesClient (option_map (kept_after (changes_in h.tells.deeds) h.tells.saves) kept)
+          NamesClient (option_map (kept_after_saves (changes_in h.tells.deeds) h.tells.saves) kept)
           (Some client)
       by None told names = tt
       by (Some k) told names =
@@ -312,17 +316,17 @@ named_still t old new more is h licensed client names =
           let ds = h.tells.deeds in
           let same : more ≡ events_of n ds =
           append_cancel_left old.line.trail more (events_of n ds) (sym is ∙ h.tells.trail) in
-          session_name n (at_rest t) k.tables ds h.tells.obeys (subst IsOneSession same h.one)
+          session_name n (at_rest old.tables) k.tables ds h.tells.obeys (subst IsOneSession same h.one)
           (subst (λ (es : List Event). ObeysData (at_rest k.tables) (deeds_of es (changes_in ds))) same
           (licensed k (changes_in ds) told h.tells.made).0)
           ∙ names
 
 -- the tables name the client still
-pub names_after : (client : List ℕ) (t : Tables) (old new : SyncNow)
+pub names_after : (client : List ℕ) (old new : SiteNow)
     (result : Result SyncReport SyncErr) (more : List Event) →
     new.line.trail ≡ old.line.trail ++ more → IsLicensed old new more →
-    AddsFrom client t old result new → NamesClient old.keeper.kept (Some client) →
+    AddsFrom client old result new → NamesClient old.keeper.kept (Some client) →
     NamesClient new.keeper.kept (Some client)
-names_after client t old new result more is licensed adds names =
-    named_still t old new more is (told_from client t old new result more is adds) licensed client
+names_after client old new result more is licensed adds names =
+    named_still old new more is (told_from client old new result more is adds) licensed client
     names

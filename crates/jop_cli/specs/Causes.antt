@@ -1,8 +1,9 @@
 -- Why a run ends so: the cause of each status.
 use Rattle.std.specs.Prelude.{ℕ, ◌+◌, ◌<◌, ◌≡◌, ◌⊎◌, List, [], ◌∷◌, ◌++◌, true, false, Option, Some, None, Err}
-use Rattle.exit_status.specs.Statuses.{is_refusal}
-use Rattle.exit_status.specs.declared.status.Status.{Status}
-use Rattle.exit_status.specs.declared.status.Status.TheVariants as statuses
+use Rattle.client.specs.Outside.{OutsideNow}
+use Rattle.jop_status.specs.Statuses.{is_refusal}
+use Rattle.jop_status.specs.declared.status.Status.{Status}
+use Rattle.jop_status.specs.declared.status.Status.TheVariants as statuses
 use Rattle.jop_outside.specs.Outside.{HasRisen, SourceNow}
 use Rattle.jop_outside.specs.Reading.{WasTooLarge}
 use Rattle.jop_base.specs.declared.dir.Dir.TheVariants.{Root}
@@ -23,26 +24,26 @@ use Rattle.lease.specs.Phase.{Held, Phase}
 use Rattle.lease.specs.Standing.{StandsIn}
 use Rattle.lease.specs.declared.error.Seen.{Seen}
 use Rattle.lease.specs.declared.lock.Lock.{Lock}
-use Rattle.licences.specs.Trails.{session_calls}
-use Rattle.licences.specs.Pages.{emptied_by}
-use Rattle.licences.specs.Views.{Heard, shown_to}
+use Rattle.law_licences.specs.Trails.{session_calls}
+use Rattle.law_licences.specs.Pages.{emptied_by}
+use Rattle.law_licences.specs.Views.{Heard, shown_to}
 use Rattle.local_commands.specs.declared.local_command.LocalCommand.{LocalCommand}
 use Rattle.local_commands.specs.declared.local_err.LocalErr.{LocalErr}
 use Rattle.local_commands.specs.declared.local_err.LocalErr.TheVariants.{NotFound, Sealed, TimeEnd, TooLarge, NoConflict, NotEmpty, NotText}
-use Rattle.table_keeper.specs.Keepers.{IsOfKept, KeeperNow}
+use Rattle.keeper.specs.Keepers.{IsOfKept, KeeperNow}
 use Rattle.local_store.specs.declared.tables.Tables.{Tables}
-use Rattle.opening.specs.Opening.{IsOldVersion}
+use Rattle.session_opening.specs.Opening.{IsOldVersion}
 use Rattle.sync_info.specs.declared.info.Info.{Info}
 use Rattle.sync_session.specs.Keys.{IsActiveKey, needs_key}
 use Rattle.target_upgrade.specs.Reading.{Gives, IsBadReply}
 use Rattle.target_upgrade.specs.Steps.{SUPPORTED}
 use Rattle.jop_cli.specs.Commands.{used}
-use Rattle.jop_cli.specs.Commands.Local.{RunsLocally}
+use Rattle.local_commands.specs.Plans.{plan_of}
+use Rattle.local_commands.specs.Running.{Runs}
 use Rattle.jop_cli.specs.Commands.Sessions.{IsClientOf, IsUncalled, Session}
 use Rattle.jop_cli.specs.Commands.Tidy.{IsFaulty}
-use Rattle.jop_cli.specs.Outside.{Outside, Ran}
-use Rattle.command_line.specs.declared.verb.Verb.{Verb}
-use Rattle.command_line.specs.declared.verb.Verb.TheVariants as verbs
+use Rattle.jop_words.specs.declared.verb.Verb.{Verb}
+use Rattle.jop_words.specs.declared.verb.Verb.TheVariants as verbs
 
 -- ---- calls, input, and commands on the tables
 
@@ -59,11 +60,11 @@ pub record IsTooLong (verb : Option Verb) (before : SourceNow) (number : ℕ) (a
   pub is : number ≡ limit + 1
 
 -- the command is one on the tables, and is refused so
-pub record IsRefusedLocally (verb : Option Verb) (before : Outside) (ran : Ran) (refusal : LocalErr)
-    (after : Outside) : Type 0 where
+pub record IsRefusedLocally (verb : Option Verb) (before : OutsideNow) (refusal : LocalErr)
+    (after : OutsideNow) : Type 0 where
   pub command : LocalCommand
   pub is : verb ≡ Some (verbs.Local command)
-  pub runs : RunsLocally command before ran (Err refusal) after
+  pub runs : Runs (plan_of command) before (Err refusal) after
 
 -- ---- the end of a session
 
@@ -170,54 +171,54 @@ HasReadNewer verb keeper trail version =
 
 -- A row for each status: its cause. Out of memory no call was answered `Failed`: a failed call is
 -- never told as want of memory.
-abbrev pub IsExplained : Option Verb → Outside → Ran → Status → Outside → Type 0
-IsExplained verb before ran statuses.Ok after = Unit {0}
-IsExplained verb before ran statuses.Usage after = verb ≡ None
-IsExplained verb before ran (statuses.Busy lock now) after =
-    WasBlocked verb after.keeper ran.trail lock now
-IsExplained verb before ran (statuses.LeaseLost seen) after =
-    HasLost verb after.keeper ran.trail seen
-IsExplained verb before ran (statuses.TargetOlder version) after =
-    HasReadOlder verb after.keeper ran.trail version
-IsExplained verb before ran (statuses.TargetNewer version) after =
-    HasReadNewer verb after.keeper ran.trail version
-IsExplained verb before ran statuses.BadInfo after =
-    HasLeftBehind verb after.keeper ran.trail HasGotBad
-IsExplained verb before ran (statuses.FailSafe count) after =
-    HasLeftBehind verb after.keeper ran.trail (HasListedNone after.keeper count)
-IsExplained verb before ran statuses.TargetFault after =
-    HasFailed before.target ran.trail after.target
-IsExplained verb before ran statuses.KeeperFault after =
+abbrev pub IsExplained : Option Verb → OutsideNow → Status → OutsideNow → Type 0
+IsExplained verb before statuses.Ok after = Unit {0}
+IsExplained verb before statuses.Usage after = verb ≡ None
+IsExplained verb before (statuses.Busy lock now) after =
+    WasBlocked verb after.keeper after.line.trail lock now
+IsExplained verb before (statuses.LeaseLost seen) after =
+    HasLost verb after.keeper after.line.trail seen
+IsExplained verb before (statuses.TargetOlder version) after =
+    HasReadOlder verb after.keeper after.line.trail version
+IsExplained verb before (statuses.TargetNewer version) after =
+    HasReadNewer verb after.keeper after.line.trail version
+IsExplained verb before statuses.BadInfo after =
+    HasLeftBehind verb after.keeper after.line.trail HasGotBad
+IsExplained verb before (statuses.FailSafe count) after =
+    HasLeftBehind verb after.keeper after.line.trail (HasListedNone after.keeper count)
+IsExplained verb before statuses.TargetFault after =
+    HasFailed before.line.target after.line.trail after.line.target
+IsExplained verb before statuses.KeeperFault after =
     HasRisen before.keeper.faults after.keeper.faults
-IsExplained verb before ran statuses.SourceFault after =
+IsExplained verb before statuses.SourceFault after =
     HasRisen before.input.faults after.input.faults
-IsExplained verb before ran statuses.SinkFault after = HasRisen before.out.faults after.out.faults
-IsExplained verb before ran statuses.ClockFault after =
+IsExplained verb before statuses.SinkFault after = HasRisen before.out.faults after.out.faults
+IsExplained verb before statuses.ClockFault after =
     HasRisen before.clock.faults after.clock.faults
-IsExplained verb before ran statuses.EntropyFault after =
+IsExplained verb before statuses.EntropyFault after =
     HasRisen before.entropy.faults after.entropy.faults
-IsExplained verb before ran (statuses.NotFound id) after =
-    IsRefusedLocally verb before ran (NotFound id) after
-IsExplained verb before ran (statuses.Sealed id) after =
-    IsRefusedLocally verb before ran (Sealed id) after
-IsExplained verb before ran (statuses.TimeEnd id) after =
-    IsRefusedLocally verb before ran (TimeEnd id) after
-IsExplained verb before ran (statuses.TooLarge number) after =
+IsExplained verb before (statuses.NotFound id) after =
+    IsRefusedLocally verb before (NotFound id) after
+IsExplained verb before (statuses.Sealed id) after =
+    IsRefusedLocally verb before (Sealed id) after
+IsExplained verb before (statuses.TimeEnd id) after =
+    IsRefusedLocally verb before (TimeEnd id) after
+IsExplained verb before (statuses.TooLarge number) after =
     IsTooLong verb before.input number after.input
-    ⊎ IsRefusedLocally verb before ran (TooLarge number) after
-IsExplained verb before ran (statuses.NoKey key) after =
-    HasLeftBehind verb after.keeper ran.trail (λ calls. LacksKey after.keeper key)
-IsExplained verb before ran (statuses.BadItem bad) after =
+    ⊎ IsRefusedLocally verb before (TooLarge number) after
+IsExplained verb before (statuses.NoKey key) after =
+    HasLeftBehind verb after.keeper after.line.trail (λ calls. LacksKey after.keeper key)
+IsExplained verb before (statuses.BadItem bad) after =
     (verb ≡ Some verbs.Tidy) × IsFaulty before.input after.input bad
-IsExplained verb before ran statuses.NoMemory after = has_failed ran.trail ≡ false
-IsExplained verb before ran (statuses.NoConflict number) after =
-    IsRefusedLocally verb before ran (NoConflict number) after
-IsExplained verb before ran (statuses.NotEmpty id) after =
-    IsRefusedLocally verb before ran (NotEmpty id) after
-IsExplained verb before ran statuses.NotText after =
-    IsRefusedLocally verb before ran NotText after
+IsExplained verb before statuses.NoMemory after = has_failed after.line.trail ≡ false
+IsExplained verb before (statuses.NoConflict number) after =
+    IsRefusedLocally verb before (NoConflict number) after
+IsExplained verb before (statuses.NotEmpty id) after =
+    IsRefusedLocally verb before (NotEmpty id) after
+IsExplained verb before statuses.NotText after =
+    IsRefusedLocally verb before NotText after
 
 -- no refusal has its cause
-abbrev pub HasNoCause : Option Verb → Outside → Ran → Outside → Type 0
-HasNoCause verb before ran after =
-    (status : Status) → is_refusal status ≡ true → ¬ IsExplained verb before ran status after
+abbrev pub IsUnexplained : Option Verb → OutsideNow → OutsideNow → Type 0
+IsUnexplained verb before after =
+    (status : Status) → is_refusal status ≡ true → ¬ IsExplained verb before status after

@@ -8,24 +8,24 @@ pub mod Tidy
 pub mod Upgrade
 use Rattle.std.specs.Prelude.{ℕ, Bool, true, false}
 use Rattle.std.specs.Prelude.{Option, Some, None, option_map}
-use Rattle.exit_status.specs.Outcomes.{Outcome}
+use Rattle.jop_status.specs.Outcomes.{Outcome}
 use Rattle.jop_base.specs.declared.lock_name.LockKind.{LockKind}
 use Rattle.jop_base.specs.declared.lock_name.LockKind.TheVariants as kinds
 use Rattle.local_commands.specs.Following.{saves_bytes}
 use Rattle.local_commands.specs.Plans.{plan_of}
-use Rattle.local_commands.specs.Sparing.{draws_ids, limit_of}
+use Rattle.local_commands.specs.Sparing.{draws_ids, intake_limit}
 use Rattle.local_commands.specs.declared.local_command.LocalCommand.{LocalCommand}
-use Rattle.command_line.specs.Verbs.{uses_tables}
-use Rattle.command_line.specs.declared.verb.Verb.{Verb}
-use Rattle.command_line.specs.declared.verb.Verb.TheVariants as verbs
+use Rattle.jop_words.specs.Verbs.{uses_tables}
+use Rattle.jop_words.specs.declared.verb.Verb.{Verb}
+use Rattle.jop_words.specs.declared.verb.Verb.TheVariants as verbs
 use Rattle.jop_cli.specs.Commands.Check.{Checks}
 use Rattle.jop_cli.specs.Commands.Help.{Helps}
 use Rattle.jop_cli.specs.Commands.Local.{DoesLocally}
 use Rattle.jop_cli.specs.Commands.Sessions.{Session}
-use Rattle.jop_cli.specs.Commands.Sync.{Syncs}
+use Rattle.jop_cli.specs.Commands.Sync.{SyncsAsNamed}
 use Rattle.jop_cli.specs.Commands.Tidy.{TIDY_LIMIT, Tidies}
-use Rattle.jop_cli.specs.Commands.Upgrade.{Upgrades}
-use Rattle.jop_cli.specs.Outside.{Outside, Ran}
+use Rattle.jop_cli.specs.Commands.Upgrade.{UpgradesAsNamed}
+use Rattle.client.specs.Outside.{OutsideNow}
 
 -- ---- effects
 
@@ -52,7 +52,7 @@ nothing = record {
 -- what a command on the tables uses, by its plan
 abbrev pub uses_locally : LocalCommand → Uses
 uses_locally command = record {
-  input = option_map limit_of (plan_of command).intake;
+  input = option_map intake_limit (plan_of command).intake;
   session = None;
   tables = uses_tables (verbs.Local command);
   bytes = saves_bytes command;
@@ -85,11 +85,11 @@ used (Some verb) = uses verb
 
 -- ---- what it comes to
 
-abbrev pub ComesTo : Verb → Outside → Ran → Outcome → Outside → Type 0
-ComesTo (verbs.Check target client) before ran outcome after = Checks client ran.trail outcome
-ComesTo verbs.Help before ran outcome after = Helps outcome
-ComesTo verbs.Tidy before ran outcome after = Tidies before.input outcome after.input
-ComesTo (verbs.Local command) before ran outcome after =
-    DoesLocally command before ran outcome after
-ComesTo (verbs.Sync target) before ran outcome after = Syncs before ran outcome after
-ComesTo (verbs.Upgrade target) before ran outcome after = Upgrades before ran outcome after
+-- the outcome, before anything is printed
+abbrev pub ComesTo : Verb → OutsideNow → Outcome → OutsideNow → Type 0
+ComesTo (verbs.Check target client) before outcome after = Checks client before outcome after
+ComesTo verbs.Help before outcome after = Helps before outcome after
+ComesTo verbs.Tidy before outcome after = Tidies before outcome after
+ComesTo (verbs.Local command) before outcome after = DoesLocally command before outcome after
+ComesTo (verbs.Sync target) before outcome after = SyncsAsNamed before outcome after
+ComesTo (verbs.Upgrade target) before outcome after = UpgradesAsNamed before outcome after

@@ -1,4 +1,4 @@
-pub mod Outside
+pub mod Worlds
 pub mod Commands
 pub mod Causes
 pub mod Run

@@ -1,75 +1,78 @@
 -- What a run of the program comes to.
 use Rattle.std.specs.Prelude.{ℕ, ◌≤◌, ◌≡◌, ◌⊎◌, List, [], ◌++◌, Bool, true, false}
 use Rattle.std.specs.Prelude.{Option, Some, None, Ok, option_map}
-use Rattle.exit_status.specs.Outcomes.{Emits, Outcome}
-use Rattle.exit_status.specs.declared.status.Status.{Status}
-use Rattle.exit_status.specs.declared.status.Status.TheVariants as statuses
+use Rattle.client.specs.Outside.{OutsideNow}
+use Rattle.jop_status.specs.Outcomes.{Outcome}
+use Rattle.jop_status.specs.declared.status.Status.{Status}
+use Rattle.jop_status.specs.declared.status.Status.TheVariants as statuses
 use Rattle.jop_outside.specs.Outside.{HasRisen}
 use Rattle.jop_outside.specs.Writing.{WasCut, WasWritten}
 use Rattle.jop_target.specs.declared.event.Event.{Event}
 use Rattle.jop_target.specs.Runs.{TellsRun, has_failed}
 use Rattle.jop_target.specs.Replies.{TargetNow}
-use Rattle.kept_tables.specs.Trails.{KeepsNotes}
-use Rattle.licences.specs.Deeds.{deeds_of}
-use Rattle.licences.specs.Licences.{ObeysData}
-use Rattle.licences.specs.Views.{at_rest}
-use Rattle.local_commands.specs.Following.{numbered}
-use Rattle.local_commands.specs.Keeping.{Act, changes_in, kept_after_all}
+use Rattle.law_kept.specs.Trails.{KeepsNotes}
+use Rattle.law_licences.specs.Deeds.{deeds_of}
+use Rattle.law_licences.specs.Licences.{ObeysData}
+use Rattle.law_licences.specs.Views.{at_rest}
+use Rattle.local_commands.specs.Keeping.{changes_among, kept_after_all, trail_of}
+use Rattle.local_commands.specs.declared.act.Act.{Act}
 use Rattle.local_commands.specs.Sparing.{SparesClock, SparesInput, SparesRandom}
 use Rattle.local_commands.specs.declared.local_command.LocalCommand.{LocalCommand}
 use Rattle.local_store.specs.Changing.{after_all}
-use Rattle.table_keeper.specs.Keepers.{KeeperNow, Kept}
+use Rattle.keeper.specs.Keepers.{KeeperNow, Kept}
 use Rattle.local_store.specs.declared.change.Change.{Change}
 use Rattle.local_store.specs.declared.tables.Tables.{Tables}
-use Rattle.jop_cli.specs.Causes.{HasNoCause, IsExplained}
+use Rattle.jop_cli.specs.Causes.{IsUnexplained, IsExplained}
 use Rattle.jop_cli.specs.Commands.{ComesTo, Uses, used}
-use Rattle.jop_cli.specs.Commands.Sessions.{IsClientOf, IsUncalled, KeepsLease, Session}
-use Rattle.jop_cli.specs.Commands.Tidy.{StandsFor, IsAnswerTo}
-use Rattle.jop_cli.specs.Outside.{Outside, Ran}
-use Rattle.command_line.specs.declared.verb.Verb.{Verb}
-use Rattle.command_line.specs.declared.verb.Verb.TheVariants as verbs
+use Rattle.jop_cli.specs.Commands.Sessions.{IsClientOf, IsUncalled, Session, lock_named, went_well}
+use Rattle.sync_run.specs.Leases.{KeepsLease}
+use Rattle.jop_cli.specs.Commands.Tidy.{StandsFor, IsTidyAnswer}
+use Rattle.jop_cli.specs.Worlds.{EmitsTo}
+use Rattle.jop_words.specs.declared.verb.Verb.{Verb}
+use Rattle.jop_words.specs.declared.verb.Verb.TheVariants as verbs
 
 -- ---- what is done
 
--- a command came to something, and that was printed
-pub record Obeys (verb : Verb) (before : Outside) (ran : Ran) (status : Status) (after : Outside)
+-- nothing is written down yet
+pub record IsFresh (o : OutsideNow) : Type 0 where
+  pub unwritten : o.line.trail ≡ []
+  pub unchanged : o.made ≡ []
+
+-- a command came to something, with nothing printed, and then that was printed
+pub record Obeys (verb : Verb) (before : OutsideNow) (status : Status) (after : OutsideNow)
     : Type 0 where
   pub outcome : Outcome
-  pub comes : ComesTo verb before ran outcome after
-  pub emits : Emits outcome before.out status after.out
-
--- nothing was called or changed, and all is as it was
-pub record IsIdle (before : Outside) (ran : Ran) (after : Outside) : Type 0 where
-  pub uncalled : ran.trail ≡ []
-  pub unchanged : ran.made ≡ []
-  pub same : after ≡ before
+  pub mid : OutsideNow
+  pub comes : ComesTo verb before outcome mid
+  pub quiet : mid.out ≡ before.out
+  pub emits : EmitsTo outcome mid status after
 
 -- Words that mean nothing do nothing; those of a command are obeyed, unless there is no memory to
 -- read them.
-abbrev pub Answers : Option Verb → Outside → Ran → Status → Outside → Type 0
-Answers None before ran status after =
-    ((status ≡ statuses.Usage) ⊎ (status ≡ statuses.NoMemory)) × IsIdle before ran after
-Answers (Some verb) before ran status after =
-    ((status ≡ statuses.NoMemory) × IsIdle before ran after) ⊎ Obeys verb before ran status after
+abbrev pub AnswersWords : Option Verb → OutsideNow → Status → OutsideNow → Type 0
+AnswersWords None before status after =
+    ((status ≡ statuses.Usage) ⊎ (status ≡ statuses.NoMemory)) × (after ≡ before)
+AnswersWords (Some verb) before status after =
+    ((status ≡ statuses.NoMemory) × (after ≡ before)) ⊎ Obeys verb before status after
 
 -- ---- what is left alone
 
 -- Without a session no call is made: the trail has the numbers of the changes and nothing else, and
 -- the target is as it was.
-abbrev pub LeavesTarget : Option Session → TargetNow → Ran → TargetNow → Type 0
-LeavesTarget None before ran after = (ran.trail ≡ numbered 0 ran.made) × (after ≡ before)
-LeavesTarget (Some session) before ran after = Unit {0}
+abbrev pub LeavesTarget : Option Session → TargetNow → List Event → List Change → TargetNow → Type 0
+LeavesTarget None before trail made after = (trail ≡ trail_of 0 made) × (after ≡ before)
+LeavesTarget (Some session) before trail made after = Unit {0}
 
 -- tables that aren't used are as they were, and nothing is asked of their keeper
 abbrev pub LeavesTables : Bool → KeeperNow → List Change → KeeperNow → Type 0
 LeavesTables false before made after = (made ≡ []) × (after ≡ before)
 LeavesTables true before made after = Unit {0}
 
-pub record LeavesAlone (uses : Uses) (before : Outside) (ran : Ran) (after : Outside)
-    : Type 0 where
+pub record LeavesAlone (uses : Uses) (before after : OutsideNow) : Type 0 where
   pub input : SparesInput uses.input before.input after.input
-  pub target : LeavesTarget uses.session before.target ran after.target
-  pub tables : LeavesTables uses.tables before.keeper ran.made after.keeper
+  pub target : LeavesTarget uses.session before.line.target after.line.trail after.made
+      after.line.target
+  pub tables : LeavesTables uses.tables before.keeper after.made after.keeper
   pub clock : SparesClock uses.clock before.clock after.clock
   pub random : SparesRandom uses.random before.entropy after.entropy
 
@@ -90,7 +93,7 @@ with_changes made kept = record kept { tables = after_all kept.tables made }
 -- the same acts, but the bytes of resources that are saved among them, are the changes that were made
 pub record KeepsActs (before : KeeperNow) (made : List Change) (after : KeeperNow) : Type 0 where
   pub acts : List Act
-  pub changes : made ≡ changes_in acts
+  pub changes : made ≡ changes_among acts
   pub kept : after.kept ≡ option_map (kept_after_all acts) before.kept
 
 -- The tables, if they are told, are those before with the changes that were made, in their order; the
@@ -110,7 +113,7 @@ pub record RunsSession (session : Session) (keeper : KeeperNow) (trail : List Ev
   pub changes : IsUncalled before
   pub events : List Event
   pub trail_is : trail ≡ before ++ events
-  pub keeps : KeepsLease session.kind client events status
+  pub keeps : KeepsLease session.kind client (lock_named status) (went_well status) events
 
 -- nothing is called, but in the one session of a command that has one
 abbrev pub Sessions : Option Session → KeeperNow → List Event → Status → Type 0
@@ -122,7 +125,7 @@ Sessions (Some session) keeper trail status =
 
 -- an input of `tidy` that tells these bytes has this answer
 abbrev pub TidiesTold : List ℕ → Status → Type 0
-TidiesTold bytes status = (result : _) × StandsFor result status × IsAnswerTo bytes result
+TidiesTold bytes status = (result : _) × StandsFor result status × IsTidyAnswer bytes result
 
 -- ---- what is refused before anything is saved
 
@@ -135,62 +138,63 @@ may_be_late statuses.NoMemory = true
 may_be_late status = false
 
 -- nothing was saved, and nothing is written down
-pub record IsUnsaved (before : Outside) (ran : Ran) (after : Outside) : Type 0 where
+pub record IsUnsaved (before after : OutsideNow) : Type 0 where
   pub same : after.keeper ≡ before.keeper
-  pub unchanged : ran.made ≡ []
-  pub uncalled : ran.trail ≡ []
+  pub fresh : IsFresh after
 
 -- ---- what is printed
 
-abbrev pub ComesToText : Option Verb → Outside → Ran → List ℕ → Outside → Type 0
-ComesToText verb before ran text after =
-    (v : Verb) × (verb ≡ Some v) × ComesTo v before ran (Ok text) after
+-- the command came to this text, which was printed then
+abbrev pub ComesToText : Option Verb → OutsideNow → List ℕ → OutsideNow → Type 0
+ComesToText verb before text after =
+    (v : Verb) × (verb ≡ Some v) × (mid : OutsideNow) × ComesTo v before (Ok text) mid
+    × (after ≡ record mid { out = after.out })
 
 -- When all went well the command's text stands on standard output, and nothing more; after a failed
 -- write a prefix of it; else nothing.
-abbrev pub Prints : Option Verb → Outside → Ran → Status → Outside → Type 0
-Prints verb before ran statuses.Ok after =
-    (text : List ℕ) × ComesToText verb before ran text after × WasWritten before.out text after.out
-Prints verb before ran statuses.SinkFault after =
-    (text : List ℕ) × ComesToText verb before ran text after × WasCut before.out text after.out
-Prints verb before ran status after = after.out ≡ before.out
+abbrev pub Prints : Option Verb → OutsideNow → Status → OutsideNow → Type 0
+Prints verb before statuses.Ok after =
+    (text : List ℕ) × ComesToText verb before text after × WasWritten before.out text after.out
+Prints verb before statuses.SinkFault after =
+    (text : List ℕ) × ComesToText verb before text after × WasCut before.out text after.out
+Prints verb before status after = after.out ≡ before.out
 
 -- ---- licences
 
 -- each call and each change has its licence, from the tables of its beginning on, if these are told
-abbrev pub HasLicences : Outside → Ran → Type 0
-HasLicences before ran =
+abbrev pub HasLicences : OutsideNow → OutsideNow → Type 0
+HasLicences before after =
     (k : Kept) → before.keeper.kept ≡ Some k →
-    ObeysData (at_rest k.tables) (deeds_of ran.trail ran.made)
+    ObeysData (at_rest k.tables) (deeds_of after.line.trail after.made)
 
 -- each call and each change has its licence, from these tables on; and no saved note is lost, whatever
 -- history the run is the client's last part of
-pub record KeepsLicences (t : Tables) (ran : Ran) : Type 0 where
-  pub obeys : ObeysData (at_rest t) (deeds_of ran.trail ran.made)
-  pub kept : (client : List ℕ) → KeepsNotes client t ran.trail ran.made
+pub record KeepsLicences (t : Tables) (after : OutsideNow) : Type 0 where
+  pub obeys : ObeysData (at_rest t) (deeds_of after.line.trail after.made)
+  pub kept : (client : List ℕ) → KeepsNotes client t after.line.trail after.made
 
 -- ---- the whole
 
 -- what was done, and what it used
-pub record Acts (verb : Option Verb) (before : Outside) (ran : Ran) (status : Status)
-    (after : Outside) : Type 0 where
-  pub answers : Answers verb before ran status after
-  pub explained : IsExplained verb before ran status after
-  pub sessions : Sessions (used verb).session after.keeper ran.trail status
-  pub tables : KeepsChanges (used verb).bytes before.keeper ran.made after.keeper
-  pub target : UsesTarget before.target ran.trail after.target
-  pub alone : LeavesAlone (used verb) before ran after
-  pub licensed : HasLicences before ran
+pub record Acts (verb : Option Verb) (before : OutsideNow) (status : Status) (after : OutsideNow)
+    : Type 0 where
+  pub answers : AnswersWords verb before status after
+  pub explained : IsExplained verb before status after
+  pub sessions : Sessions (used verb).session after.keeper after.line.trail status
+  pub tables : KeepsChanges (used verb).bytes before.keeper after.made after.keeper
+  pub target : UsesTarget before.line.target after.line.trail after.line.target
+  pub alone : LeavesAlone (used verb) before after
+  pub licensed : HasLicences before after
 
 -- What a run is promised to do, whatever the outside answers.
-pub record Does (verb : Option Verb) (before : Outside) (ran : Ran) (status : Status)
-    (after : Outside) : Type 0 where
+pub record Does (verb : Option Verb) (before : OutsideNow) (status : Status) (after : OutsideNow)
+    : Type 0 where
   -- what was done
-  pub answers : Answers verb before ran status after
+  pub answers : AnswersWords verb before status after
   -- the cause of its end
-  pub explained : IsExplained verb before ran status after
+  pub explained : IsExplained verb before status after
   -- without a cause for a refusal it went well, or memory ran out
-  pub complete : HasNoCause verb before ran after →
+  pub complete : IsUnexplained verb before after →
       (status ≡ statuses.Ok) ⊎ (status ≡ statuses.NoMemory)
   -- `tidy` of an input that tells its bytes
   pub exact : (bytes : List ℕ) → verb ≡ Some verbs.Tidy → before.input.left ≡ Some bytes →
@@ -198,16 +202,16 @@ pub record Does (verb : Option Verb) (before : Outside) (ran : Ran) (status : St
   -- a command on the tables that is refused before it saves anything leaves them and the bytes of
   -- resources as they were
   pub unsaved : (command : LocalCommand) → verb ≡ Some (verbs.Local command) →
-      may_be_late status ≡ false → IsUnsaved before ran after
+      may_be_late status ≡ false → IsUnsaved before after
   -- its session keeps its lease, in every history of all clients
-  pub sessions : Sessions (used verb).session after.keeper ran.trail status
+  pub sessions : Sessions (used verb).session after.keeper after.line.trail status
   -- the tables at exit are those at entry with the changes that were made
-  pub tables : KeepsChanges (used verb).bytes before.keeper ran.made after.keeper
+  pub tables : KeepsChanges (used verb).bytes before.keeper after.made after.keeper
   -- if the tables at entry are told, each call and each change has its licence from them on, and no
   -- saved note is lost
-  pub notes : (k : Kept) → before.keeper.kept ≡ Some k → KeepsLicences k.tables ran
+  pub notes : (k : Kept) → before.keeper.kept ≡ Some k → KeepsLicences k.tables after
   -- what is used of the outside, and what is left alone
-  pub target : UsesTarget before.target ran.trail after.target
-  pub alone : LeavesAlone (used verb) before ran after
+  pub target : UsesTarget before.line.target after.line.trail after.line.target
+  pub alone : LeavesAlone (used verb) before after
   -- what is printed
-  pub out : Prints verb before ran status after
+  pub out : Prints verb before status after

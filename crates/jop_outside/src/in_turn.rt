@@ -6,7 +6,8 @@ use crate::spawner::Spawner;
 use std::alloc::{AllocError, Global};
 use std::mem;
 
-/// Does jobs one after the other, when they are to be finished. A job is handed back where there is no memory to keep it.
+/// Does jobs one after the other, when they are to be finished. A job is handed back where there is no memory to
+/// keep it.
 #[derive(Drop)]
 pub struct InTurn<J: Job> {
     jobs: Vec<J>,

@@ -32,8 +32,8 @@ pub trait Spawner<J: Job>: Drop {
         ensures later { faults self.old ≤ faults self.new }
         ensures cause { OnErr result (HasRisen (faults self.old) (faults self.new)) };
 
-    /// Waits until all jobs are finished that were started. Out of memory they have ended too, and what came of the first
-    /// of them is kept.
+    /// Waits until all jobs are finished that were started. Out of memory they have ended too, and what came of the
+    /// first of them is kept.
     fn finish(&mut self, alloc: Global) -> Result<(), AllocError>
         requires ready { ready self.old }
         ensures ready { ready self.new }

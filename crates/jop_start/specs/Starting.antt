@@ -1,20 +1,18 @@
 -- What a run on a keeper and a target of its own comes to.
 use Rattle.std.specs.Prelude.{ℕ, ◌≡◌, List, Bool, true, false, Option, Some, None}
-use Rattle.exit_status.specs.Reports.{Reports}
-use Rattle.exit_status.specs.Statuses.{row_of}
-use Rattle.exit_status.specs.declared.status.Status.{Status}
+use Rattle.jop_status.specs.Reports.{Reports}
+use Rattle.jop_status.specs.Statuses.{row_of}
+use Rattle.jop_status.specs.declared.status.Status.{Status}
 use Rattle.jop_outside.specs.Clocks.{ClockNow}
 use Rattle.jop_outside.specs.Outside.{SinkNow, SourceNow}
 use Rattle.jop_outside.specs.Random.{EntropyNow}
-use Rattle.jop_target.specs.Replies.{TargetNow}
-use Rattle.table_keeper.specs.Keepers.{KeeperNow}
-use Rattle.command_line.specs.Commands.{target_words}
-use Rattle.jop_cli.specs.Outside.{Ran, seen}
-use Rattle.jop_cli.specs.Run.{Does}
-use Rattle.command_line.specs.declared.verb.Verb.{Verb}
-use Rattle.command_line.specs.declared.target_name.TargetKind.{TargetKind}
-use Rattle.command_line.specs.declared.target_name.TargetKind.TheVariants.{Mem, Dir}
-use Rattle.command_line.specs.declared.target_name.TargetName.{TargetName}
+use Rattle.jop_words.specs.Commands.{target_words}
+use Rattle.client.specs.Outside.{OutsideNow}
+use Rattle.jop_cli.specs.Run.{Does, IsFresh}
+use Rattle.jop_words.specs.declared.verb.Verb.{Verb}
+use Rattle.jop_words.specs.declared.target_name.TargetKind.{TargetKind}
+use Rattle.jop_words.specs.declared.target_name.TargetKind.TheVariants.{Mem, Dir}
+use Rattle.jop_words.specs.declared.target_name.TargetName.{TargetName}
 use Rattle.jop_start.specs.declared.start_err.StartErr.{StartErr}
 use Rattle.jop_start.specs.declared.start_err.StartErr.TheVariants.{EntropyFault, NoMemory}
 
@@ -34,43 +32,36 @@ kind_or_mem (Some target) = target.kind
 abbrev pub kind_named : List (List ℕ) → TargetKind
 kind_named words = kind_or_mem (target_words words)
 
-abbrev pub is_folder : TargetKind → Bool
-is_folder (Dir path) = true
-is_folder kind = false
+abbrev pub is_folder_kind : TargetKind → Bool
+is_folder_kind (Dir path) = true
+is_folder_kind kind = false
 
 -- ---- a run
 
 -- what the streams, the clock and the random source tell of themselves
-pub record Around : Type 0 where
+pub record StreamsNow : Type 0 where
   pub input : SourceNow
   pub out : SinkNow
   pub err : SinkNow
   pub clock : ClockNow
   pub entropy : EntropyNow
 
-abbrev pub around : SourceNow → SinkNow → SinkNow → ClockNow → EntropyNow → Around
-around input out err clock entropy = record {
-  input = input;
-  out = out;
-  err = err;
-  clock = clock;
-  entropy = entropy;
-}
+-- the outside of a run has them
+pub record HasStreams (s : StreamsNow) (o : OutsideNow) : Type 0 where
+  pub input : o.input ≡ s.input
+  pub out : o.out ≡ s.out
+  pub clock : o.clock ≡ s.clock
+  pub entropy : o.entropy ≡ s.entropy
 
--- what a keeper and a target tell of themselves
-pub record Places : Type 0 where
-  pub keeper : KeeperNow
-  pub target : TargetNow
-
--- On some keeper and some target it was done what the words mean. It ended with a status: that is
--- reported, and its exit status is this one.
-pub record IsRun (verb : Option Verb) (before after : Around) (exit : ℕ) : Type 0 where
-  pub first : Places
-  pub ran : Ran
+-- On some keeper and some target, of which nothing was written down yet, it was done what the words mean. It ended with
+-- a status: that is reported, and its exit status is this one.
+pub record IsRun (verb : Option Verb) (before after : StreamsNow) (exit : ℕ) : Type 0 where
+  pub first : OutsideNow
+  pub fresh : IsFresh first
+  pub begins : HasStreams before first
   pub status : Status
-  pub last : Places
-  pub does : Does verb
-      (seen first.keeper first.target before.input before.out before.clock before.entropy) ran status
-      (seen last.keeper last.target after.input after.out after.clock after.entropy)
+  pub last : OutsideNow
+  pub ends : HasStreams after last
+  pub does : Does verb first status last
   pub reports : Reports before.err status after.err
   pub exit_is : exit ≡ (row_of status).exit

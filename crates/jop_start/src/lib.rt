@@ -4,12 +4,12 @@
 //! on some keeper and some target, and that a start that is refused does nothing. Begin with [`run_named`].
 #![tactic(auto)]
 
-mod outside;
 mod server;
 mod start_err;
 mod starting;
+mod streams;
 
-pub use outside::Outside;
 pub use server::server_target;
 pub use start_err::StartErr;
 pub use starting::run_named;
+pub use streams::Streams;

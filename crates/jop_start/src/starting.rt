@@ -1,20 +1,21 @@
 ghost use Rattle.std.specs.Prelude.{◌≡◌, Err, IfOk, OnErr, true};
-ghost use Rattle.command_line.specs.Commands.{meant};
-ghost use Rattle.jop_start.specs.Starting.{IsRun, around, is_folder, kind_named};
+ghost use Rattle.jop_words.specs.Commands.{meant};
+ghost use Rattle.jop_start.specs.Starting.{IsRun, is_folder_kind, kind_named};
 
-use crate::outside::Outside;
 use crate::server::server_target;
 use crate::start_err::StartErr;
-use command_line::{Profile, TargetKind, TargetName, Words, profile_words, target_words};
+use crate::streams::Streams;
+use client::draw_id;
 use jop_cli::run;
 use jop_host::SystemEntropy;
 use jop_outside::{Clock, Entropy, Sink, Source};
 use jop_target::{Diary, MemTarget, Target};
+use jop_words::{Profile, TargetKind, TargetName, Words, profile_words, target_words};
+use keeper::Keeper;
+use keeper_records::MemKeeper;
 use keeper_sqlite::keeper_at;
 use local_store::Changes;
-use site::draw_id;
 use std::alloc::AllocError;
-use table_keeper::{Keeper, MemKeeper};
 use target_files::FolderTarget;
 
 /// Does what the words say, on the file of tables and the target that they name, which are opened for
@@ -26,27 +27,19 @@ use target_files::FolderTarget;
 pub fn run_named<I: Source, O: Sink, E: Sink, C: Clock, N: Entropy>(
     rt: &HostRuntime,
     words: &Words,
-    outside: &mut Outside<I, O, E, C, N>,
+    streams: &mut Streams<I, O, E, C, N>,
 ) -> Result<u8, StartErr>
-    ensures runs { IfOk result (IsRun (meant words.now.list)
-        (around (I.state outside.old.input) (O.state outside.old.out) (E.state outside.old.err)
-        (C.state outside.old.clock) (N.state outside.old.entropy))
-        (around (I.state outside.new.input) (O.state outside.new.out) (E.state outside.new.err)
-        (C.state outside.new.clock) (N.state outside.new.entropy))) }
+    ensures runs { IfOk result (IsRun (meant words.now.list) streams.old streams.new) }
     ensures drawn { result ≡ Err StartErr.EntropyFault →
-        is_folder (kind_named words.now.list) ≡ true }
-    ensures idle { OnErr result (
-        around (I.state outside.new.input) (O.state outside.new.out) (E.state outside.new.err)
-        (C.state outside.new.clock) (N.state outside.new.entropy)
-        ≡ around (I.state outside.old.input) (O.state outside.old.out) (E.state outside.old.err)
-        (C.state outside.old.clock) (N.state outside.old.entropy)) }
+        is_folder_kind (kind_named words.now.list) ≡ true }
+    ensures idle { OnErr result (streams.new ≡ streams.old) }
 {
     let alloc = rt.alloc();
     let mut keeper: Box<dyn Keeper> = match profile_words(alloc, words)? {
         Profile::Memory => Box::new(alloc, MemKeeper::new(alloc))?,
         Profile::File(path) => Box::new(alloc, keeper_at(*rt, path))?,
     };
-    run_keeper(rt, words, &mut keeper, outside)
+    run_keeper(rt, words, &mut keeper, streams)
 }
 
 /// Does what the words say on this keeper, and the target that they name.
@@ -54,20 +47,12 @@ fn run_keeper<K: Keeper, I: Source, O: Sink, E: Sink, C: Clock, N: Entropy>(
     rt: &HostRuntime,
     words: &Words,
     keeper: &mut K,
-    outside: &mut Outside<I, O, E, C, N>,
+    streams: &mut Streams<I, O, E, C, N>,
 ) -> Result<u8, StartErr>
-    ensures runs { IfOk result (IsRun (meant words.now.list)
-        (around (I.state outside.old.input) (O.state outside.old.out) (E.state outside.old.err)
-        (C.state outside.old.clock) (N.state outside.old.entropy))
-        (around (I.state outside.new.input) (O.state outside.new.out) (E.state outside.new.err)
-        (C.state outside.new.clock) (N.state outside.new.entropy))) }
+    ensures runs { IfOk result (IsRun (meant words.now.list) streams.old streams.new) }
     ensures drawn { result ≡ Err StartErr.EntropyFault →
-        is_folder (kind_named words.now.list) ≡ true }
-    ensures idle { OnErr result (
-        around (I.state outside.new.input) (O.state outside.new.out) (E.state outside.new.err)
-        (C.state outside.new.clock) (N.state outside.new.entropy)
-        ≡ around (I.state outside.old.input) (O.state outside.old.out) (E.state outside.old.err)
-        (C.state outside.old.clock) (N.state outside.old.entropy)) }
+        is_folder_kind (kind_named words.now.list) ≡ true }
+    ensures idle { OnErr result (streams.new ≡ streams.old) }
 {
     let alloc = rt.alloc();
     let mut target: Box<dyn Target> = match kind_of(rt, words)? {
@@ -78,7 +63,7 @@ fn run_keeper<K: Keeper, I: Source, O: Sink, E: Sink, C: Clock, N: Entropy>(
         }
         TargetKind::Dav(address) => Box::new(alloc, server_target(rt, address)?)?,
     };
-    Ok(run_on(rt, words, keeper, &mut target, outside))
+    Ok(run_on(rt, words, keeper, &mut target, streams))
 }
 
 /// The kind of the target that the words name.
@@ -97,14 +82,9 @@ fn run_on<K: Keeper, T: Target, I: Source, O: Sink, E: Sink, C: Clock, N: Entrop
     words: &Words,
     keeper: &mut K,
     target: &mut T,
-    outside: &mut Outside<I, O, E, C, N>,
+    streams: &mut Streams<I, O, E, C, N>,
 ) -> u8
-    ensures runs { IsRun (meant words.now.list)
-        (around (I.state outside.old.input) (O.state outside.old.out) (E.state outside.old.err)
-        (C.state outside.old.clock) (N.state outside.old.entropy))
-        (around (I.state outside.new.input) (O.state outside.new.out) (E.state outside.new.err)
-        (C.state outside.new.clock) (N.state outside.new.entropy))
-        result }
+    ensures runs { IsRun (meant words.now.list) streams.old streams.new result }
 {
     let alloc = rt.alloc();
     let mut diary = Diary::new(alloc);
@@ -114,11 +94,11 @@ fn run_on<K: Keeper, T: Target, I: Source, O: Sink, E: Sink, C: Clock, N: Entrop
         words,
         keeper,
         target,
-        &mut outside.input,
-        &mut outside.out,
-        &mut outside.err,
-        &mut outside.clock,
-        &mut outside.entropy,
+        &mut streams.input,
+        &mut streams.out,
+        &mut streams.err,
+        &mut streams.clock,
+        &mut streams.entropy,
         &mut diary,
         &mut made,
     );

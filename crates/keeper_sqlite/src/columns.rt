@@ -2,9 +2,9 @@
 
 use crate::trouble::Trouble;
 use jop_base::{Bytes, Text};
+use keeper_columns::{DeletionRecord, NoteRecord, RowRecord};
 use sqlite::Row;
 use std::alloc::Global;
-use stored_records::{DeletionRecord, NoteRecord, RowRecord};
 
 /// What the columns of a row of an answer make.
 pub(crate) trait FromColumns: Drop {

@@ -1,8 +1,8 @@
 ghost use Rattle.std.specs.Prelude.{◌≡◌, All, IfOk, OnOk, true};
 ghost use Rattle.local_store.specs.Sound.{IsSound};
 ghost use Rattle.std.specs.List.{list_all};
-ghost use Rattle.record_keeper.specs.Stores.{IsSoundRowOf};
-ghost use Rattle.record_keeper.specs.Writes.{IsSoundWrite, has_room};
+ghost use Rattle.keeper_records.specs.Stores.{IsSoundRowOf};
+ghost use Rattle.keeper_records.specs.Writes.{IsSoundWrite, has_room};
 
 use crate::database::Database;
 use crate::opening::open;
@@ -12,11 +12,11 @@ use crate::trouble::Trouble;
 use crate::work::{Work, done_on};
 use crate::writing::{Blob, Writes};
 use jop_base::{Bytes, Id, Seq, Text};
+use keeper_columns::{Record, read_number};
+use keeper_records::{Write, have_room};
 use local_store::{Row, Tables};
-use record_keeper::{Write, have_room};
 use std::alloc::Global;
 use std::rt::HostRuntime;
-use stored_records::{Record, read_number};
 
 /// A file, which is opened at the first call, and closed when the keeper is let go.
 pub(crate) struct DatabaseFile {

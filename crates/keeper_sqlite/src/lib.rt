@@ -1,7 +1,7 @@
 //! A keeper of tables in an SQLite file.
 //!
 //! This is the edge: what stands in a file, no contract can say. The records and their meaning are those of
-//! `stored_records`, the writes of a change those of `record_keeper`. What is proved here is that what is read is
+//! `keeper_columns`, the writes of a change those of `keeper_records`. What is proved here is that what is read is
 //! sound, and that each fault is counted. Begin with [`SqliteRecords`] and [`SqliteKeeper`].
 #![tactic(auto)]
 

@@ -2,7 +2,7 @@
 
 ghost use Rattle.std.specs.Prelude.{All, IfOk, ⊤};
 ghost use Rattle.local_store.specs.Sound.{IsSound};
-ghost use Rattle.record_keeper.specs.Writes.{IsSoundWrite};
+ghost use Rattle.keeper_records.specs.Writes.{IsSoundWrite};
 
 use crate::columns::number_at;
 use crate::database::{Database, Queries, Statements, begin, commit, run_all};
@@ -11,8 +11,8 @@ use crate::trouble::Trouble;
 use crate::work::{Work, done_on};
 use crate::writing::make_all;
 use jop_base::{Copied, Seq};
+use keeper_records::Write;
 use local_store::Tables;
-use record_keeper::Write;
 use sqlite::{Alter, Connection, Row};
 use std::alloc::{AllocError, Global};
 

@@ -9,10 +9,10 @@ use crate::statements::{ALL_CONFLICTS, ALL_DELETIONS, ALL_ROWS, META, ROW};
 use crate::trouble::Trouble;
 use crate::work::Work;
 use jop_base::{Bytes, Id, Seq};
+use keeper_columns::{DeletionRecord, MetaRecord, NoteRecord, Record, RowRecord};
 use local_store::{Row, Tables};
 use sqlite::{Alter, Connection, Row as Columns, params};
 use std::alloc::Global;
-use stored_records::{DeletionRecord, MetaRecord, NoteRecord, Record, RowRecord};
 
 /// Puts the sound value that the record in a row holds behind the others. The record itself is let go.
 #[tactic(auto, using(crate::proofs::Found::sound_more))]

@@ -2,7 +2,7 @@ ghost use Rattle.std.specs.Prelude.{◌≡◌};
 
 use crate::sqlite_records::SqliteRecords;
 use jop_base::Text;
-use record_keeper::RecordKeeper;
+use keeper_records::RecordKeeper;
 use std::rt::HostRuntime;
 
 /// A keeper in an SQLite file.

@@ -1,15 +1,15 @@
 ghost use Rattle.std.specs.Prelude.{◌≡◌, ◌≤◌, None};
-ghost use Rattle.keeper_sqlite.specs.Faults.{Counts};
+ghost use Rattle.keeper_sqlite.specs.Faults.{IsCounted};
 
 use crate::database_file::DatabaseFile;
 use crate::trouble::Trouble;
 use jop_base::{Bytes, Id, Seq, Text};
 use jop_outside::Faults;
+use keeper::KeeperErr;
+use keeper_records::{RecordStore, Write};
 use local_store::{Row, Tables};
-use record_keeper::{RecordStore, Write};
 use std::alloc::Global;
 use std::rt::HostRuntime;
-use table_keeper::KeeperErr;
 
 /// A store of records in an SQLite file. It tells nothing, since no clause can say what stands in a file.
 ///
@@ -40,7 +40,7 @@ impl SqliteRecords {
 
     /// The answer, or one fault more.
     fn counted<T: Drop>(&mut self, answer: Result<T, Trouble>) -> Result<T, KeeperErr>
-        ensures counts { Counts self.old.faults answer result self.new.faults }
+        ensures counts { IsCounted self.old.faults answer result self.new.faults }
         ensures later { self.old.faults ≤ self.new.faults }
     {
         match answer {

@@ -1,10 +1,10 @@
 ghost use Rattle.std.specs.Prelude.{◌≡◌};
-ghost use Rattle.keeper_sqlite.specs.Faults.{of_record, trouble_of};
+ghost use Rattle.keeper_sqlite.specs.Faults.{of_record, trouble_of_error};
 ghost use Rattle.keeper_sqlite.specs.declared.trouble.Trouble.TheVariants.{NoMemory};
 
+use keeper_columns::RecordErr;
 use sqlite::{Error, ErrorCode};
 use std::alloc::{AllocError, AllocFailed};
-use stored_records::RecordErr;
 
 /// Why the database gave no answer.
 #[derive(Clone, Copy, Debug, PartialEq, Eq)]
@@ -15,7 +15,7 @@ pub(crate) enum Trouble {
 }
 
 impl From<Error> for Trouble {
-    ghost from_gives = { λ error trouble. trouble ≡ trouble_of error };
+    ghost from_gives = { λ error trouble. trouble ≡ trouble_of_error error };
 
     fn from(error: Error) -> Trouble {
         match error {

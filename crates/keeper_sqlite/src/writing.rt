@@ -2,7 +2,7 @@
 
 ghost use Rattle.std.specs.Prelude.{All, ⊤};
 ghost use Rattle.local_store.specs.Sound.{IsSoundRow, IsSoundNote};
-ghost use Rattle.record_keeper.specs.Writes.{IsSoundWrite};
+ghost use Rattle.keeper_records.specs.Writes.{IsSoundWrite};
 ghost use Rattle.sync_info.specs.Info.{IsInfo};
 
 use crate::database::{Statements, begin, commit};
@@ -13,11 +13,11 @@ use crate::statements::{
 use crate::trouble::Trouble;
 use crate::work::Work;
 use jop_base::{Bytes, Context, Id};
+use keeper_columns::{DeletionRecord, NoteRecord, RowRecord, ids_text, number_text};
+use keeper_records::Write;
 use local_store::{ConflictNote, Deletion, Row};
-use record_keeper::Write;
 use sqlite::{Alter, Connection, params};
 use std::alloc::Global;
-use stored_records::{DeletionRecord, NoteRecord, RowRecord, ids_text, number_text};
 use sync_info::{Info, write_info};
 
 /// Runs a statement on a key.

@@ -71,8 +71,8 @@ fn edited_item(
     Ok(new)
 }
 
-/// The note of an id, which must be readable. `NotFound` exactly if no row of this id is a note, `Sealed` exactly if it is
-/// sealed.
+/// The note of an id, which must be readable. `NotFound` exactly if no row of this id is a note, `Sealed` exactly
+/// if it is sealed.
 pub fn plain_note<'a>(tables: &'a Tables, id: &Id) -> Result<&'a Item, StoreErr>
     ensures { IsPlainNote (plain_note id.now (row_at tables.now id.now)) result }
 {

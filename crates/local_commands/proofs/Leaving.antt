@@ -1,50 +1,74 @@
 -- What every run leaves.
-use Rattle.std.specs.Prelude.{ℕ, ◌+◌, ◌≡◌, ◌⊎◌, List, [], ◌∷◌, ◌++◌, length, Result, Ok, Err, refl}
-use Rattle.std.proofs.Common.{sym, ◌∙◌, ap, inl, inr, append-nil, append_assoc}
-use Rattle.std.proofs.lemmas.List.{length-append}
+use Rattle.std.specs.Prelude.{ℕ, ◌≡◌, ◌⊎◌, List, [], ◌∷◌, Option, Some, None, option_map, Result, Ok, Err, refl}
+use Rattle.std.proofs.lemmas.Grind.{common_steps}
+use Rattle.std.proofs.Common.{arith, sym, ◌∙◌, ap, inl, inr, append-nil}
+use Rattle.client.specs.Outside.{OutsideNow}
+use Rattle.jop_outside.specs.Outside.{HasRisen, SourceNow}
+use Rattle.jop_outside.specs.Random.{EntropyNow}
+use Rattle.keeper.specs.Keepers.{Kept, KeeperNow}
+use Rattle.jop_target.specs.Trail.{LineNow}
 use Rattle.local_store.specs.Changing.{after_all}
-use Rattle.table_keeper.specs.Keepers.{Kept, KeeperNow}
-use Rattle.local_commands.specs.Following.{Follows, HasNoCause, IsNoted, IsWellOrMemory, MayBeLate, numbered}
-use Rattle.jop_target.specs.declared.event.Event.TheVariants.{Made}
-use Rattle.local_store.specs.declared.change.Change.{Change}
-use Rattle.local_commands.specs.Keeping.{Act, SaveBlob, MakeChange, DoesSome, Notes, changes_in, kept_after, kept_after_all, noted, notes_after_all}
+use Rattle.local_commands.specs.Drawing.{FailsToDraw}
+use Rattle.local_commands.specs.Following.{Follows, HasNoCause, IsRefusedEarly, IsWellOrMemory, MayBeLate}
+use Rattle.local_commands.specs.Keeping.{AreDone, DoesSome, changes_among, kept_after, kept_after_all}
+use Rattle.local_commands.specs.declared.act.Act.{Act}
+use Rattle.local_commands.specs.declared.act.Act.TheVariants.{SaveBlob, MakeChange}
 use Rattle.local_commands.specs.declared.local_err.LocalErr.{LocalErr}
-use Rattle.local_commands.specs.declared.local_err.LocalErr.TheVariants.{KeeperFault, SourceFault, ClockFault, EntropyFault, NotFound, Sealed, TimeEnd, NotEmpty, NoConflict, TooLarge, NotText, NoMemory}
-use Rattle.local_commands.specs.Running.{Plan, Work, Around, IsMade, IsUnsaved, IsCutShort, Runs}
-use Rattle.local_commands.proofs.Acting.{none_kept}
+use Rattle.local_commands.specs.declared.local_err.LocalErr.TheVariants.{KeeperFault, NoMemory}
+use Rattle.local_commands.specs.declared.work.Work.{Work}
+use Rattle.local_commands.specs.declared.drawing.Drawing.{Drawing}
+use Rattle.local_commands.specs.declared.drawing.Drawing.TheVariants.{NoId, OneId, TwoIds}
+use Rattle.local_commands.specs.declared.intake.Intake.{Intake}
+use Rattle.local_commands.specs.Taking.{FailsToGive}
+use Rattle.local_commands.specs.Running.{Plan, IsMade, IsUnsaved, IsCutShort, Runs}
 
--- ---- the list
+-- ---- no act
 
-same_unsaved : (old new : Around) → new ≡ old → IsUnsaved old new
-same_unsaved old new same = record {
-  keeper = ap (λ (a : Around). a.keeper) same;
-  notes = ap (λ (a : Around). a.notes) same;
-}
+-- what is kept is the same, and nothing is written down
+pub none_done : (old new : OutsideNow) → new.keeper.kept ≡ old.keeper.kept → new.line ≡ old.line
+    → new.made ≡ old.made → AreDone [] old new
+none_done old new kept line made = record {
+  kept = kept ∙ by old.keeper.kept;
+  noted = record {
+    made = made ∙ sym (append-nil old.made);
+    trail = ap (λ (l : LineNow). l.trail) line ∙ sym (append-nil old.line.trail);
+  };
+} where
+  by : (kept : Option Kept) → kept ≡ option_map (kept_after_all []) kept
+  by (Some k) = refl
+  by None = refl
 
--- nothing was saved or written down
-abbrev pub LeavesKept : Around → Around → Type 0
-LeavesKept old new = (new.keeper.kept ≡ old.keeper.kept) × (new.notes ≡ old.notes)
+-- ---- refusals
+
+pub unsaved : (p : Plan) (old new : OutsideNow) (answer : Result (List ℕ) LocalErr)
+    → Runs p old answer new → IsRefusedEarly answer → IsUnsaved old new
+unsaved p old new (Ok text) is early = absurd early
+unsaved p old new (Err KeeperFault) is early = absurd (early (inl refl))
+unsaved p old new (Err NoMemory) is early = absurd (early (inr refl))
+unsaved p old new (Err refusal) is early = grind (arith, common_steps)
+
+-- ---- whatever it answers
 
 -- the first acts were done of what was to be done
-pub record DidSome (p : Plan) (old new : Around) : Type 0 where
+pub record DidSome (p : Plan) (old new : OutsideNow) : Type 0 where
   pub work : Work
   pub made : IsMade p old new (Ok work)
-  pub some : DoesSome work.acts old.keeper old.notes new.keeper new.notes
+  pub some : DoesSome work.acts old new
 
-abbrev pub EndsIn : Plan → Around → Around → Type 0
-EndsIn p old new = LeavesKept old new ⊎ DidSome p old new
+abbrev pub EndsIn : Plan → OutsideNow → OutsideNow → Type 0
+EndsIn p old new = AreDone [] old new ⊎ DidSome p old new
 
-of_unsaved : (p : Plan) (old new : Around) → IsUnsaved old new → EndsIn p old new
-of_unsaved p old new is = inl (ap (λ (k : KeeperNow). k.kept) is.keeper, is.notes)
-
-of_same : (p : Plan) (old new : Around) → new ≡ old → EndsIn p old new
-of_same p old new same = of_unsaved p old new (same_unsaved old new same)
-
-of_cut : (p : Plan) (old new : Around) → IsCutShort p old new → EndsIn p old new
+of_cut : (p : Plan) (old new : OutsideNow) → IsCutShort p old new → EndsIn p old new
 of_cut p old new is = inr (record { work = is.work; made = is.made; some = is.does })
 
--- whatever it answers, some acts were done, the first ones, or none
-pub ends_in : (p : Plan) (old new : Around) (answer : Result (List ℕ) LocalErr)
+of_early : (p : Plan) (old new : OutsideNow) (refusal : LocalErr) → Runs p old (Err refusal) new
+    → ¬ MayBeLate refusal → EndsIn p old new
+of_early p old new refusal is early =
+    let none = unsaved p old new (Err refusal) is early in
+    inl (none_done old new (ap (λ (k : KeeperNow). k.kept) none.keeper) none.line none.made)
+
+-- some acts were done, the first ones, or none
+pub ends_in : (p : Plan) (old new : OutsideNow) (answer : Result (List ℕ) LocalErr)
     → Runs p old answer new → EndsIn p old new
 ends_in p old new (Ok text) is = inr (record {
   work = is.work;
@@ -53,98 +77,53 @@ ends_in p old new (Ok text) is = inr (record {
     front = is.work.acts;
     rest = [];
     split = sym (append-nil is.work.acts);
-    kept = ap (λ (k : KeeperNow). k.kept) is.keeper;
-    notes = is.notes;
+    done = is.done;
   };
 })
 ends_in p old new (Err KeeperFault) (inl is) =
-    inl (is.failed.same, ap (λ (a : Around). a.notes) is.same)
+    inl (none_done old new (ap (λ (o : OutsideNow). o.keeper.kept) is.same)
+    (ap (λ (o : OutsideNow). o.line) is.same) (ap (λ (o : OutsideNow). o.made) is.same))
 ends_in p old new (Err KeeperFault) (inr is) = of_cut p old new is.0
-ends_in p old new (Err (NotFound id)) is = of_same p old new is.same
-ends_in p old new (Err (Sealed id)) is = of_same p old new is.same
-ends_in p old new (Err (TimeEnd id)) is = of_same p old new is.same
-ends_in p old new (Err (NotEmpty id)) is = of_same p old new is.same
-ends_in p old new (Err (NoConflict number)) is = of_same p old new is.same
-ends_in p old new (Err SourceFault) is = of_unsaved p old new is.unsaved
-ends_in p old new (Err (TooLarge len)) (inl is) = of_unsaved p old new is.unsaved
-ends_in p old new (Err (TooLarge len)) (inr is) = of_unsaved p old new is.unsaved
-ends_in p old new (Err NotText) is = of_unsaved p old new is.unsaved
-ends_in p old new (Err ClockFault) is = of_unsaved p old new is.unsaved
-ends_in p old new (Err EntropyFault) is = of_unsaved p old new is.unsaved
-ends_in p old new (Err NoMemory) (inl is) = of_unsaved p old new is
-ends_in p old new (Err NoMemory) (inr is) = of_cut p old new is
+ends_in p old new (Err NoMemory) (inl is) =
+    inl (none_done old new (ap (λ (k : KeeperNow). k.kept) is.keeper) is.line is.made)
+ends_in p old new (Err NoMemory) (inr is) = of_cut p old new is.0
+ends_in p old new (Err refusal) is =
+    of_early p old new refusal is (λ late. elim late [ inl same ↦ cc | inr same ↦ cc ])
 
-pub follows : (p : Plan) (old new : Around) (answer : Result (List ℕ) LocalErr) → Runs p old answer new
-    → Follows old new
+pub follows : (p : Plan) (old new : OutsideNow) (answer : Result (List ℕ) LocalErr)
+    → Runs p old answer new → Follows old new
 follows p old new answer is = by (ends_in p old new answer is) where
   by : EndsIn p old new → Follows old new
-  by (inl same) = record {
-    acts = [];
-    kept = same.0 ∙ none_kept old.keeper.kept;
-    notes = same.1;
-  }
-  by (inr did) = record {
-    acts = did.some.front;
-    kept = did.some.kept;
-    notes = did.some.notes;
-  }
+  by (inl none) = record { acts = []; done = none }
+  by (inr did) = record { acts = did.some.front; done = did.some.done }
 
 pub tables_after : (acts : List Act) (kept : Kept)
-    → (kept_after_all acts kept).tables ≡ after_all kept.tables (changes_in acts)
+    → (kept_after_all acts kept).tables ≡ after_all kept.tables (changes_among acts)
 unfolding after_all
 tables_after [] kept = refl
 tables_after (SaveBlob blob ∷ acts) kept = tables_after acts (kept_after (SaveBlob blob) kept)
-tables_after (MakeChange change ∷ acts) kept = tables_after acts (kept_after (MakeChange change) kept)
-
-noted_first : (change : Change) (made : List Change) (before after : Notes)
-    → IsNoted made (noted change before) after → IsNoted (change ∷ made) before after
-noted_first change made before after is = (
-  is.0 ∙ append_assoc before.changes (change ∷ []) made,
-  is.1 ∙ (append_assoc before.trail (Made (length before.changes) ∷ [])
-      (numbered (length (noted change before).changes) made)
-      ∙ ap (λ (n : ℕ). before.trail ++ Made (length before.changes) ∷ numbered n made)
-      (length-append before.changes (change ∷ []))),
-)
-
-pub notes_after : (acts : List Act) (n : Notes) → IsNoted (changes_in acts) n (notes_after_all acts n)
-notes_after [] n = (sym (append-nil n.changes), sym (append-nil n.trail))
-notes_after (SaveBlob blob ∷ acts) n = notes_after acts n
-notes_after (MakeChange change ∷ acts) n =
-    noted_first change (changes_in acts) n (notes_after_all acts (noted change n))
-    (notes_after acts (noted change n))
-
--- ---- refusals
-
-pub unsaved : (p : Plan) (old new : Around) (refusal : LocalErr) → Runs p old (Err refusal) new
-    → ¬ MayBeLate refusal → IsUnsaved old new
-unsaved p old new KeeperFault is early = absurd (early (inl refl))
-unsaved p old new (NotFound id) is early = same_unsaved old new is.same
-unsaved p old new (Sealed id) is early = same_unsaved old new is.same
-unsaved p old new (TimeEnd id) is early = same_unsaved old new is.same
-unsaved p old new (NotEmpty id) is early = same_unsaved old new is.same
-unsaved p old new (NoConflict number) is early = same_unsaved old new is.same
-unsaved p old new SourceFault is early = is.unsaved
-unsaved p old new (TooLarge len) (inl is) early = is.unsaved
-unsaved p old new (TooLarge len) (inr is) early = is.unsaved
-unsaved p old new NotText is early = is.unsaved
-unsaved p old new ClockFault is early = is.unsaved
-unsaved p old new EntropyFault is early = is.unsaved
-unsaved p old new NoMemory is early = absurd (early (inr refl))
+tables_after (MakeChange change ∷ acts) kept =
+    tables_after acts (kept_after (MakeChange change) kept)
 
 -- ---- completeness
 
-pub complete : (p : Plan) (old new : Around) (answer : Result (List ℕ) LocalErr) → HasNoCause p old new
-    → Runs p old answer new → IsWellOrMemory answer
-complete p old new (Ok text) none is = inl refl
-complete p old new (Err KeeperFault) none is = absurd (none KeeperFault (λ same. cc) is)
-complete p old new (Err (NotFound id)) none is = absurd (none (NotFound id) (λ same. cc) is)
-complete p old new (Err (Sealed id)) none is = absurd (none (Sealed id) (λ same. cc) is)
-complete p old new (Err (TimeEnd id)) none is = absurd (none (TimeEnd id) (λ same. cc) is)
-complete p old new (Err (NotEmpty id)) none is = absurd (none (NotEmpty id) (λ same. cc) is)
-complete p old new (Err (NoConflict number)) none is = absurd (none (NoConflict number) (λ same. cc) is)
-complete p old new (Err SourceFault) none is = absurd (none SourceFault (λ same. cc) is)
-complete p old new (Err (TooLarge len)) none is = absurd (none (TooLarge len) (λ same. cc) is)
-complete p old new (Err NotText) none is = absurd (none NotText (λ same. cc) is)
-complete p old new (Err ClockFault) none is = absurd (none ClockFault (λ same. cc) is)
-complete p old new (Err EntropyFault) none is = absurd (none EntropyFault (λ same. cc) is)
-complete p old new (Err NoMemory) none is = inr refl
+pub complete : (p : Plan) (old new : OutsideNow) (answer : Result (List ℕ) LocalErr)
+    → Runs p old answer new → HasNoCause p old new → IsWellOrMemory answer
+complete p old new (Ok text) is none = inl refl
+complete p old new (Err NoMemory) is none = inr refl
+complete p old new (Err refusal) is none = absurd (none refusal (λ same. cc) is)
+
+-- ---- faults
+
+-- an input that fails is one that is used
+pub given_fault : (intake : Option Intake) (old new : SourceNow) → FailsToGive intake old new
+    → HasRisen old.faults new.faults
+given_fault None old new fails = absurd fails
+given_fault (Some intake) old new fails = fails
+
+-- and so is a random source
+pub drawn_fault : (draws : Drawing) (old new : EntropyNow) → FailsToDraw draws old new
+    → HasRisen old.faults new.faults
+drawn_fault NoId old new fails = absurd fails
+drawn_fault OneId old new fails = fails
+drawn_fault TwoIds old new fails = fails

@@ -1,12 +1,6 @@
-pub mod Acting
-pub mod Bytes
-pub mod Due
 pub mod Edits
 pub mod InARow
 pub mod Leaving
 pub mod Plain
-pub mod Planned
-pub mod Removals
-pub mod Runs
+pub mod Rows
 pub mod Sparing
-pub mod Stages

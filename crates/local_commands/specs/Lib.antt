@@ -4,11 +4,12 @@ pub mod Taking
 pub mod Drawing
 pub mod Running
 pub mod Sparing
+pub mod Stages
 pub mod Following
 pub mod Bodies
 pub mod Books
 pub mod Lines
 pub mod Saving
-pub mod Stamping
 pub mod Commands
 pub mod Plans
+pub mod Licences

@@ -1,5 +1,5 @@
 -- The plan of each command: a row for each.
-use Rattle.std.specs.Prelude.{ℕ, ◌≡◌, List, Option, IfSome}
+use Rattle.std.specs.Prelude.{◌≡◌, IfSome}
 use Rattle.item_kinds.specs.Made.{IsLine}
 use Rattle.item_text.specs.Lines.{trimmed}
 use Rattle.local_commands.specs.Commands.Add.{add_plan}
@@ -29,6 +29,7 @@ IsWellFormed (Mkbook title parent) = IsLine title
 IsWellFormed (Rm id) = Unit {0}
 IsWellFormed (Tag note title) = IsLine title
 
+-- what each command is
 abbrev pub plan_of : LocalCommand → Plan
 plan_of (Add book title) = add_plan book title
 plan_of (Attach name mime) = attach_plan name mime

@@ -1,16 +1,17 @@
 -- Why a command ended otherwise than well, by the errors of what it stands on.
-use Rattle.std.specs.Prelude.{ℕ, List, Result, Ok, Err}
-use Rattle.table_keeper.specs.declared.keeper_err.KeeperErr.{KeeperErr}
-use Rattle.table_keeper.specs.declared.keeper_err.KeeperErr.TheVariants as keeper_errors
+use Rattle.keeper.specs.declared.keeper_err.KeeperErr.{KeeperErr}
+use Rattle.keeper.specs.declared.keeper_err.KeeperErr.TheVariants as keeper_errors
 use Rattle.local_changes.specs.declared.store_err.StoreErr.{StoreErr}
 use Rattle.local_changes.specs.declared.store_err.StoreErr.TheVariants as store_errors
 use Rattle.local_commands.specs.declared.local_err.LocalErr.{LocalErr}
 use Rattle.local_commands.specs.declared.local_err.LocalErr.TheVariants.{KeeperFault, NotFound, Sealed, TimeEnd, NotEmpty, TooLarge, NoMemory}
 
+-- why a command ended, where the keeper refused
 abbrev pub keeper_refusal : KeeperErr → LocalErr
 keeper_refusal keeper_errors.Fault = KeeperFault
 keeper_refusal keeper_errors.NoMemory = NoMemory
 
+-- why a command ended, where no change could be made
 abbrev pub store_refusal : StoreErr → LocalErr
 store_refusal (store_errors.NotFound id) = NotFound id
 store_refusal (store_errors.Sealed id) = Sealed id
@@ -18,8 +19,3 @@ store_refusal (store_errors.TimeEnd id) = TimeEnd id
 store_refusal (store_errors.NotEmpty id) = NotEmpty id
 store_refusal (store_errors.TooLarge len) = TooLarge len
 store_refusal store_errors.NoMemory = NoMemory
-
--- what a command answered: the text that it prints, or why it ended otherwise than well
-abbrev pub said : {T : Type 0} → (T → List ℕ) → Result T LocalErr → Result (List ℕ) LocalErr
-said text (Ok value) = Ok (text value)
-said text (Err error) = Err error

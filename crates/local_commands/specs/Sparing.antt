@@ -1,17 +1,13 @@
 -- What a command leaves alone, whatever it answers.
-use Rattle.std.specs.Prelude.{ℕ, ◌≤◌, ◌≡◌, Bool, true, false, Option, Some, None, option_map}
+use Rattle.std.specs.Prelude.{ℕ, ◌≡◌, Bool, true, false, Option, Some, None, option_map}
+use Rattle.client.specs.Outside.{IsReadOf, OutsideNow}
 use Rattle.jop_outside.specs.Clocks.{ClockNow}
 use Rattle.jop_outside.specs.Outside.{SourceNow}
 use Rattle.jop_outside.specs.Random.{EntropyNow}
-use Rattle.jop_outside.specs.Reading.{IsRestOf}
-use Rattle.local_commands.specs.Drawing.{Drawing, NoId, OneId, TwoIds}
-use Rattle.local_commands.specs.Running.{Around, Plan}
-use Rattle.local_commands.specs.Taking.{Intake}
-
--- no more than the limit and a byte was read, and the count of faults didn't fall
-pub record IsReadOf (limit : ℕ) (old new : SourceNow) : Type 0 where
-  pub later : old.faults ≤ new.faults
-  pub rest : IsRestOf limit old.left new.left
+use Rattle.local_commands.specs.declared.drawing.Drawing.{Drawing}
+use Rattle.local_commands.specs.declared.drawing.Drawing.TheVariants.{NoId, OneId, TwoIds}
+use Rattle.local_commands.specs.declared.intake.Intake.{Intake}
+use Rattle.local_commands.specs.Running.{Plan}
 
 -- an input that isn't used is as it was; of any other no more than its limit and a byte was read
 abbrev pub SparesInput : Option ℕ → SourceNow → SourceNow → Type 0
@@ -30,15 +26,20 @@ SparesRandom true old new = Unit {0}
 
 -- ---- what a plan uses
 
-abbrev pub limit_of : Intake → ℕ
-limit_of intake = intake.limit
+-- the most bytes of an input that is taken so
+abbrev pub intake_limit : Intake → ℕ
+intake_limit intake = intake.limit
 
+-- whether any id is drawn
 abbrev pub draws_ids : Drawing → Bool
 draws_ids NoId = false
 draws_ids OneId = true
 draws_ids TwoIds = true
 
-pub record Spares (p : Plan) (old new : Around) : Type 0 where
-  pub input : SparesInput (option_map limit_of p.intake) old.input new.input
+-- What a command doesn't use is as it was, whatever it answers; no command uses the target and the output.
+pub record Spares (p : Plan) (old new : OutsideNow) : Type 0 where
+  pub input : SparesInput (option_map intake_limit p.intake) old.input new.input
   pub clock : SparesClock p.clock old.clock new.clock
   pub random : SparesRandom (draws_ids p.draws) old.entropy new.entropy
+  pub target : new.line.target ≡ old.line.target
+  pub out : new.out ≡ old.out

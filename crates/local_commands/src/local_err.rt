@@ -1,9 +1,7 @@
-use crate::body::{BODY_LIMIT, BodyErr};
-use crate::stamp::StampErr;
 use jop_base::Id;
+use keeper::KeeperErr;
 use local_changes::StoreErr;
 use std::alloc::AllocError;
-use table_keeper::KeeperErr;
 
 /// Why a command ended otherwise than well: one word for each cause. Which of them a command can give
 /// follows from its plan.
@@ -56,36 +54,6 @@ impl From<KeeperErr> for LocalErr {
         match error {
             KeeperErr::Fault => LocalErr::KeeperFault,
             KeeperErr::NoMemory => LocalErr::NoMemory,
-        }
-    }
-}
-
-impl From<BodyErr> for LocalErr {
-    ghost use Rattle.std.specs.Prelude.{◌≡◌};
-    ghost use Rattle.local_commands.specs.Bodies.{body_refusal};
-
-    ghost from_gives = { λ b e. e ≡ body_refusal b };
-
-    fn from(error: BodyErr) -> LocalErr {
-        match error {
-            BodyErr::SourceFault => LocalErr::SourceFault,
-            BodyErr::TooLarge => LocalErr::TooLarge(BODY_LIMIT as u64 + 1),
-            BodyErr::NotText => LocalErr::NotText,
-            BodyErr::NoMemory => LocalErr::NoMemory,
-        }
-    }
-}
-
-impl From<StampErr> for LocalErr {
-    ghost use Rattle.std.specs.Prelude.{◌≡◌};
-    ghost use Rattle.local_commands.specs.Stamping.{stamp_refusal};
-
-    ghost from_gives = { λ s e. e ≡ stamp_refusal s };
-
-    fn from(error: StampErr) -> LocalErr {
-        match error {
-            StampErr::ClockFault => LocalErr::ClockFault,
-            StampErr::EntropyFault => LocalErr::EntropyFault,
         }
     }
 }

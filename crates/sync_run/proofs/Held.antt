@@ -1,7 +1,7 @@
 -- What a session came to under its lease, and once its lock was deleted.
-use Rattle.std.proofs.Common.{◌≡◌, ◌≤◌, ◌<◌, ◌∙◌, refl, sym, ap, subst, inl, inr, arith, ℕ, List, [], ◌∷◌, ◌++◌, true, Option, Some, None, Result, Ok, Err}
+use Rattle.std.proofs.Common.{◌≡◌, ◌∙◌, refl, sym, ap, subst, inl, inr, ℕ, List, [], ◌∷◌, ◌++◌, true, Result, Ok, Err}
 use Rattle.jop_base.specs.declared.lock_name.LockKind.{LockKind}
-use Rattle.jop_base.specs.declared.lock_name.LockKind.TheVariants.{Exclusive}
+use Rattle.jop_base.specs.declared.lock_name.LockKind.TheVariants.{Exclusive, Sync}
 use Rattle.jop_base.specs.declared.path.Path.TheVariants.{Lock as LockFile}
 use Rattle.jop_target.specs.declared.call.Call.TheVariants.{Delete}
 use Rattle.jop_target.specs.declared.event.Event.{Event}
@@ -9,30 +9,38 @@ use Rattle.jop_target.specs.declared.event.Event.TheVariants.{Began, Called}
 use Rattle.jop_target.specs.declared.reply.Reply.{Reply}
 use Rattle.jop_target.specs.declared.reply.Reply.TheVariants.{Failed}
 use Rattle.jop_target.specs.Trail.{LineNow}
-use Rattle.lease.specs.Calls.{LeaseGoesOn}
+use Rattle.lease.specs.Calls.{LeaseGoesOn, IsLeaseEvent}
 use Rattle.lease.specs.Discipline.{ends_released, phase_of}
 use Rattle.lease.specs.Locks.{own_name}
 use Rattle.lease.specs.Outcomes.{Acquires, HasAcquired, IsBlocked, Releases}
 use Rattle.lease.specs.Phase.{Held, Over}
 use Rattle.lease.specs.Standing.{IsSameBut, StandsIn}
+use Rattle.lease.specs.Work.{NoneFailed}
 use Rattle.lease.specs.declared.error.LeaseErr.{LeaseErr}
 use Rattle.lease.specs.declared.error.LeaseErr.TheVariants.{Busy, Lost, TargetFault, NoMemory}
 use Rattle.lease.specs.declared.lease.Lease.{Lease}
 use Rattle.lease.specs.declared.lock.Lock.{Lock}
+use Rattle.lease.proofs.NoFailures.{none_failed_on}
 use Rattle.lease.proofs.WholeSessions.{begun_stands}
-use Rattle.sync_info.specs.declared.info.Info.{Info}
-use Rattle.target_upgrade.specs.Answers.{Begins, HasCome, StandsAt, Stops, WorkGoesOn, info_or_new}
+use Rattle.target_upgrade.specs.Answers.{HasCome, StandsAt, Stops, WorkGoesOn, info_or_new}
 use Rattle.target_upgrade.specs.Course.{Course, course_of, outside_course}
-use Rattle.target_upgrade.specs.Reading.{HasBadInfo, HasFound, IsFoundAt}
-use Rattle.target_upgrade.specs.Steps.{Reads, Stuck, Upgraded as IsUpgraded, starts}
+use Rattle.target_upgrade.specs.Reading.{HasFound}
+use Rattle.target_upgrade.specs.Steps.{Reads, starts}
 use Rattle.target_upgrade.specs.declared.reading.Found.{Found}
 use Rattle.target_upgrade.proofs.Courses.{course_from-last, idle_work}
 use Rattle.target_upgrade.proofs.Made.{client_same, goes_lease, goes_on, goes_then, same_on, stops_then}
-use Rattle.sync_run.specs.Outcomes.{Comes, HasOutcome, ReadsBadInfo, ReadsNewer, StandsFor}
-use Rattle.sync_run.specs.Sessions.{HasBegun, session_err_of}
-use Rattle.sync_run.specs.Upgrades.{HasLeft, IsUpgradeReleased, IsUpgradedAt, answer_of}
+use Rattle.sync_run.proofs.Starved.{none_failed_stopped, none_failed_starved}
+use Rattle.sync_run.specs.Outcomes.{Comes, ReadsBadInfo, ReadsNewer, StandsFor}
+use Rattle.sync_run.specs.Sessions.{HasBegun, IsReleased, session_err_of, Runs}
+use Rattle.sync_run.specs.Upgrades.{HasLeft, IsUpgradedAt, RunsUpgrade, UpgradeAnswers, answer_released}
 use Rattle.sync_run.specs.declared.outcome.Outcome.{Outcome}
+use Rattle.sync_run.specs.declared.session_err.SessionErr.{SessionErr}
+use Rattle.sync_run.specs.declared.session_err.SessionErr.TheVariants as session_errors
 use Rattle.sync_run.specs.declared.outcome.Outcome.TheVariants.{Upgraded, Newer, BadInfo}
+use Rattle.jop_target.specs.declared.call.Call.{Call}
+use Rattle.lease.specs.Added.{Makes}
+use Rattle.lease.proofs.Sessions.{lease_on}
+use Rattle.sync_run.specs.Checks.{CheckAnswers}
 
 -- ---- a session that has begun
 
@@ -72,20 +80,24 @@ stands_acquired client old new lease begun goes h =
 
 -- ---- there is no lease
 
-over_released : (client : List ℕ) (trail : List Event) → StandsIn client trail Over →
+pub over_released : (client : List ℕ) (trail : List Event) → StandsIn client trail Over →
     ends_released (phase_of client trail) ≡ true
 over_released client trail over = ap ends_released over.phase
 
-blocked_released : (client : List ℕ) (trail : List Event) (lock : Lock) (now : ℕ) →
-    IsBlocked Exclusive client trail lock now → ends_released (phase_of client trail) ≡ true
-blocked_released client trail lock now (inl once) = ap ends_released once.looked.phase
-blocked_released client trail lock now (inr after) = over_released client trail after.left.over
+pub blocked_released : (kind : LockKind) (client : List ℕ) (trail : List Event) (lock : Lock) (now : ℕ) →
+    IsBlocked kind client trail lock now → ends_released (phase_of client trail) ≡ true
+blocked_released kind client trail lock now (inl once) = ap ends_released once.looked.phase
+blocked_released kind client trail lock now (inr after) = over_released client trail after.left.over
+
+-- the calls have come to this, and the lock is released as far as can be known
+abbrev IsUpgradeReleased : List ℕ → List Event → Result ℕ SessionErr → Type 0
+IsUpgradeReleased client trail result = IsReleased (UpgradeAnswers client) client trail result
 
 pub released_none : (client : List ℕ) (old new : LineNow) (e : LeaseErr) →
     Acquires Exclusive client old new (Err e) →
     IsUpgradeReleased client new.trail (Err (session_err_of e))
 released_none client old new (Busy lock now) h =
-    (h, blocked_released client new.trail lock now h)
+    (h, blocked_released Exclusive client new.trail lock now h)
 released_none client old new (Lost seen) h = (inl h, over_released client new.trail h.left.over)
 released_none client old new TargetFault h =
     (h.failed, over_released client new.trail h.failed.over)
@@ -100,48 +112,6 @@ released_stops lease old new TargetFault h =
     (h.failed, over_released lease.client new.trail h.failed.over)
 released_stops lease old new NoMemory h = tt
 released_stops lease old new (Busy lock now) h = absurd h
-
--- ---- what was found
-
-pub begins_found : (lease : Lease) (found : Found) (trail : List Event) →
-    found.version ≤ 3 → IsFoundAt lease found trail →
-    Begins lease trail found.version (info_or_new found.version found.info)
-begins_found lease found trail known h =
-    record { stands = h.stands; version = h.version; known = known; valid = h.valid }
-
-newer_read : (lease : Lease) (version : ℕ) (info : Option Info) (trail : List Event) →
-    3 < version → IsFoundAt lease (record { version = version; info = info }) trail →
-    ReadsNewer trail version
-newer_read lease version None trail newer h = absurd (omega (arith, newer, h.read))
-newer_read lease version (Some info) trail newer h =
-    record { info = info; got = h.read; version_is = h.version; newer = newer }
-
-pub stands_newer : (lease : Lease) (found : Found) (trail : List Event) → 3 < found.version →
-    IsFoundAt lease found trail → HasOutcome lease lease trail (Newer found.version)
-stands_newer lease found trail newer h = record {
-  same = refl;
-  at = record {
-    stage = starts (info_or_new found.version found.info);
-    stands = h.stands;
-    told = newer_read lease found.version found.info trail newer h;
-  };
-}
-
-pub stands_upgraded : (before after : Lease) (new : LineNow) →
-    HasCome before after IsUpgraded new → HasOutcome before after new.trail Upgraded
-stands_upgraded before after new h =
-    record { same = h.same; at = record { stage = IsUpgraded; stands = h.stands; told = refl } }
-
-pub stands_bad : (before after : Lease) (new : LineNow) → HasBadInfo before after new →
-    HasOutcome before after new.trail BadInfo
-stands_bad before after new h = record {
-  same = h.same;
-  at = record {
-    stage = Stuck;
-    stands = h.stands;
-    told = record { reply = h.reply; ends = h.ends; bad = h.cause };
-  };
-}
 
 -- ---- the lock is deleted
 
@@ -164,7 +134,7 @@ has_left lease old new reply Was exclusive held was ends = record {
 
 pub released_left : (lease : Lease) (old new : LineNow) (released : Result (Unit {0}) LeaseErr)
     (outcome : Outcome) → StandsFor lease old.trail outcome → Releases lease old new released →
-    IsUpgradeReleased lease.client new.trail (answer_of released outcome)
+    IsUpgradeReleased lease.client new.trail (answer_released released outcome)
 released_left lease old new (Err NoMemory) outcome s h = tt
 released_left lease old new (Err (Busy lock now)) outcome s h = absurd h
 released_left lease old new (Err (Lost seen)) outcome s h = absurd h
@@ -196,6 +166,16 @@ released_left lease old new (Err TargetFault) BadInfo s h = (
   over_released lease.client new.trail h.fails.failed.over,
 )
 
+pub runs_upgrade : (client : List ℕ) (old new : LineNow) (result : Result ℕ SessionErr) →
+    WorkGoesOn client old new → IsUpgradeReleased client new.trail result →
+    (result ≡ Err session_errors.NoMemory → NoneFailed old.trail new.trail) →
+    RunsUpgrade client old new result
+runs_upgrade client old new result h released heard =
+    record {
+      on = record { goes = h.goes; work = h.work };
+      ends = record { released = released; heard = heard };
+    }
+
 -- ---- whose lease it is
 
 pub whose : (client : List ℕ) (trail : List Event) (lease : Lease) →
@@ -226,6 +206,33 @@ goes_left client lease after old mid late new begun goes h k same l =
     h)
     (goes_under client lease old mid late begun goes h k) l
 
+-- ---- what it answers then
+
+-- there is no lease any more
+pub runs_stopped : (client : List ℕ) (lease : Lease) (old mid new : LineNow) (e : LeaseErr) →
+    lease.client ≡ client → WorkGoesOn client old new → NoneFailed old.trail mid.trail →
+    Stops lease mid new e → RunsUpgrade client old new (Err (session_err_of e))
+runs_stopped client lease old mid new e mine goes none h =
+    runs_upgrade client old new (Err (session_err_of e)) goes
+    (subst (λ (c : List ℕ). IsUpgradeReleased c new.trail (Err (session_err_of e))) mine
+    (released_stops lease mid new e h))
+    (λ starved. none_failed_on old.trail mid.trail new.trail none
+    (none_failed_stopped lease mid new e _ h refl starved))
+
+pub work_of : (client : List ℕ) (old new : LineNow) (result : Result ℕ SessionErr) →
+    RunsUpgrade client old new result → WorkGoesOn client old new
+work_of client old new result h = record { goes = h.on.goes; work = h.on.work }
+
+-- the lease was given up
+pub runs_left : (client : List ℕ) (lease : Lease) (old late new : LineNow)
+    (result : Result ℕ SessionErr) → lease.client ≡ client → WorkGoesOn client old new →
+    NoneFailed old.trail late.trail → RunsUpgrade lease.client late new result →
+    RunsUpgrade client old new result
+runs_left client lease old late new result mine goes none h =
+    runs_upgrade client old new result goes
+    (subst (λ (c : List ℕ). IsUpgradeReleased c new.trail result) mine h.ends.released)
+    (λ starved. none_failed_on old.trail late.trail new.trail none (h.ends.heard starved))
+
 -- ---- the version was read, and then the steps were made
 
 found_come : (a b : Lease) (found : Found) (mid : LineNow) → HasFound a b found mid →
@@ -246,3 +253,96 @@ comes_found a b c found old mid new (Ok outcome) h k l =
 comes_found a b c found old mid new (Err e) h k l =
     stops_then a b (starts (info_or_new found.version found.info)) old mid new e
     (found_come a b found mid h) k l
+
+-- ---- a check
+
+abbrev pub RunsCheck : List ℕ → LineNow → LineNow → Result (Unit {0}) SessionErr → Type 0
+RunsCheck client old new result = Runs IsLeaseEvent CheckAnswers client old new result
+
+abbrev IsCheckReleased : List ℕ → LineNow → Result (Unit {0}) SessionErr → Type 0
+IsCheckReleased client new result = IsReleased (CheckAnswers client) client new.trail result
+
+runs_check : (client : List ℕ) (old new : LineNow) (result : Result (Unit {0}) SessionErr) →
+    HasBegun client old.trail → LeaseGoesOn client old new → IsCheckReleased client new result →
+    (result ≡ Err session_errors.NoMemory → NoneFailed old.trail new.trail) →
+    RunsCheck client old new result
+runs_check client old new result begun h released heard = record {
+  on = record {
+    goes = record { running = h.running; lawful = h.lawful; line = h.line };
+    work = (goes_acquired client old new begun h).work;
+  };
+  ends = record { released = released; heard = heard };
+}
+
+-- ---- there is no lease for a check
+
+check_released_none : (client : List ℕ) (old new : LineNow) (e : LeaseErr) →
+    Acquires Sync client old new (Err e) → IsCheckReleased client new (Err (session_err_of e))
+check_released_none client old new (Busy lock now) h =
+    (h, blocked_released Sync client new.trail lock now h)
+check_released_none client old new (Lost seen) h = (h, over_released client new.trail h.left.over)
+check_released_none client old new TargetFault h =
+    (h.failed, over_released client new.trail h.failed.over)
+check_released_none client old new NoMemory h = tt
+
+pub checks_none : (calls : List Call) (client : List ℕ) (old new : LineNow) (e : LeaseErr) →
+    HasBegun client old.trail → LeaseGoesOn client old new → Acquires Sync client old new (Err e) →
+    Makes {T = Unit {0}} calls old.trail new.trail (Err e) →
+    RunsCheck client old new (Err (session_err_of e))
+checks_none calls client old new e begun goes h made =
+    runs_check client old new _ begun goes (check_released_none client old new e h)
+    (none_failed_starved calls old.trail new.trail e _ made refl)
+
+-- ---- the lock of a check is deleted
+
+-- what a check answers whose release was answered so
+abbrev pub released_as : Result (Unit {0}) LeaseErr → Result (Unit {0}) SessionErr
+released_as (Ok done) = Ok done
+released_as (Err e) = Err (session_err_of e)
+
+check_released_left : (client : List ℕ) (stamp : ℕ) (mid new : LineNow)
+    (released : Result (Unit {0}) LeaseErr) → StandsIn client mid.trail (Held Sync stamp) →
+    Releases (record { client = client; kind = Sync; stamp = stamp }) mid new released →
+    IsCheckReleased client new (released_as released)
+check_released_left client stamp mid new (Ok done) held h = (
+  record {
+    before = mid.trail;
+    stamp = stamp;
+    held = held;
+    reply = h.reply;
+    ends = h.trail;
+    shape = h.shape;
+    heard = h.heard;
+  },
+  over_released client new.trail h.over,
+)
+check_released_left client stamp mid new (Err TargetFault) held h =
+    (h.fails.failed, over_released client new.trail h.fails.failed.over)
+check_released_left client stamp mid new (Err NoMemory) held h = tt
+check_released_left client stamp mid new (Err (Busy lock now)) held h = absurd h
+check_released_left client stamp mid new (Err (Lost seen)) held h = absurd h
+
+heard_left : (calls : List Call) (old mid new : List Event)
+    (released : Result (Unit {0}) LeaseErr) → NoneFailed old mid → Makes calls mid new released →
+    released_as released ≡ Err session_errors.NoMemory → NoneFailed old new
+heard_left calls old mid new (Ok done) none made is = cc
+heard_left calls old mid new (Err e) none made is =
+    none_failed_on old mid new none
+    (none_failed_starved calls mid new e (released_as (Err e)) made refl is)
+
+pub checks_left : (calls : List Call) (client : List ℕ) (old mid new : LineNow) (lease : Lease)
+    (released : Result (Unit {0}) LeaseErr) → HasBegun client old.trail →
+    LeaseGoesOn client old mid → HasAcquired Sync client mid.trail lease →
+    NoneFailed old.trail mid.trail → LeaseGoesOn lease.client mid new →
+    Releases lease mid new released → Makes calls mid.trail new.trail released →
+    RunsCheck client old new (released_as released)
+checks_left calls client old mid new lease released begun first has none second gives made =
+    let on : LeaseGoesOn client mid new =
+    subst (λ (l : Lease). LeaseGoesOn l.client mid new) has.whole second in
+    let held : StandsIn client mid.trail (Held Sync lease.stamp) =
+    subst (λ (l : Lease). StandsIn l.client mid.trail (Held l.kind l.stamp)) has.whole
+    has.fresh.held.stands in
+    let left = subst (λ (l : Lease). Releases l mid new released) has.whole gives in
+    runs_check client old new (released_as released) begun (lease_on client old mid new first on)
+    (check_released_left client lease.stamp mid new released held left)
+    (heard_left calls old.trail mid.trail new.trail released none made)

@@ -1,3 +1,4 @@
 mod Held
+pub mod Leases
 pub mod Starved
 pub mod Whole

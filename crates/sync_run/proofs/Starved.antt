@@ -1,5 +1,5 @@
 -- Out of memory no call of a session was answered `Failed`.
-use Rattle.std.proofs.Common.{◌≡◌, ◌∙◌, refl, sym, subst, List, [], ◌∷◌, ◌++◌, append-nil, false, Result, Ok, Err}
+use Rattle.std.proofs.Common.{Bool, true, ◌≡◌, ◌∙◌, refl, sym, subst, List, [], ◌∷◌, ◌++◌, append-nil, false, Result, Ok, Err}
 use Rattle.std.proofs.lemmas.List.{append_cancel_left}
 use Rattle.jop_target.specs.declared.call.Call.{Call}
 use Rattle.jop_target.specs.declared.event.Event.{Event}
@@ -9,7 +9,7 @@ use Rattle.jop_target.specs.Trail.{LineNow}
 use Rattle.lease.specs.Added.{Makes}
 use Rattle.lease.specs.Work.{NoneFailed}
 use Rattle.lease.specs.declared.error.LeaseErr.{LeaseErr}
-use Rattle.lease.specs.declared.error.LeaseErr.TheVariants.{Busy, Lost, TargetFault, NoMemory}
+use Rattle.lease.specs.declared.error.LeaseErr.TheVariants.{NoMemory}
 use Rattle.lease.specs.declared.lease.Lease.{Lease}
 use Rattle.lease.proofs.WholeSessions.{at_seam}
 use Rattle.lease.proofs.Works.{none_failed}
@@ -17,7 +17,7 @@ use Rattle.target_upgrade.specs.Answers.{Stops, WorkGoesOn}
 use Rattle.target_upgrade.proofs.Made.{none_failed_come}
 use Rattle.sync_run.specs.Outcomes.{HasOutcome}
 use Rattle.sync_run.specs.Sessions.{session_err_of}
-use Rattle.sync_run.specs.Upgrades.{answer_of}
+use Rattle.sync_run.specs.Upgrades.{answer_by, answer_released}
 use Rattle.sync_run.specs.declared.outcome.Outcome.{Outcome}
 use Rattle.sync_run.specs.declared.outcome.Outcome.TheVariants.{Upgraded, Newer, BadInfo}
 use Rattle.sync_run.specs.declared.session_err.SessionErr.{SessionErr}
@@ -30,27 +30,22 @@ pub none_failed_starved : {U : Type 0} (calls : List Call) (old new : List Event
     (e : LeaseErr) (result : Result U SessionErr) → Makes {T = Unit {0}} calls old new (Err e) →
     result ≡ Err (session_err_of e) → result ≡ Err session_errors.NoMemory → NoneFailed old new
 none_failed_starved calls old new NoMemory result h told is = none_failed calls h.0 old new h.1
-none_failed_starved calls old new TargetFault result h told is = cc
-none_failed_starved calls old new (Busy lock now) result h told is = cc
-none_failed_starved calls old new (Lost seen) result h told is = cc
+none_failed_starved calls old new e result h told is = cc
 
 -- the release, whatever the session came to
+answered : (released : Bool) (outcome : Outcome) →
+    answer_by released outcome ≡ Err session_errors.NoMemory → ⊥
+answered true Upgraded is = cc
+answered false Upgraded is = cc
+answered released (Newer version) is = cc
+answered released BadInfo is = cc
+
 pub none_failed_left : (calls : List Call) (old new : List Event)
     (released : Result (Unit {0}) LeaseErr) (outcome : Outcome) → Makes calls old new released →
-    answer_of released outcome ≡ Err session_errors.NoMemory → NoneFailed old new
+    answer_released released outcome ≡ Err session_errors.NoMemory → NoneFailed old new
 none_failed_left calls old new (Err NoMemory) outcome h is = none_failed calls h.0 old new h.1
-none_failed_left calls old new (Ok done) Upgraded h is = cc
-none_failed_left calls old new (Ok done) (Newer version) h is = cc
-none_failed_left calls old new (Ok done) BadInfo h is = cc
-none_failed_left calls old new (Err TargetFault) Upgraded h is = cc
-none_failed_left calls old new (Err TargetFault) (Newer version) h is = cc
-none_failed_left calls old new (Err TargetFault) BadInfo h is = cc
-none_failed_left calls old new (Err (Busy lock now)) Upgraded h is = cc
-none_failed_left calls old new (Err (Busy lock now)) (Newer version) h is = cc
-none_failed_left calls old new (Err (Busy lock now)) BadInfo h is = cc
-none_failed_left calls old new (Err (Lost seen)) Upgraded h is = cc
-none_failed_left calls old new (Err (Lost seen)) (Newer version) h is = cc
-none_failed_left calls old new (Err (Lost seen)) BadInfo h is = cc
+none_failed_left calls old new (Ok done) outcome h is = absurd (answered true outcome is)
+none_failed_left calls old new (Err e) outcome h is = absurd (answered false outcome is)
 
 -- ---- what is done under it
 
@@ -59,9 +54,7 @@ pub none_failed_stopped : {U : Type 0} (lease : Lease) (old new : LineNow) (e : 
     (result : Result U SessionErr) → Stops lease old new e → result ≡ Err (session_err_of e) →
     result ≡ Err session_errors.NoMemory → NoneFailed old.trail new.trail
 none_failed_stopped lease old new NoMemory result h told is = h
-none_failed_stopped lease old new TargetFault result h told is = cc
-none_failed_stopped lease old new (Busy lock now) result h told is = cc
-none_failed_stopped lease old new (Lost seen) result h told is = cc
+none_failed_stopped lease old new e result h told is = cc
 
 -- one that came to something, whose lease is held
 pub none_failed_outcome : (a b : Lease) (old mid : LineNow) (outcome : Outcome) →

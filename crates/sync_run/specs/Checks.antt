@@ -7,13 +7,13 @@ use Rattle.jop_target.specs.declared.event.Event.{Event}
 use Rattle.jop_target.specs.declared.event.Event.TheVariants.{Called}
 use Rattle.jop_target.specs.declared.reply.Reply.{Reply}
 use Rattle.jop_target.specs.declared.reply.Reply.TheVariants.{Failed}
-use Rattle.jop_target.specs.Replies.{IsReplyTo}
+use Rattle.jop_target.specs.Replies.{IsReplyTo, TargetNow}
 use Rattle.lease.specs.Calls.{EndsFailed, IsLeaseEvent}
 use Rattle.lease.specs.Locks.{own_name}
 use Rattle.lease.specs.Outcomes.{HasMissed, IsBlocked}
 use Rattle.lease.specs.Phase.{Asked, Held}
 use Rattle.lease.specs.Standing.{StandsIn}
-use Rattle.sync_run.specs.Sessions.{AddsSession, IsReleased}
+use Rattle.sync_run.specs.Sessions.{AddsTask, GoesBy}
 use Rattle.sync_run.specs.declared.session_err.SessionErr.{SessionErr}
 use Rattle.sync_run.specs.declared.session_err.SessionErr.TheVariants.{Busy, LeaseLost, TargetFault, NoMemory}
 
@@ -36,11 +36,10 @@ CheckAnswers client trail (Err TargetFault) = EndsFailed client trail
 CheckAnswers client trail (Err NoMemory) = Unit {0}
 CheckAnswers client trail (Err error) = ⊥
 
--- the calls have come to this, and the lock is released as far as can be known
-abbrev pub IsCheckReleased : List ℕ → List Event → Result (Unit {0}) SessionErr → Type 0
-IsCheckReleased client trail result = IsReleased (CheckAnswers client) client trail result
-
 -- the session, of calls of its lease alone
 abbrev pub AddsCheck : List ℕ → List Event → List Event → Result (Unit {0}) SessionErr → Type 0
-AddsCheck client old new result =
-    AddsSession (IsLeaseEvent client) (CheckAnswers client) client old new result
+AddsCheck client old new result = AddsTask IsLeaseEvent CheckAnswers client old new result
+
+-- and how the trail and the target went on
+abbrev pub CheckGoesOn : List ℕ → List Event → List Event → TargetNow → TargetNow → Type 0
+CheckGoesOn client old new before after = GoesBy IsLeaseEvent client old new before after

@@ -1,4 +1,6 @@
 pub mod Outcomes
 pub mod Sessions
+pub mod Inner
+pub mod Leases
 pub mod Checks
 pub mod Upgrades

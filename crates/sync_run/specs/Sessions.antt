@@ -2,11 +2,15 @@
 use Rattle.std.specs.Prelude.{◌≡◌, ℕ, List, ◌∷◌, [], ◌++◌, Bool, true, false, Result, Err}
 use Rattle.jop_target.specs.declared.event.Event.{Event}
 use Rattle.jop_target.specs.declared.event.Event.TheVariants.{Began, Ended}
-use Rattle.jop_target.specs.Runs.{has_failed}
+use Rattle.jop_target.specs.Replies.{TargetNow}
+use Rattle.jop_target.specs.Runs.{Continues, has_failed}
+use Rattle.jop_target.specs.Trail.{LineNow}
+use Rattle.lease.specs.Calls.{GoesOn}
 use Rattle.lease.specs.Discipline.{ends_released, phase_of}
 use Rattle.lease.specs.Phase.{Free}
 use Rattle.lease.specs.Standing.{StandsIn}
 use Rattle.lease.specs.WholeSession.{AddsBegun, AddsWhole}
+use Rattle.lease.specs.Work.{NoneFailed}
 use Rattle.lease.specs.declared.error.LeaseErr.{LeaseErr}
 use Rattle.lease.specs.declared.error.LeaseErr.TheVariants as lease_errors
 use Rattle.target_upgrade.specs.Course.{KeepsVersions, begun_course, course_of}
@@ -41,6 +45,24 @@ IsReleased Because client trail (Err NoMemory) = Unit {0}
 IsReleased Because client trail result =
     Because trail result × (ends_released (phase_of client trail) ≡ true)
 
+-- A session that had begun went on by such events, and did under its lease what is allowed.
+pub record RunsOn (P : Event → Type 0) (client : List ℕ) (old new : LineNow) : Type 0 where
+  pub goes : GoesOn P client old new
+  pub work : (course_of client new.trail).lawful ≡ true
+
+-- It answers what its calls have come to; or memory ran out, and none was answered `Failed`.
+pub record EndsAs {T : Type 0} (answers : List ℕ → List Event → Result T SessionErr → Type 0)
+    (client : List ℕ) (old new : List Event) (result : Result T SessionErr) : Type 0 where
+  pub released : IsReleased (answers client) client new result
+  pub heard : result ≡ Err NoMemory → NoneFailed old new
+
+-- The session of a task went on by the calls of that task, and ends as it answers.
+pub record Runs {T : Type 0} (calls : List ℕ → Event → Type 0)
+    (answers : List ℕ → List Event → Result T SessionErr → Type 0) (client : List ℕ)
+    (old new : LineNow) (result : Result T SessionErr) : Type 0 where
+  pub on : RunsOn (calls client) client old new
+  pub ends : EndsAs answers client old.trail new.trail result
+
 -- ---- a session that was added
 
 -- One session was added to the trail, which has ended with this answer; under its lease it did what
@@ -70,3 +92,26 @@ abbrev pub IsMarkOr : (Event → Type 0) → Event → Type 0
 IsMarkOr P Began = Unit {0}
 IsMarkOr P Ended = Unit {0}
 IsMarkOr P event = P event
+
+-- ---- a session of a task
+
+-- the session was added, of the calls of its task
+abbrev pub AddsTask : {T : Type 0} → (List ℕ → Event → Type 0) →
+    (List ℕ → List Event → Result T SessionErr → Type 0) → List ℕ → List Event → List Event →
+    Result T SessionErr → Type 0
+AddsTask calls answers client old new result =
+    AddsSession (calls client) (answers client) client old new result
+
+-- A trail and a target went on by the calls of a task, and by begins and ends of sessions.
+abbrev pub GoesBy : (List ℕ → Event → Type 0) → List ℕ → List Event → List Event → TargetNow →
+    TargetNow → Type 0
+GoesBy calls client old new before after =
+    Continues (IsMarkOr (calls client)) (record { trail = old; target = before })
+    (record { trail = new; target = after })
+
+-- and did under the leases what is allowed, in a session that goes on
+abbrev pub RunsBy : (List ℕ → Event → Type 0) → List ℕ → List Event → List Event → TargetNow →
+    TargetNow → Type 0
+RunsBy calls client old new before after =
+    RunsOn (calls client) client (record { trail = old; target = before })
+    (record { trail = new; target = after })

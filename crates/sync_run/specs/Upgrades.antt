@@ -7,6 +7,8 @@ use Rattle.jop_target.specs.declared.event.Event.{Event}
 use Rattle.jop_target.specs.declared.event.Event.TheVariants.{Called}
 use Rattle.jop_target.specs.declared.reply.Reply.{Reply}
 use Rattle.jop_target.specs.declared.reply.Reply.TheVariants.{Failed}
+use Rattle.jop_target.specs.Replies.{TargetNow}
+use Rattle.jop_target.specs.Trail.{LineNow}
 use Rattle.lease.specs.Calls.{EndsFailed}
 use Rattle.lease.specs.Locks.{own_name}
 use Rattle.lease.specs.Outcomes.{HasMissed, IsBlocked}
@@ -17,8 +19,9 @@ use Rattle.lease.specs.declared.error.LeaseErr.TheVariants as lease_errors
 use Rattle.target_upgrade.specs.Answers.{HasLapsed, IsCall}
 use Rattle.target_upgrade.specs.Course.{course_of}
 use Rattle.target_upgrade.specs.Steps.{SUPPORTED, Upgraded}
+use Rattle.sync_run.specs.Leases.{KeepsLeaseFrom, blocked_in, is_done}
 use Rattle.sync_run.specs.Outcomes.{ReadsBadInfo, ReadsNewer}
-use Rattle.sync_run.specs.Sessions.{AddsSession, IsReleased}
+use Rattle.sync_run.specs.Sessions.{AddsTask, GoesBy, Runs}
 use Rattle.sync_run.specs.declared.outcome.Outcome.{Outcome}
 use Rattle.sync_run.specs.declared.outcome.Outcome.TheVariants as outcomes
 use Rattle.sync_run.specs.declared.session_err.SessionErr.{SessionErr}
@@ -34,10 +37,10 @@ answer_by released (outcomes.Newer version) = Err (TargetNewer version)
 answer_by released outcomes.BadInfo = Err BadInfo
 
 -- and whose release was answered so
-abbrev pub answer_of : Result (Unit {0}) LeaseErr → Outcome → Result ℕ SessionErr
-answer_of (Ok done) outcome = answer_by true outcome
-answer_of (Err lease_errors.NoMemory) outcome = Err NoMemory
-answer_of (Err e) outcome = answer_by false outcome
+abbrev pub answer_released : Result (Unit {0}) LeaseErr → Outcome → Result ℕ SessionErr
+answer_released (Ok done) outcome = answer_by true outcome
+answer_released (Err lease_errors.NoMemory) outcome = Err NoMemory
+answer_released (Err e) outcome = answer_by false outcome
 
 -- ---- why
 
@@ -73,11 +76,23 @@ UpgradeAnswers client trail (Err BadInfo) = HasLeft client trail ReadsBadInfo
 UpgradeAnswers client trail (Err TargetFault) = EndsFailed client trail
 UpgradeAnswers client trail (Err NoMemory) = Unit {0}
 
--- the calls have come to this, and the lock is released as far as can be known
-abbrev pub IsUpgradeReleased : List ℕ → List Event → Result ℕ SessionErr → Type 0
-IsUpgradeReleased client trail result = IsReleased (UpgradeAnswers client) client trail result
+-- its calls, whichever client it is for
+abbrev pub UpgradeCalls : List ℕ → Event → Type 0
+UpgradeCalls client = IsCall
+
+-- the session that has begun goes on by such calls
+abbrev pub RunsUpgrade : List ℕ → LineNow → LineNow → Result ℕ SessionErr → Type 0
+RunsUpgrade client old new result = Runs UpgradeCalls UpgradeAnswers client old new result
 
 -- the session, of calls
 abbrev pub AddsUpgrade : List ℕ → List Event → List Event → Result ℕ SessionErr → Type 0
-AddsUpgrade client old new result =
-    AddsSession IsCall (UpgradeAnswers client) client old new result
+AddsUpgrade client old new result = AddsTask UpgradeCalls UpgradeAnswers client old new result
+
+-- and how the trail and the target went on
+abbrev pub UpgradeGoesOn : List ℕ → List Event → List Event → TargetNow → TargetNow → Type 0
+UpgradeGoesOn client old new before after = GoesBy UpgradeCalls client old new before after
+
+-- and what it promises of its lease
+abbrev pub UpgradeKeepsLease : List ℕ → Result ℕ SessionErr → List Event → List Event → Type 0
+UpgradeKeepsLease client result old new =
+    KeepsLeaseFrom Exclusive client (blocked_in result) (is_done result) old new

@@ -2,7 +2,7 @@
 use Rattle.std.specs.Prelude.{ℕ, ◌≤◌, ◌≡◌, List, [], ◌∷◌, ◌++◌, Bool, true, false, None, Result, Ok, Err, refl}
 use Rattle.std.proofs.Common.{sym, ◌∙◌, ap, arith, subst, inl, inr}
 use Rattle.conflicts.specs.Reports.{new_report}
-use Rattle.desk.specs.Desks.{DeskNow, IsSameDesk}
+use Rattle.client.specs.Sites.{SiteNow, IsSameSite}
 use Rattle.jop_base.specs.declared.lock_name.LockKind.{LockKind}
 use Rattle.jop_base.specs.declared.lock_name.LockKind.TheVariants.{Sync}
 use Rattle.jop_base.specs.declared.path.Path.TheVariants.{Lock as LockFile}
@@ -26,30 +26,31 @@ use Rattle.lease.specs.declared.error.LeaseErr.TheVariants as lease_errors
 use Rattle.lease.specs.declared.error.Seen.{Seen}
 use Rattle.lease.specs.declared.lease.Lease.{Lease}
 use Rattle.lease.specs.declared.lock.Lock.{Lock}
-use Rattle.licences.specs.Licences.{IsInside}
-use Rattle.licences.specs.Views.{View}
-use Rattle.opening.specs.Opening.{IsLawful, MergesBetween}
-use Rattle.session_steps.proofs.Asked.{calls_locks}
-use Rattle.session_steps.proofs.Leased.{step_of}
-use Rattle.session_steps.proofs.Joins.{client_is, seen_between}
-use Rattle.session_steps.specs.Doing.{Went}
-use Rattle.session_steps.specs.Steps.{IsStep}
-use Rattle.session_steps.specs.Work.{Fits, IsReady, WorkNow, view_of, work}
+use Rattle.law_licences.specs.Licences.{IsInside}
+use Rattle.law_licences.specs.Views.{View}
+use Rattle.session_opening.specs.Opening.{IsLawful, MergesBetween}
+use Rattle.session.proofs.Asked.{calls_locks}
+use Rattle.session.proofs.Leased.{step_of}
+use Rattle.session.proofs.Recast.{unknown_fits}
+use Rattle.session.proofs.Joins.{client_is, seen_between}
+use Rattle.session.specs.Doing.{Went}
+use Rattle.session.specs.Steps.{IsStep}
+use Rattle.session.specs.Work.{Fits, IsReady, WorkNow, view_of, work}
 use Rattle.target_upgrade.proofs.Courses.{idle_work}
 use Rattle.target_upgrade.specs.Course.{Course, course_of}
 use Rattle.sync_session.proofs.Telling.{tells_had, tells_left, tells_went}
 use Rattle.sync_session.proofs.Worked.{works_here}
 use Rattle.sync_session.specs.Errors.{of_lease}
 use Rattle.sync_session.specs.Telling.{TellsWork}
-use Rattle.sync_session.specs.Leaving.{Leaves, LeavesIf, holds_lease}
+use Rattle.sync_session.specs.Leaving.{LeavesLease, LeavesIf, holds_lease}
 use Rattle.sync_session.specs.Syncing.{EndsWork, HasBegunSync, HasLeft, IsSyncReleased, SyncGoesOn, begun_view}
-use Rattle.sync_session.specs.Working.{Works, is_sync}
+use Rattle.sync_session.specs.Working.{SyncWorks, is_sync}
 use Rattle.sync_session.specs.declared.sync_err.SyncErr.{SyncErr}
 use Rattle.sync_session.specs.declared.sync_err.SyncErr.TheVariants.{Busy, LeaseLost, TargetOlder, TargetNewer, BadInfo, FailSafe, NoKey, TargetFault, KeeperFault, NoMemory}
 
 -- ---- what was done under the lease
 
-pub went_worked : (a b : WorkNow) (result : Result (Unit {0}) SyncErr) → Works a result b
+pub went_worked : (a b : WorkNow) (result : Result (Unit {0}) SyncErr) → SyncWorks a result b
     → Went is_sync a b
 went_worked a b (Ok done) h = h.0.went
 went_worked a b (Err (LeaseLost seen)) h = h.0.went
@@ -64,8 +65,8 @@ went_worked a b (Err NoMemory) h = h.went
 went_worked a b (Err (Busy lock now)) h = absurd h
 
 -- it is held still, but when it was lost, the target failed, or memory ran out
-pub held_worked : (a b : WorkNow) (result : Result (Unit {0}) SyncErr) → Works a result b
-    → holds_lease result ≡ true → IsReady b.desk b.lease
+pub held_worked : (a b : WorkNow) (result : Result (Unit {0}) SyncErr) → SyncWorks a result b
+    → holds_lease result ≡ true → IsReady b.site b.lease
 held_worked a b (Ok done) h holds = h.0.ready
 held_worked a b (Err (LeaseLost seen)) h holds = absurd cc
 held_worked a b (Err (TargetOlder version)) h holds = h.1.ready
@@ -78,26 +79,13 @@ held_worked a b (Err KeeperFault) h holds = h.ready
 held_worked a b (Err NoMemory) h holds = absurd cc
 held_worked a b (Err (Busy lock now)) h holds = absurd h
 
--- and then the lease is given up, if it is held still
-pub ends_held : (a b : WorkNow) (worked result : Result (Unit {0}) SyncErr) (new : DeskNow)
-    → Works a worked b → a.known ≡ None → b.known ≡ None
-    → Leaves b.lease worked b.desk result new
-    → EndsWork a.lease a.desk a.report result new b.report
-ends_held a b worked result new works before behind leaves = record {
-  worked = worked;
-  late = work b.desk b.lease b.report;
-  works = works_here a b worked before behind works;
-  leaves = leaves;
-  reported = refl;
-}
-
 -- ---- how the session goes on
 
-pub goes_worked : (a b : WorkNow) → Went is_sync a b → IsLawful b.lease b.desk
-    → SyncGoesOn a.lease.client a.desk.line b.desk.line
+pub goes_worked : (a b : WorkNow) → Went is_sync a b → IsLawful b.lease b.site
+    → SyncGoesOn a.lease.client a.site.line b.site.line
 goes_worked a b w lawful = record {
   goes = w.goes;
-  work = subst (λ (client : List ℕ). (course_of client b.desk.line.trail).lawful ≡ true)
+  work = subst (λ (client : List ℕ). (course_of client b.site.line.trail).lawful ≡ true)
       (client_is a.lease b.lease w.same) lawful;
 }
 
@@ -116,8 +104,8 @@ sync_goes_on client a b c h k = record {
   work = k.work;
 }
 
-left_if : (holds : Bool) (lease : Lease) (worked : Result (Unit {0}) SyncErr) (old : DeskNow)
-    (result : Result (Unit {0}) SyncErr) (new : DeskNow)
+left_if : (holds : Bool) (lease : Lease) (worked : Result (Unit {0}) SyncErr) (old : SiteNow)
+    (result : Result (Unit {0}) SyncErr) (new : SiteNow)
     → (course_of lease.client old.line.trail).lawful ≡ true
     → (session_of lease.client old.line.trail).running ≡ true
     → (session_of lease.client old.line.trail).lawful ≡ true
@@ -125,7 +113,7 @@ left_if : (holds : Bool) (lease : Lease) (worked : Result (Unit {0}) SyncErr) (o
 left_if true lease worked old result new lawful running locks h =
     goes_idle lease.client old.line new.line lawful h.goes
 left_if false lease worked old result new lawful running locks h =
-    subst (λ (d : DeskNow). SyncGoesOn lease.client old.line d.line) (sym h.1) (record {
+    subst (λ (d : SiteNow). SyncGoesOn lease.client old.line d.line) (sym h.1) (record {
       goes = record {
         running = running;
         lawful = locks;
@@ -135,43 +123,58 @@ left_if false lease worked old result new lawful running locks h =
     })
 
 -- work under the lease, and giving it up
-pub goes_left : (a b : WorkNow) (worked result : Result (Unit {0}) SyncErr) (new : DeskNow)
-    → Works a worked b → IsLawful b.lease b.desk → Leaves b.lease worked b.desk result new
-    → SyncGoesOn a.lease.client a.desk.line new.line
+pub goes_left : (a b : WorkNow) (worked result : Result (Unit {0}) SyncErr) (new : SiteNow)
+    → SyncWorks a worked b → IsLawful b.lease b.site → LeavesLease b.lease worked b.site result new
+    → SyncGoesOn a.lease.client a.site.line new.line
 goes_left a b worked result new works lawful leaves =
     let went = went_worked a b worked works in
     let mine = client_is a.lease b.lease went.same in
     let first = goes_worked a b went lawful in
     let running = first.goes.running in
     let locks = first.goes.lawful in
-    let left = left_if (holds_lease worked) b.lease worked b.desk result new lawful
-    (subst (λ (c : List ℕ). (session_of c b.desk.line.trail).running ≡ true) (sym mine) running)
-    (subst (λ (c : List ℕ). (session_of c b.desk.line.trail).lawful ≡ true) (sym mine) locks)
+    let left = left_if (holds_lease worked) b.lease worked b.site result new lawful
+    (subst (λ (c : List ℕ). (session_of c b.site.line.trail).running ≡ true) (sym mine) running)
+    (subst (λ (c : List ℕ). (session_of c b.site.line.trail).lawful ≡ true) (sym mine) locks)
     leaves in
-    sync_goes_on a.lease.client a.desk.line b.desk.line new.line first
-    (subst (λ (c : List ℕ). SyncGoesOn c b.desk.line new.line) mine left)
+    sync_goes_on a.lease.client a.site.line b.site.line new.line first
+    (subst (λ (c : List ℕ). SyncGoesOn c b.site.line new.line) mine left)
 
-told_if : (holds : Bool) (v : View) (a : DeskNow) (lease : Lease)
-    (worked : Result (Unit {0}) SyncErr) (b : DeskNow) (result : Result (Unit {0}) SyncErr)
-    (new : DeskNow) → IsInside v.stage → TellsWork v a b
+told_if : (holds : Bool) (v : View) (a : SiteNow) (lease : Lease)
+    (worked : Result (Unit {0}) SyncErr) (b : SiteNow) (result : Result (Unit {0}) SyncErr)
+    (new : SiteNow) → IsInside v.stage → TellsWork v a b
     → LeavesIf holds lease worked b result new → TellsWork v a new
 told_if true v a lease worked b result new inside h leaves =
     tells_left lease.client v a b new inside h leaves.same leaves.goes
 told_if false v a lease worked b result new inside h leaves =
-    subst (λ (d : DeskNow). TellsWork v a d) (sym leaves.1) h
+    subst (λ (d : SiteNow). TellsWork v a d) (sym leaves.1) h
 
-pub tells_worked : (a b : WorkNow) (worked result : Result (Unit {0}) SyncErr) (new : DeskNow)
-    → Works a worked b → MergesBetween a.desk b.desk → Fits a.known None
-    → Leaves b.lease worked b.desk result new
-    → TellsWork (view_of None a.desk) a.desk new
+pub tells_worked : (a b : WorkNow) (worked result : Result (Unit {0}) SyncErr) (new : SiteNow)
+    → SyncWorks a worked b → MergesBetween a.site b.site → Fits a.known None
+    → LeavesLease b.lease worked b.site result new
+    → TellsWork (view_of None a.site) a.site new
 tells_worked a b worked result new works merges fits leaves =
     let went = went_worked a b worked works in
-    told_if (holds_lease worked) (view_of None a.desk) a.desk b.lease worked b.desk result new tt
+    told_if (holds_lease worked) (view_of None a.site) a.site b.lease worked b.site result new tt
     (tells_went is_sync a b None fits went merges) leaves
 
-pub lawful_begun : (client : List ℕ) (trail : List Event) → HasBegunSync client trail
-    → (course_of client trail).lawful ≡ true
-lawful_begun client trail h = ap (λ (c : Course). c.lawful) h.begun.course
+-- and then the lease is given up, if it is held still
+pub ends_held : (a b : WorkNow) (worked result : Result (Unit {0}) SyncErr) (new : SiteNow)
+    → SyncWorks a worked b → a.known ≡ None → b.known ≡ None → IsLawful b.lease b.site
+    → MergesBetween a.site b.site → LeavesLease b.lease worked b.site result new
+    → EndsWork a.lease a.site a.report result new b.report
+ends_held a b worked result new works before behind lawful merges leaves = record {
+  worked = worked;
+  late = work b.site b.lease b.report;
+  works = works_here a b worked before behind works;
+  leaves = leaves;
+  reported = refl;
+  goes = goes_left a b worked result new works lawful leaves;
+  tells = tells_worked a b worked result new works merges (unknown_fits a.known None before) leaves;
+}
+
+pub lawful_begun : (client : List ℕ) (d : SiteNow) → HasBegunSync client d
+    → (course_of client d.line.trail).lawful ≡ true
+lawful_begun client d h = ap (λ (c : Course). c.lawful) h.begun.course
 
 -- ---- there is no lease
 
@@ -184,7 +187,7 @@ blocked_released : (client : List ℕ) (trail : List Event) (lock : Lock) (now :
 blocked_released client trail lock now (inl once) = ap ends_released once.looked.phase
 blocked_released client trail lock now (inr after) = over_released client trail after.left.over
 
-pub released_none : (client : List ℕ) (old new : DeskNow) (e : LeaseErr) → IsSameDesk old new
+pub released_none : (client : List ℕ) (old new : SiteNow) (e : LeaseErr) → IsSameSite old new
     → Acquires Sync client old.line new.line (Err e)
     → Makes {T = Lease} (acquire_calls Sync client) old.line.trail new.line.trail (Err e)
     → IsSyncReleased client old (Err (of_lease e)) new
@@ -200,26 +203,32 @@ released_none client old new lease_errors.NoMemory same h made =
 -- ---- or none any more
 
 -- from where the session began to where its lease was had
-pub record HasTaken (client : List ℕ) (lease : Lease) (old held : DeskNow) : Type 0 where
+pub record HasTaken (client : List ℕ) (lease : Lease) (old held : SiteNow) : Type 0 where
   pub had : HasAcquired Sync client held.line.trail lease
-  pub same : IsSameDesk old held
+  pub same : IsSameSite old held
   pub goes : LeaseGoesOn client old.line held.line
 
-pub has_taken : (client : List ℕ) (lease : Lease) (old held : DeskNow)
-    → HasAcquired Sync client held.line.trail lease → IsSameDesk old held
-    → LeaseGoesOn client old.line held.line → HasTaken client lease old held
-has_taken client lease old held had same goes = record { had = had; same = same; goes = goes }
+-- so it is by another name of the line
+pub has_taken : (client : List ℕ) (lease : Lease) (old held : SiteNow) (s t : LineNow)
+    → old.line ≡ s → held.line ≡ t → HasAcquired Sync client t.trail lease → IsSameSite old held
+    → LeaseGoesOn client s t → HasTaken client lease old held
+has_taken client lease old held s t o n had same goes = record {
+  had = subst (λ (l : LineNow). HasAcquired Sync client l.trail lease) (sym n) had;
+  same = same;
+  goes = subst (λ (l : LineNow). LeaseGoesOn client l held.line) (sym o)
+      (subst (λ (l : LineNow). LeaseGoesOn client s l) (sym n) goes);
+}
 
-pub own_client : (client : List ℕ) (lease : Lease) (old held : DeskNow)
+pub own_client : (client : List ℕ) (lease : Lease) (old held : SiteNow)
     → HasTaken client lease old held → lease.client ≡ client
 own_client client lease old held h = ap (λ (l : Lease). l.client) h.had.whole
 
-pub own_kind : (client : List ℕ) (lease : Lease) (old held : DeskNow)
+pub own_kind : (client : List ℕ) (lease : Lease) (old held : SiteNow)
     → HasTaken client lease old held → lease.kind ≡ Sync
 own_kind client lease old held h = ap (λ (l : Lease). l.kind) h.had.whole
 
 -- the lease is had by what is allowed
-pub lawful_taken : (client : List ℕ) (lease : Lease) (old held : DeskNow)
+pub lawful_taken : (client : List ℕ) (lease : Lease) (old held : SiteNow)
     → (course_of client old.line.trail).lawful ≡ true → HasTaken client lease old held
     → IsLawful lease held
 lawful_taken client lease old held lawful h =
@@ -227,7 +236,7 @@ lawful_taken client lease old held lawful h =
     (sym (own_client client lease old held h))
     (goes_idle client old.line held.line lawful h.goes).work
 
-pub goes_taken : (client : List ℕ) (lease : Lease) (old held new : DeskNow)
+pub goes_taken : (client : List ℕ) (lease : Lease) (old held new : SiteNow)
     → (course_of client old.line.trail).lawful ≡ true → HasTaken client lease old held
     → SyncGoesOn lease.client held.line new.line → SyncGoesOn client old.line new.line
 goes_taken client lease old held new lawful h k =
@@ -235,8 +244,8 @@ goes_taken client lease old held new lawful h k =
     (goes_idle client old.line held.line lawful h.goes)
     (subst (λ (c : List ℕ). SyncGoesOn c held.line new.line) (own_client client lease old held h) k)
 
-pub tells_taken : (client : List ℕ) (lease : Lease) (old held new : DeskNow)
-    → HasBegunSync client old.line.trail → HasTaken client lease old held
+pub tells_taken : (client : List ℕ) (lease : Lease) (old held new : SiteNow)
+    → HasBegunSync client old → HasTaken client lease old held
     → TellsWork (view_of None held) held new → TellsWork (begun_view old.tables) old new
 tells_taken client lease old held new begun h k =
     let calls = calls_locks client old held.line h.goes ∙ begun.calls in
@@ -248,7 +257,7 @@ tells_taken client lease old held new begun h k =
 kind_is : (a b : Lease) → IsSameBut a b → b.kind ≡ a.kind
 kind_is a b same = ap (λ (l : Lease). l.kind) same
 
-pub missed_as : (client : List ℕ) (lease : Lease) (old held : DeskNow) (trail : List Event)
+pub missed_as : (client : List ℕ) (lease : Lease) (old held : SiteNow) (trail : List Event)
     (stamp : ℕ) (seen : Seen) → HasTaken client lease old held
     → HasMissed lease.kind lease.client (Renewing lease.kind stamp) trail seen
     → HasMissed Sync client (Renewing Sync stamp) trail seen
@@ -266,25 +275,25 @@ fails_as client other a b c same later h = record {
 }
 
 -- behind work its lock was deleted
-pub ends_as : (client : List ℕ) (lease : Lease) (old held : DeskNow) (late : WorkNow) (new : DeskNow)
+pub ends_as : (client : List ℕ) (lease : Lease) (old held : SiteNow) (late : WorkNow) (new : SiteNow)
     (reply : Reply) → HasTaken client lease old held → IsSameBut lease late.lease
-    → new.line.trail ≡ late.desk.line.trail
+    → new.line.trail ≡ late.site.line.trail
     ++ Called (Delete (LockFile (own_name late.lease.kind late.lease.client))) reply ∷ []
-    → new.line.trail ≡ late.desk.line.trail
+    → new.line.trail ≡ late.site.line.trail
     ++ Called (Delete (LockFile (own_name Sync client))) reply ∷ []
 ends_as client lease old held late new reply taken same ends =
     let kind = kind_is lease late.lease same ∙ own_kind client lease old held taken in
     let mine = client_is lease late.lease same ∙ own_client client lease old held taken in
-    subst (λ (k : LockKind). new.line.trail ≡ late.desk.line.trail
+    subst (λ (k : LockKind). new.line.trail ≡ late.site.line.trail
     ++ Called (Delete (LockFile (own_name k client))) reply ∷ []) kind
-    (subst (λ (c : List ℕ). new.line.trail ≡ late.desk.line.trail
+    (subst (λ (c : List ℕ). new.line.trail ≡ late.site.line.trail
     ++ Called (Delete (LockFile (own_name late.lease.kind c))) reply ∷ []) mine ends)
 
 abbrev pub has_left : (client : List ℕ) (lease : Lease) (worked : Result (Unit {0}) SyncErr)
-    (old held : DeskNow) (late : WorkNow) (new : DeskNow) (reply : Reply)
-    → HasTaken client lease old held → Works (work held lease new_report) worked late
-    → IsSameDesk late.desk new
-    → new.line.trail ≡ late.desk.line.trail
+    (old held : SiteNow) (late : WorkNow) (new : SiteNow) (reply : Reply)
+    → HasTaken client lease old held → SyncWorks (work held lease new_report) worked late
+    → IsSameSite late.site new
+    → new.line.trail ≡ late.site.line.trail
     ++ Called (Delete (LockFile (own_name late.lease.kind late.lease.client))) reply ∷ []
     → HasLeft client worked old new
 has_left client lease worked old held late new reply taken works same ends = record {
@@ -300,9 +309,9 @@ has_left client lease worked old held late new reply taken works same ends = rec
       (went_worked (work held lease new_report) late worked works).same ends;
 }
 
-pub over_late : (client : List ℕ) (lease : Lease) (old held : DeskNow) (late : WorkNow) (new : DeskNow)
+pub over_late : (client : List ℕ) (lease : Lease) (old held : SiteNow) (late : WorkNow) (new : SiteNow)
     (worked : Result (Unit {0}) SyncErr) → HasTaken client lease old held
-    → Works (work held lease new_report) worked late
+    → SyncWorks (work held lease new_report) worked late
     → StandsIn late.lease.client new.line.trail Over
     → ends_released (phase_of client new.line.trail) ≡ true
 over_late client lease old held late new worked taken works over =

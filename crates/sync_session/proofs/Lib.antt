@@ -8,3 +8,4 @@ pub mod Refused
 pub mod Done
 pub mod Whole
 pub mod Promised
+pub mod Ran

@@ -5,9 +5,9 @@ use Rattle.jop_target.specs.declared.call.Call.{Call}
 use Rattle.jop_target.specs.declared.call.Call.TheVariants.{Put}
 use Rattle.jop_target.specs.declared.reply.Reply.{Reply}
 use Rattle.lease.specs.Calls.{IsLeaseCall}
-use Rattle.licences.specs.Deeds.{Asks}
-use Rattle.licences.specs.Licences.{MayMerge}
-use Rattle.licences.specs.Views.{View}
+use Rattle.law_licences.specs.Deeds.{Asks}
+use Rattle.law_licences.specs.Licences.{MayMerge}
+use Rattle.law_licences.specs.Views.{View}
 
 pub merges_own : (client : List ℕ) (v : View) (call : Call) (reply : Option Reply)
     → IsLeaseCall client call → MayMerge v (Asks call reply)

@@ -1,16 +1,16 @@
 -- What was saved and removed here stays settled to a session's end.
 use Rattle.std.specs.Prelude.{ℕ, ◌≡◌, List, [], ◌∷◌, Bool, true, false, if◌then◌else◌, length, Option, Some, None, refl}
 use Rattle.std.proofs.Common.{sym, ap, subst, ◌∙◌, inr}
-use Rattle.desk.specs.Desks.{DeskNow}
+use Rattle.client.specs.Sites.{SiteNow}
 use Rattle.jop_base.specs.Keyed.{cut}
 use Rattle.jop_target.specs.declared.call.Call.{Call}
-use Rattle.licences.proofs.Settled.{made_inside, pending-view_from, stays_inside}
-use Rattle.licences.proofs.Told.{calls_from-append, calls-view_from, tables-view_from}
-use Rattle.licences.specs.Checks.{is_pending}
-use Rattle.licences.specs.Deeds.{Deed, Begins, Asks, Makes, MakesUntold, Ends, Stops, events_of}
-use Rattle.licences.specs.Licences.{AreWork, Each, IsInside, MayChange, MayDo}
-use Rattle.licences.specs.Trails.{session_calls}
-use Rattle.licences.specs.Views.{Heard, Shown, View, changed, heard, is_about_locks, view_from}
+use Rattle.law_licences.proofs.Settled.{made_inside, pending-view_from, stays_inside}
+use Rattle.law_licences.proofs.Told.{calls_from-append, calls-view_from, tables-view_from}
+use Rattle.law_licences.specs.Checks.{is_pending}
+use Rattle.law_licences.specs.Deeds.{Deed, Begins, Asks, Makes, MakesUntold, Ends, Stops, events_of}
+use Rattle.law_licences.specs.Licences.{AreWork, Each, IsInside, MayChange, MayDo}
+use Rattle.law_licences.specs.Trails.{session_calls}
+use Rattle.law_licences.specs.Views.{Heard, View, changed, heard, is_about_locks, view_from}
 use Rattle.local_store.specs.Changing.{after, conflicted, uploaded}
 use Rattle.local_store.specs.Rows.{deletion_id}
 use Rattle.local_store.specs.Sound.{IsSound}
@@ -21,9 +21,10 @@ use Rattle.local_store.specs.declared.content.Content.{Content}
 use Rattle.local_store.specs.declared.deletion.Deletion.{Deletion}
 use Rattle.local_store.specs.declared.row.Row.{Row}
 use Rattle.local_store.specs.declared.tables.Tables.{Tables}
-use Rattle.session_steps.specs.Agreeing.{AgreeBut, moved}
-use Rattle.session_steps.specs.Doing.{IsTold, Went}
-use Rattle.session_steps.specs.Work.{Fits, WorkNow, view_of}
+use Rattle.session.proofs.Recast.{unknown_fits}
+use Rattle.session.specs.Agreeing.{AgreeBut, moved}
+use Rattle.session.specs.Doing.{IsTold, Went}
+use Rattle.session.specs.Work.{WorkNow, view_of}
 use Rattle.upload.specs.Settled.{AreSettled, WasUnreadable}
 use Rattle.sync_session.specs.Working.{LeavesNothing}
 
@@ -103,42 +104,39 @@ none_stays v (Stops ∷ ds) inside work obeys none = absurd work
 -- ---- a part of a session
 
 calls_behind : (sort : Call → Bool) (a b : WorkNow) (w : Went sort a b)
-    → session_calls b.desk.line.trail ≡ (view_from (view_of None a.desk) w.deeds).calls
+    → session_calls b.site.line.trail ≡ (view_from (view_of None a.site) w.deeds).calls
 calls_behind sort a b w =
-    let n = length a.desk.made in
+    let n = length a.site.made in
     ap session_calls w.trail
-    ∙ (calls_from-append [] a.desk.line.trail (events_of n w.deeds)
-    ∙ sym (calls-view_from n (view_of None a.desk) w.deeds w.work))
+    ∙ (calls_from-append [] a.site.line.trail (events_of n w.deeds)
+    ∙ sym (calls-view_from n (view_of None a.site) w.deeds w.work))
 
 tables_behind : (sort : Call → Bool) (a b : WorkNow) (w : Went sort a b) → IsTold a b w.deeds
-    → (view_from (view_of None a.desk) w.deeds).tables ≡ b.desk.tables
+    → (view_from (view_of None a.site) w.deeds).tables ≡ b.site.tables
 tables_behind sort a b w told =
-    tables-view_from (view_of None a.desk) w.deeds w.work ∙ sym told.tables
-
-unknown_fits : (known : Option Shown) → known ≡ None → Fits known None
-unknown_fits known is = subst (λ (k : Option Shown). Fits k None) (sym is) tt
+    tables-view_from (view_of None a.site) w.deeds w.work ∙ sym told.tables
 
 pub settled_behind : (sort : Call → Bool) (a b : WorkNow) (w : Went sort a b)
-    → IsTold a b w.deeds → a.known ≡ None → IsSound a.desk.tables → AreSettled a.desk
-    → AreSettled b.desk
+    → IsTold a b w.deeds → a.known ≡ None → IsSound a.site.tables → AreSettled a.site
+    → AreSettled b.site
 settled_behind sort a b w told unknown sound settled = λ id waits.
-    let v = view_of None a.desk in
-    let waited : is_pending (row_at a.desk.tables id) ≡ true =
-    pending-view_from v w.deeds id sound tt w.work (w.obeys None (unknown_fits a.known unknown))
+    let v = view_of None a.site in
+    let waited : is_pending (row_at a.site.tables id) ≡ true =
+    pending-view_from v w.deeds id sound tt w.work (w.obeys None (unknown_fits a.known None unknown))
     (ap (λ (t : Tables). is_pending (row_at t id)) (tables_behind sort a b w told) ∙ waits) in
     subst (WasUnreadable id) (sym (calls_behind sort a b w))
     (unread_stays id v w.deeds w.work (settled id waited))
 
 none_behind : (sort : Call → Bool) (a b : WorkNow) (w : Went sort a b) → IsTold a b w.deeds
-    → a.known ≡ None → a.desk.tables.deletions ≡ [] → b.desk.tables.deletions ≡ []
+    → a.known ≡ None → a.site.tables.deletions ≡ [] → b.site.tables.deletions ≡ []
 none_behind sort a b w told unknown none =
     ap (λ (t : Tables). t.deletions) (sym (tables_behind sort a b w told))
-    ∙ none_stays (view_of None a.desk) w.deeds tt w.work
-    (w.obeys None (unknown_fits a.known unknown)) none
+    ∙ none_stays (view_of None a.site) w.deeds tt w.work
+    (w.obeys None (unknown_fits a.known None unknown)) none
 
 pub leaves_nothing_behind : (sort : Call → Bool) (a b : WorkNow) (w : Went sort a b)
-    → IsTold a b w.deeds → a.known ≡ None → IsSound a.desk.tables → LeavesNothing a.desk
-    → LeavesNothing b.desk
+    → IsTold a b w.deeds → a.known ≡ None → IsSound a.site.tables → LeavesNothing a.site
+    → LeavesNothing b.site
 leaves_nothing_behind sort a b w told unknown sound h = record {
   settled = settled_behind sort a b w told unknown sound h.settled;
   deleted = none_behind sort a b w told unknown h.deleted;
@@ -147,7 +145,7 @@ leaves_nothing_behind sort a b w told unknown sound h = record {
 -- ---- the bytes of resources
 
 -- a session that has called nothing has moved none
-pub agree_begun : (d : DeskNow) → session_calls d.line.trail ≡ [] → AgreeBut [] d
+pub agree_begun : (d : SiteNow) → session_calls d.line.trail ≡ [] → AgreeBut [] d
 unfolding moved
 agree_begun d none = λ id owed s k told_store told_kept has_moved.
     let no : true ≡ false = sym has_moved ∙ ap (moved id) none in

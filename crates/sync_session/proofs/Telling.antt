@@ -1,26 +1,26 @@
 -- What is told of a client, put together.
 use Rattle.std.specs.Prelude.{ℕ, ◌≡◌, List, [], ◌∷◌, ◌++◌, Bool, length, Option, option_map}
 use Rattle.std.proofs.Common.{sym, ◌∙◌, ap, subst, append-nil, append_assoc}
-use Rattle.desk.specs.Desks.{DeskNow, IsSameDesk}
+use Rattle.client.specs.Sites.{SiteNow, IsSameSite}
 use Rattle.jop_target.specs.declared.call.Call.{Call}
 use Rattle.jop_target.specs.declared.event.Event.{Event}
 use Rattle.lease.specs.Calls.{LeaseGoesOn}
-use Rattle.licences.proofs.Joins.{Each-append}
-use Rattle.licences.proofs.Settled.{stays_inside}
-use Rattle.licences.proofs.Told.{AreWork-append, changes_in-append, deeds_of-events_of, events_of-append}
-use Rattle.licences.specs.Deeds.{Deed, Begins, Asks, Makes, MakesUntold, Ends, Stops, changes_in, events_of}
-use Rattle.licences.specs.Licences.{AreWork, Each, IsInside, MayDo, MayMerge, MergesInfo}
-use Rattle.licences.specs.Views.{Shown, View, seen, view_from}
-use Rattle.table_keeper.specs.Keepers.{KeeperNow}
+use Rattle.law_licences.proofs.Joins.{Each-append}
+use Rattle.law_licences.proofs.Settled.{stays_inside}
+use Rattle.law_licences.proofs.Told.{AreWork-append, changes_in-append, deeds_of-events_of, events_of-append}
+use Rattle.law_licences.specs.Deeds.{Deed, Begins, Asks, Makes, MakesUntold, Ends, Stops, changes_in, events_of}
+use Rattle.law_licences.specs.Licences.{AreWork, Each, IsInside, MayDo, MayMerge, MergesInfo}
+use Rattle.law_licences.specs.Views.{Shown, View, seen, view_from}
+use Rattle.keeper.specs.Keepers.{KeeperNow}
 use Rattle.local_store.specs.declared.change.Change.{Change}
-use Rattle.opening.proofs.Merging.{merges_of}
-use Rattle.opening.specs.Opening.{MergesBetween}
-use Rattle.session_steps.proofs.Leased.{kept-same}
-use Rattle.session_steps.proofs.Joins.{count_is, kept_after-append, trail_is}
-use Rattle.session_steps.proofs.LockDeeds.{AreCalls-locks, AreLocks, AreWork-calls, changes_in-calls, obeys-locks, told_locks, view_from-locks}
-use Rattle.session_steps.specs.Doing.{Went}
-use Rattle.session_steps.specs.Saving.{kept_after}
-use Rattle.session_steps.specs.Work.{Fits, WorkNow, view_of}
+use Rattle.session_opening.proofs.Merging.{merges_of}
+use Rattle.session_opening.specs.Opening.{MergesBetween}
+use Rattle.session.proofs.Leased.{kept-same}
+use Rattle.session.proofs.Joins.{count_is, kept_after-append, trail_is}
+use Rattle.session.proofs.LockDeeds.{AreCalls-locks, AreLocks, AreWork-calls, changes_in-calls, obeys-locks, told_locks, view_from-locks}
+use Rattle.session.specs.Doing.{Went}
+use Rattle.session.specs.Saving.{kept_after_saves}
+use Rattle.session.specs.Work.{Fits, WorkNow, view_of}
 use Rattle.sync_session.proofs.Merging.{merges_own}
 use Rattle.sync_session.specs.Telling.{TellsWork}
 
@@ -42,8 +42,8 @@ inside-work v (Stops ∷ ds) inside work = absurd work
 -- ---- a part of a session
 
 pub tells_went : (sort : Call → Bool) (a b : WorkNow) (shown : Option Shown)
-    → Fits a.known shown → Went sort a b → MergesBetween a.desk b.desk
-    → TellsWork (view_of shown a.desk) a.desk b.desk
+    → Fits a.known shown → Went sort a b → MergesBetween a.site b.site
+    → TellsWork (view_of shown a.site) a.site b.site
 tells_went sort a b shown fits w merges = record {
   tells = record {
     deeds = w.deeds;
@@ -51,7 +51,7 @@ tells_went sort a b shown fits w merges = record {
     trail = w.trail;
     made = w.made;
     kept = w.kept;
-    told = deeds_of-events_of (length a.desk.made) w.deeds w.work;
+    told = deeds_of-events_of (length a.site.made) w.deeds w.work;
     obeys = w.obeys shown fits;
     merges = merges_of sort a b merges w shown;
   };
@@ -60,7 +60,7 @@ tells_went sort a b shown fits w merges = record {
 
 -- ---- one behind the other
 
-pub tells_on : (v : View) (a b c : DeskNow) (h : TellsWork v a b)
+pub tells_on : (v : View) (a b c : SiteNow) (h : TellsWork v a b)
     → TellsWork (view_from v h.tells.deeds) b c → TellsWork v a c
 tells_on v a b c h k =
     let n = length a.made in
@@ -84,11 +84,11 @@ tells_on v a b c h k =
             ∙ ap (λ (x : List Change). a.made ++ x) (sym changes)));
         kept =
             k.tells.kept
-            ∙ (ap (option_map (kept_after (changes_in es) k.tells.saves)) h.tells.kept
+            ∙ (ap (option_map (kept_after_saves (changes_in es) k.tells.saves)) h.tells.kept
             ∙ (kept_after-append a.keeper.kept (changes_in ds) (changes_in es) h.tells.saves
             k.tells.saves
             ∙ ap (λ (x : List Change).
-            option_map (kept_after x (h.tells.saves ++ k.tells.saves)) a.keeper.kept)
+            option_map (kept_after_saves x (h.tells.saves ++ k.tells.saves)) a.keeper.kept)
             (sym changes)));
         told = deeds_of-events_of n (ds ++ es) work;
         obeys = Each-append MayDo v ds es h.tells.obeys k.tells.obeys;
@@ -111,12 +111,12 @@ nothing_put v (Ends ∷ ds) client h = absurd h
 nothing_put v (Stops ∷ ds) client h = absurd h
 
 -- what a lease called, while nothing else was done
-pub record TellsLocks (client : List ℕ) (v : View) (a b : DeskNow) : Type 0 where
+pub record TellsLocks (client : List ℕ) (v : View) (a b : SiteNow) : Type 0 where
   pub work : TellsWork v a b
   pub same : view_from v work.tells.deeds ≡ v
 
-pub tells_locks : (client : List ℕ) (v : View) (a b : DeskNow) → IsInside v.stage
-    → IsSameDesk a b → LeaseGoesOn client a.line b.line → TellsLocks client v a b
+pub tells_locks : (client : List ℕ) (v : View) (a b : SiteNow) → IsInside v.stage
+    → IsSameSite a b → LeaseGoesOn client a.line b.line → TellsLocks client v a b
 tells_locks client v a b inside same goes =
     let n = length a.made in
     let told = told_locks client n goes.line.more goes.line.each in
@@ -144,16 +144,16 @@ tells_locks client v a b inside same goes =
     }
 
 -- behind work of the session
-pub tells_left : (client : List ℕ) (v : View) (a b c : DeskNow) → IsInside v.stage
-    → TellsWork v a b → IsSameDesk b c → LeaseGoesOn client b.line c.line → TellsWork v a c
+pub tells_left : (client : List ℕ) (v : View) (a b c : SiteNow) → IsInside v.stage
+    → TellsWork v a b → IsSameSite b c → LeaseGoesOn client b.line c.line → TellsWork v a c
 tells_left client v a b c inside h same goes =
     tells_on v a b c h
     (tells_locks client (view_from v h.tells.deeds) b c
     (inside-work v h.tells.deeds inside h.work) same goes).work
 
 -- or before it
-pub tells_had : (client : List ℕ) (v : View) (a b c : DeskNow) → IsInside v.stage
-    → IsSameDesk a b → LeaseGoesOn client a.line b.line → TellsWork v b c → TellsWork v a c
+pub tells_had : (client : List ℕ) (v : View) (a b c : SiteNow) → IsInside v.stage
+    → IsSameSite a b → LeaseGoesOn client a.line b.line → TellsWork v b c → TellsWork v a c
 tells_had client v a b c inside same goes k =
     let locks = tells_locks client v a b inside same goes in
     tells_on v a b c locks.work

@@ -3,30 +3,29 @@ use Rattle.std.specs.Prelude.{ℕ, ◌≡◌, ◌+◌, List, [], ◌∷◌, ◌+
 use Rattle.std.proofs.Common.{sym, ◌∙◌, ap, subst, append-nil, append_assoc}
 use Rattle.std.proofs.lemmas.List.{append_cancel_left}
 use Rattle.conflicts.specs.declared.report.SyncReport.{SyncReport}
-use Rattle.desk.specs.Desks.{DeskNow}
+use Rattle.client.specs.Sites.{SiteNow, IsTidy}
 use Rattle.jop_target.specs.declared.event.Event.{Event}
 use Rattle.jop_target.specs.declared.event.Event.TheVariants.{Began, Sent, Called, Made, Ended}
 use Rattle.lease.proofs.WholeSessions.{adds_begun, adds_none, adds_whole, at_seam, begun_stands}
 use Rattle.lease.specs.Discipline.{ends_released, phase_of}
 use Rattle.lease.specs.WholeSession.{IsInner}
 use Rattle.lease.specs.Work.{NoneFailed}
-use Rattle.licences.proofs.Joins.{Each-append}
-use Rattle.licences.proofs.Told.{calls_from-append, changes_in-append, events_of-append}
-use Rattle.licences.specs.Trails.{calls_from, session_calls}
-use Rattle.licences.specs.Deeds.{Deed, Begins, Asks, Makes, MakesUntold, Ends, Stops, changes_in, deeds_of, events_of}
-use Rattle.licences.specs.Licences.{AreWork, Each, MayDo, MayMerge}
-use Rattle.licences.specs.Views.{View, at_rest}
+use Rattle.law_licences.proofs.Joins.{Each-append}
+use Rattle.law_licences.proofs.Told.{calls_from-append, changes_in-append, events_of-append}
+use Rattle.law_licences.specs.Trails.{calls_from, session_calls}
+use Rattle.law_licences.specs.Deeds.{Deed, Begins, Asks, Makes, MakesUntold, Ends, Stops, changes_in, deeds_of, events_of}
+use Rattle.law_licences.specs.Licences.{AreWork, Each, MayDo, MayMerge}
+use Rattle.law_licences.specs.Views.{View, at_rest}
 use Rattle.local_store.specs.declared.change.Change.{Change}
-use Rattle.local_store.specs.declared.tables.Tables.{Tables}
-use Rattle.session_steps.proofs.Leased.{kept-same}
-use Rattle.session_steps.specs.Saving.{kept_after}
-use Rattle.session_steps.specs.Steps.{IsStep}
+use Rattle.session.proofs.Leased.{kept-same}
+use Rattle.session.specs.Saving.{kept_after_saves}
+use Rattle.session.specs.Steps.{IsStep}
 use Rattle.sync_run.proofs.Starved.{none_failed_begun, none_failed_unbegun}
 use Rattle.sync_run.proofs.Whole.{before_end}
 use Rattle.target_upgrade.proofs.Courses.{course_from-last}
 use Rattle.target_upgrade.proofs.Whole.{keeps_begun, keeps_none, keeps_whole}
 use Rattle.target_upgrade.specs.Course.{KeepsVersions, course_of, outside_course}
-use Rattle.sync_session.specs.Syncing.{AddsFrom, HasBegunSync, IsOpenSync, IsSyncReleased, IsWholeSync, SyncAnswers, SyncGoesOn, SyncNow, begun_at, begun_view, desk_at, ended_at, has_ended}
+use Rattle.sync_session.specs.Syncing.{AddsFrom, HasBegunSync, IsOpenSync, IsSyncReleased, IsWholeSync, RunsSync, SyncAnswers, begun_at, begun_view, ended_at, has_ended_sync}
 use Rattle.sync_session.specs.Telling.{Tells, TellsWork}
 use Rattle.sync_session.specs.Working.{is_sync}
 use Rattle.sync_session.specs.declared.sync_err.SyncErr.{SyncErr}
@@ -35,7 +34,7 @@ use Rattle.sync_session.specs.declared.sync_err.SyncErr.TheVariants.{Busy, Lease
 -- ---- what is told of a session
 
 -- nothing was done
-pub tells_nothing : (v : View) (d e : DeskNow) → e.line.trail ≡ d.line.trail → e.made ≡ d.made
+pub tells_nothing : (v : View) (d e : SiteNow) → e.line.trail ≡ d.line.trail → e.made ≡ d.made
     → e.keeper.kept ≡ d.keeper.kept → Tells v d e
 unfolding events_of changes_in deeds_of Each
 tells_nothing v d e trail made kept = record {
@@ -50,10 +49,10 @@ tells_nothing v d e trail made kept = record {
 }
 
 -- the session has begun, and goes on
-pub tells_begun : (t : Tables) (old : SyncNow) (now : DeskNow)
-    → TellsWork (begun_view t) (begun_at t old) now → Tells (at_rest t) (desk_at t old) now
+pub tells_begun : (old now : SiteNow) → TellsWork (begun_view old.tables) (begun_at old) now
+    → Tells (at_rest old.tables) old now
 unfolding events_of changes_in deeds_of Each
-tells_begun t old now h = record {
+tells_begun old now h = record {
   deeds = Begins ∷ h.tells.deeds;
   saves = h.tells.saves;
   trail =
@@ -82,14 +81,13 @@ deeds_ended n (Ends ∷ ds) work = absurd work
 deeds_ended n (Stops ∷ ds) work = absurd work
 
 -- and has ended
-pub tells_ended : (t u : Tables) (old mid : SyncNow)
-    → TellsWork (begun_view t) (begun_at t old) (desk_at u mid)
-    → Tells (at_rest t) (desk_at t old) (desk_at t (ended_at (desk_at u mid)))
+pub tells_ended : (old mid : SiteNow) → TellsWork (begun_view old.tables) (begun_at old) mid
+    → Tells (at_rest old.tables) old (ended_at mid)
 unfolding events_of changes_in deeds_of Each
-tells_ended t u old mid h =
+tells_ended old mid h =
     let n = length old.made in
     let ds = h.tells.deeds in
-    let v = begun_view t in
+    let v = begun_view old.tables in
     let events : events_of n (ds ++ Ends ∷ []) ≡ events_of n ds ++ Ended ∷ [] =
     events_of-append n ds (Ends ∷ []) h.work in
     let changes : changes_in (ds ++ Ends ∷ []) ≡ changes_in ds =
@@ -107,7 +105,7 @@ tells_ended t u old mid h =
       kept =
           h.tells.kept
           ∙ ap (λ (cs : List Change).
-          option_map (kept_after cs h.tells.saves) old.keeper.kept) (sym changes);
+          option_map (kept_after_saves cs h.tells.saves) old.keeper.kept) (sym changes);
       told =
           ap (λ (es : List Event). Begins ∷ deeds_of es (changes_in (ds ++ Ends ∷ []))) events
           ∙ (ap (λ (cs : List Change). Begins ∷ deeds_of (events_of n ds ++ Ended ∷ []) cs) changes
@@ -127,8 +125,8 @@ inner_step client (Made number) h = tt
 
 -- ---- the session has ended
 
-settled : (client : List ℕ) (a b : DeskNow) (result : Result SyncReport SyncErr)
-    → has_ended result ≡ true → IsSyncReleased client a result b
+settled : (client : List ℕ) (a b : SiteNow) (result : Result SyncReport SyncErr)
+    → has_ended_sync result ≡ true → IsSyncReleased client a result b
     → SyncAnswers client a result b × (ends_released (phase_of client b.line.trail) ≡ true)
 settled client a b (Ok report) ended h = h
 settled client a b (Err (Busy lock now)) ended h = h
@@ -142,34 +140,31 @@ settled client a b (Err TargetFault) ended h = h
 settled client a b (Err KeeperFault) ended h = h
 settled client a b (Err NoMemory) ended h = absurd cc
 
-pub whole_sync : (client : List ℕ) (t u : Tables) (old mid : SyncNow)
-    (result : Result SyncReport SyncErr) → has_ended result ≡ true
-    → IsSyncReleased client (begun_at t old) result (desk_at u mid)
-    → SyncGoesOn client (begun_at t old).line mid.line
-    → TellsWork (begun_view t) (begun_at t old) (desk_at u mid)
-    → IsWholeSync client t old result (ended_at (desk_at u mid))
-whole_sync client t u old mid result ended released goes tells =
+pub whole_sync : (client : List ℕ) (old mid : SiteNow) (result : Result SyncReport SyncErr)
+    → has_ended_sync result ≡ true → RunsSync client (begun_at old) result mid
+    → IsWholeSync client old result (ended_at mid)
+whole_sync client old mid result ended runs =
     let P = IsStep is_sync client in
-    let done = settled client (begun_at t old) (desk_at u mid) result ended released in
-    let start = (begun_at t old).line in
-    let adds = adds_whole P client old.line.trail (mid.line.trail ++ Ended ∷ []) start mid.line
-    (inner_step client) refl goes.goes done.1 refl in
-    let at = before_end old.line.trail adds.middle mid.line.trail (mid.line.trail ++ Ended ∷ [])
-    refl adds.trail in
+    let start = begun_at old in
+    let done = settled client start mid result ended runs.released in
+    let new = ended_at mid in
+    let adds = adds_whole P client old.line.trail new.line.trail start.line mid.line
+    (inner_step client) refl runs.goes.goes done.1 refl in
+    let at = before_end old.line.trail adds.middle mid.line.trail new.line.trail refl adds.trail in
     record {
-      tells = tells_ended t u old mid tells;
+      tells = tells_ended old mid runs.tells;
       whole = adds;
       versions = keeps_whole client old.line.trail adds.middle
           (λ i d lt. inner_step client _ (adds.each i d lt))
-          (ap (λ (es : List Event). (course_of client es).lawful) (sym at) ∙ goes.work);
-      last = desk_at u mid;
+          (ap (λ (es : List Event). (course_of client es).lawful) (sym at) ∙ runs.goes.work);
+      last = mid;
       ended = refl;
       answers = done.0;
     }
 
 -- ---- it hasn't
 
-not_ended : (result : Result SyncReport SyncErr) → has_ended result ≡ false
+not_ended : (result : Result SyncReport SyncErr) → has_ended_sync result ≡ false
     → result ≡ Err NoMemory
 not_ended (Ok report) h = cc
 not_ended (Err (Busy lock now)) h = cc
@@ -184,61 +179,41 @@ not_ended (Err KeeperFault) h = cc
 not_ended (Err NoMemory) h = refl
 
 -- no call of it has failed
-unfailed : (client : List ℕ) (a b : DeskNow) (result : Result SyncReport SyncErr)
-    → has_ended result ≡ false → IsSyncReleased client a result b
+unfailed : (client : List ℕ) (a b : SiteNow) (result : Result SyncReport SyncErr)
+    → has_ended_sync result ≡ false → IsSyncReleased client a result b
     → NoneFailed a.line.trail b.line.trail
 unfailed client a b result ended h =
     subst (λ (r : Result SyncReport SyncErr). IsSyncReleased client a r b) (not_ended result ended) h
 
--- which tables are at hand in the end doesn't matter
-told_at : (t u : Tables) (old : DeskNow) (v : View) (mid : SyncNow) → TellsWork v old (desk_at u mid)
-    → TellsWork v old (desk_at t mid)
-told_at t u old v mid h = record {
-  tells = record {
-    deeds = h.tells.deeds;
-    saves = h.tells.saves;
-    trail = h.tells.trail;
-    made = h.tells.made;
-    kept = h.tells.kept;
-    told = h.tells.told;
-    obeys = h.tells.obeys;
-    merges = h.tells.merges;
-  };
-  work = h.work;
-}
-
-pub open_sync : (client : List ℕ) (t u : Tables) (old mid : SyncNow)
-    (result : Result SyncReport SyncErr) → has_ended result ≡ false
-    → IsSyncReleased client (begun_at t old) result (desk_at u mid)
-    → SyncGoesOn client (begun_at t old).line mid.line
-    → TellsWork (begun_view t) (begun_at t old) (desk_at u mid)
-    → IsOpenSync client t old mid
-open_sync client t u old mid result ended released goes tells =
+pub open_sync : (client : List ℕ) (old mid : SiteNow) (result : Result SyncReport SyncErr)
+    → has_ended_sync result ≡ false → RunsSync client (begun_at old) result mid
+    → IsOpenSync client old mid
+open_sync client old mid result ended runs =
     let P = IsStep is_sync client in
-    let start = (begun_at t old).line in
-    let adds = adds_begun P client old.line.trail mid.line.trail start mid.line
-    (inner_step client) refl goes.goes refl in
-    let more = goes.goes.line.more in
-    let at = at_seam old.line.trail more start.trail mid.line.trail refl goes.goes.line.trail in
+    let start = begun_at old in
+    let goes = runs.goes.goes in
+    let adds = adds_begun P client old.line.trail mid.line.trail start.line mid.line
+    (inner_step client) refl goes refl in
+    let more = goes.line.more in
+    let at = at_seam old.line.trail more start.line.trail mid.line.trail refl goes.line.trail in
     record {
-      tells = tells_begun t old (desk_at t mid) (told_at t u (begun_at t old) (begun_view t) mid tells);
+      tells = tells_begun old mid runs.tells;
       begun = adds;
       versions = subst (KeepsVersions client)
           (append_cancel_left old.line.trail (Began ∷ more) adds.more (sym at ∙ adds.trail))
           (keeps_begun client old.line.trail more
-          (λ i d lt. inner_step client _ (goes.goes.line.each i d lt))
-          (ap (λ (es : List Event). (course_of client es).lawful) (sym at) ∙ goes.work));
-      heard = none_failed_begun old.line.trail start.trail mid.line.trail adds.more refl
-          (unfailed client (begun_at t old) (desk_at u mid) result ended released) adds.trail;
+          (λ i d lt. inner_step client _ (goes.line.each i d lt))
+          (ap (λ (es : List Event). (course_of client es).lawful) (sym at) ∙ runs.goes.work));
+      heard = none_failed_begun old.line.trail start.line.trail mid.line.trail adds.more refl
+          (unfailed client start mid result ended runs.released) adds.trail;
     }
 
-pub none_open : (client : List ℕ) (t : Tables) (old new : SyncNow)
-    → new.line.trail ≡ old.line.trail → new.made ≡ old.made
-    → new.keeper.kept ≡ old.keeper.kept → IsOpenSync client t old new
-none_open client t old new trail made kept =
+pub none_open : (client : List ℕ) (old new : SiteNow) → new.line.trail ≡ old.line.trail
+    → new.made ≡ old.made → new.keeper.kept ≡ old.keeper.kept → IsOpenSync client old new
+none_open client old new trail made kept =
     let adds = adds_none (IsStep is_sync client) client old.line.trail new.line.trail trail in
     record {
-      tells = tells_nothing (at_rest t) (desk_at t old) (desk_at t new) trail made kept;
+      tells = tells_nothing (at_rest old.tables) old new trail made kept;
       begun = adds;
       versions = subst (KeepsVersions client)
           (append_cancel_left old.line.trail [] adds.more
@@ -247,75 +222,63 @@ none_open client t old new trail made kept =
       heard = none_failed_unbegun old.line.trail new.line.trail adds.more trail adds.trail;
     }
 
--- ---- with the begin as it was written down
-
-pub has_begun_sync : (client : List ℕ) (old new : List Event) → new ≡ old ++ Began ∷ []
-    → HasBegunSync client new
-unfolding calls_from
-has_begun_sync client old new is = record {
-  begun = record {
-    stands = begun_stands client old new is;
-    course = ap (course_of client) is ∙ course_from-last client outside_course old Began;
-  };
-  calls = ap session_calls is ∙ calls_from-append [] old (Began ∷ []);
-}
-
--- so much stands in the trail
-abbrev pub started : SyncNow → List Event → SyncNow
-started s trail = record s { line = record s.line { trail = trail } }
-
-pub open_after : (client : List ℕ) (t u : Tables) (old mid : SyncNow) (begun trail : List Event)
-    (result : Result SyncReport SyncErr) → has_ended result ≡ false
-    → begun ≡ old.line.trail ++ Began ∷ []
-    → IsSyncReleased client (desk_at t (started old begun)) result (desk_at u mid)
-    → SyncGoesOn client (started old begun).line mid.line
-    → TellsWork (begun_view t) (desk_at t (started old begun)) (desk_at u mid)
-    → trail ≡ mid.line.trail → IsOpenSync client t old (started mid trail)
-open_after client t u old mid begun trail result ended is released goes tells same =
-    subst (λ (es : List Event). IsOpenSync client t old (started mid es)) (sym same)
-    (open_sync client t u old mid result ended
-    (subst (λ (es : List Event).
-    IsSyncReleased client (desk_at t (started old es)) result (desk_at u mid)) is released)
-    (subst (λ (es : List Event). SyncGoesOn client (started old es).line mid.line) is goes)
-    (subst (λ (es : List Event).
-    TellsWork (begun_view t) (desk_at t (started old es)) (desk_at u mid)) is tells))
-
-pub whole_after : (client : List ℕ) (t u : Tables) (old mid : SyncNow) (begun trail : List Event)
-    (result : Result SyncReport SyncErr) → has_ended result ≡ true
-    → begun ≡ old.line.trail ++ Began ∷ []
-    → IsSyncReleased client (desk_at t (started old begun)) result (desk_at u mid)
-    → SyncGoesOn client (started old begun).line mid.line
-    → TellsWork (begun_view t) (desk_at t (started old begun)) (desk_at u mid)
-    → trail ≡ mid.line.trail ++ Ended ∷ [] → IsWholeSync client t old result (started mid trail)
-whole_after client t u old mid begun trail result ended is released goes tells same =
-    subst (λ (es : List Event). IsWholeSync client t old result (started mid es)) (sym same)
-    (whole_sync client t u old mid result ended
-    (subst (λ (es : List Event).
-    IsSyncReleased client (desk_at t (started old es)) result (desk_at u mid)) is released)
-    (subst (λ (es : List Event). SyncGoesOn client (started old es).line mid.line) is goes)
-    (subst (λ (es : List Event).
-    TellsWork (begun_view t) (desk_at t (started old es)) (desk_at u mid)) is tells))
-
 -- ---- by the answer
 
-pub adds_whole_from : (client : List ℕ) (t : Tables) (old new : SyncNow)
-    (result : Result SyncReport SyncErr) → has_ended result ≡ true
-    → IsWholeSync client t old result new → AddsFrom client t old result new
-adds_whole_from client t old new (Ok report) ended h = h
-adds_whole_from client t old new (Err (Busy lock now)) ended h = h
-adds_whole_from client t old new (Err (LeaseLost seen)) ended h = h
-adds_whole_from client t old new (Err (TargetOlder version)) ended h = h
-adds_whole_from client t old new (Err (TargetNewer version)) ended h = h
-adds_whole_from client t old new (Err BadInfo) ended h = h
-adds_whole_from client t old new (Err (FailSafe count)) ended h = h
-adds_whole_from client t old new (Err (NoKey key)) ended h = h
-adds_whole_from client t old new (Err TargetFault) ended h = h
-adds_whole_from client t old new (Err KeeperFault) ended h = h
-adds_whole_from client t old new (Err NoMemory) ended h = absurd cc
+pub adds_whole_from : (client : List ℕ) (old new : SiteNow)
+    (result : Result SyncReport SyncErr) → has_ended_sync result ≡ true
+    → IsWholeSync client old result new → AddsFrom client old result new
+adds_whole_from client old new (Ok report) ended h = h
+adds_whole_from client old new (Err (Busy lock now)) ended h = h
+adds_whole_from client old new (Err (LeaseLost seen)) ended h = h
+adds_whole_from client old new (Err (TargetOlder version)) ended h = h
+adds_whole_from client old new (Err (TargetNewer version)) ended h = h
+adds_whole_from client old new (Err BadInfo) ended h = h
+adds_whole_from client old new (Err (FailSafe count)) ended h = h
+adds_whole_from client old new (Err (NoKey key)) ended h = h
+adds_whole_from client old new (Err TargetFault) ended h = h
+adds_whole_from client old new (Err KeeperFault) ended h = h
+adds_whole_from client old new (Err NoMemory) ended h = absurd cc
 
-pub adds_open_from : (client : List ℕ) (t : Tables) (old new : SyncNow)
-    (result : Result SyncReport SyncErr) → has_ended result ≡ false
-    → IsOpenSync client t old new → AddsFrom client t old result new
-adds_open_from client t old new result ended h =
-    subst (λ (r : Result SyncReport SyncErr). AddsFrom client t old r new)
+pub adds_open_from : (client : List ℕ) (old new : SiteNow)
+    (result : Result SyncReport SyncErr) → has_ended_sync result ≡ false
+    → IsOpenSync client old new → AddsFrom client old result new
+adds_open_from client old new result ended h =
+    subst (λ (r : Result SyncReport SyncErr). AddsFrom client old r new)
     (sym (not_ended result ended)) h
+
+-- ---- with the begin as it was written down
+
+-- so much stands in the trail
+abbrev pub started : SiteNow → List Event → SiteNow
+started d trail = record d { line = record d.line { trail = trail } }
+
+pub has_begun_sync : (client : List ℕ) (old : SiteNow) (trail : List Event)
+    → trail ≡ old.line.trail ++ Began ∷ [] → IsTidy old → HasBegunSync client (started old trail)
+unfolding calls_from
+has_begun_sync client old trail is tidy = record {
+  begun = record {
+    stands = begun_stands client old.line.trail trail is;
+    course = ap (course_of client) is ∙ course_from-last client outside_course old.line.trail Began;
+  };
+  calls = ap session_calls is ∙ calls_from-append [] old.line.trail (Began ∷ []);
+  tidy = record { sound = tidy.sound; told = tidy.told };
+}
+
+pub open_after : (client : List ℕ) (old mid : SiteNow) (begun : List Event)
+    (result : Result SyncReport SyncErr) → has_ended_sync result ≡ false
+    → begun ≡ old.line.trail ++ Began ∷ [] → RunsSync client (started old begun) result mid
+    → AddsFrom client old result mid
+open_after client old mid begun result ended is runs =
+    adds_open_from client old mid result ended
+    (open_sync client old mid result ended
+    (subst (λ (es : List Event). RunsSync client (started old es) result mid) is runs))
+
+pub whole_after : (client : List ℕ) (old mid : SiteNow) (begun trail : List Event)
+    (result : Result SyncReport SyncErr) → has_ended_sync result ≡ true
+    → begun ≡ old.line.trail ++ Began ∷ [] → RunsSync client (started old begun) result mid
+    → trail ≡ mid.line.trail ++ Ended ∷ [] → AddsFrom client old result (started mid trail)
+whole_after client old mid begun trail result ended is runs same =
+    subst (λ (es : List Event). AddsFrom client old result (started mid es)) (sym same)
+    (adds_whole_from client old (ended_at mid) result ended
+    (whole_sync client old mid result ended
+    (subst (λ (es : List Event). RunsSync client (started old es) result mid) is runs)))

@@ -13,39 +13,39 @@ use Rattle.jop_target.specs.declared.call.Call.{Call}
 use Rattle.jop_target.specs.declared.call.Call.TheVariants.{List as ListDir, Get, Put, Delete, MakeDir}
 use Rattle.jop_target.specs.declared.reply.Reply.TheVariants.{Listed}
 use Rattle.lease.specs.declared.lease.Lease.{Lease}
-use Rattle.licences.specs.Deeds.{Deed}
-use Rattle.licences.specs.Puts.{has_put}
-use Rattle.licences.specs.Trails.{session_calls}
-use Rattle.licences.specs.Views.{Heard, Shown, Stage, View}
-use Rattle.table_keeper.specs.Keepers.{Kept}
+use Rattle.law_licences.specs.Deeds.{Deed}
+use Rattle.law_licences.specs.Puts.{has_put}
+use Rattle.law_licences.specs.Trails.{session_calls}
+use Rattle.law_licences.specs.Views.{Heard, Shown, Stage, View}
+use Rattle.keeper.specs.Keepers.{Kept}
 use Rattle.local_store.specs.Rows.{row_id}
-use Rattle.table_keeper.specs.declared.blob.Blob.{Blob}
+use Rattle.keeper.specs.declared.blob.Blob.{Blob}
 use Rattle.local_store.specs.declared.row.Row.{Row}
 use Rattle.local_store.specs.declared.tables.Tables.{Tables}
-use Rattle.opening.proofs.Merging.{merges_none, merges_on}
-use Rattle.opening.proofs.Unput.{unput_behind}
-use Rattle.opening.proofs.Versions.{MayOnceTold, stays_lawful}
-use Rattle.opening.specs.Opening.{IsLawful, KnowsVersion, MergesBetween, Opens, ReadsBadInfo, ReadsVersion, Refuses, is_opening}
-use Rattle.opening.specs.declared.refusal.OpenErr.{OpenErr}
-use Rattle.opening.specs.declared.refusal.OpenErr.TheVariants as open_errors
-use Rattle.session_steps.proofs.Ending.{does_as, gives_up_behind}
-use Rattle.session_steps.proofs.Joins.{does_then}
-use Rattle.session_steps.proofs.Recast.{ends_at_placed, gives_up_placed}
-use Rattle.session_steps.specs.Doing.{Does, DoesTo, Finishes, GivesUp, Went}
-use Rattle.session_steps.specs.Parts.{ForEach, Hears, Part, Then}
-use Rattle.session_steps.specs.Work.{WorkNow, nowhere, placed, work, work_by}
+use Rattle.session_opening.proofs.Merging.{merges_none, merges_on}
+use Rattle.session_opening.proofs.Unput.{unput_behind}
+use Rattle.session_opening.proofs.Versions.{MayOnceTold, stays_lawful}
+use Rattle.session_opening.specs.Opening.{IsLawful, KnowsVersion, MergesBetween, Opens, ReadsBadInfo, ReadsVersion, RefusesTarget, is_opening}
+use Rattle.session_opening.specs.declared.refusal.OpenErr.{OpenErr}
+use Rattle.session_opening.specs.declared.refusal.OpenErr.TheVariants as open_errors
+use Rattle.session.proofs.Ending.{does_as, gives_up_behind}
+use Rattle.session.proofs.Joins.{does_then}
+use Rattle.session.proofs.Recast.{ends_at_placed, gives_up_placed}
+use Rattle.session.specs.Doing.{Does, DoesTo, Finishes, GivesNothing, Went}
+use Rattle.session.specs.Parts.{ForEach, Hears, Part, Then}
+use Rattle.session.specs.Work.{WorkNow, nowhere, placed, work, work_by}
 use Rattle.target_upgrade.specs.Steps.{SUPPORTED}
 use Rattle.upload.proofs.Left.{same_blobs}
 use Rattle.upload.specs.Conditions.{AreUnput, IsReadable}
 use Rattle.upload.specs.Uploading.{UploadsOne, blobs_of, pending_ids}
-use Rattle.session_steps.proofs.Wider.{IsWithin, does_within, gives_up_within, went_within}
+use Rattle.session.proofs.Wider.{IsWithin, does_within, gives_up_within, went_within}
 use Rattle.sync_session.proofs.Settled.{agree_begun}
 use Rattle.sync_session.specs.Errors.{of_opening, of_step}
 use Rattle.sync_session.specs.Keys.{IsActiveKey, has_waiting, needs_key}
 use Rattle.sync_session.specs.declared.sync_err.SyncErr.{SyncErr}
 use Rattle.sync_session.specs.declared.sync_err.SyncErr.TheVariants.{Busy, LeaseLost, TargetOlder, TargetNewer, BadInfo, NoKey}
 use Rattle.sync_session.specs.declared.sync_err.SyncErr.TheVariants as sync_errors
-use Rattle.sync_session.specs.Working.{Exchanges, ExchangesOr, LacksKey, ListsBehind, Sends, Syncs, Works, is_exchange, is_sync}
+use Rattle.sync_session.specs.Working.{Exchanges, ExchangesOr, LacksKey, ListsBehind, Sends, SyncsTables, SyncWorks, is_exchange, is_sync}
 
 -- ---- sorts
 
@@ -80,21 +80,21 @@ then_as P kept other v ds same h = record {
 }
 
 opened_blobs : (a b : WorkNow) → Does Opens is_opening a b
-    → blobs_of b.desk.keeper.kept ≡ blobs_of a.desk.keeper.kept
+    → blobs_of b.site.keeper.kept ≡ blobs_of a.site.keeper.kept
 opened_blobs a b h = same_blobs Opens is_opening a b (λ id. refl) h
 
 -- ---- the answers
 
 -- a part of the session gave nothing, but not since the target looks as if it were emptied
-works_stopped : (a b : WorkNow) (e : StepErr) → GivesUp is_sync a e b → Works a (Err (of_step e)) b
+works_stopped : (a b : WorkNow) (e : StepErr) → GivesNothing is_sync a e b → SyncWorks a (Err (of_step e)) b
 works_stopped a b (Lost seen) h = h
 works_stopped a b TargetFault h = h
 works_stopped a b KeeperFault h = h
 works_stopped a b (FailSafe count) h = absurd h
 works_stopped a b NoMemory h = h
 
-pub works_refused : (a b : WorkNow) (e : OpenErr) → Refuses is_opening a e b
-    → Works a (Err (of_opening e)) b
+pub works_refused : (a b : WorkNow) (e : OpenErr) → RefusesTarget is_opening a e b
+    → SyncWorks a (Err (of_opening e)) b
 works_refused a b (open_errors.Older version) h =
     (h.0, does_within is_opening is_sync a b opening_within h.1)
 works_refused a b (open_errors.Newer version) h =
@@ -104,7 +104,7 @@ works_refused a b (open_errors.Step e) h =
     works_stopped a b e (gives_up_within is_opening is_sync a b e opening_within h)
 
 stopped_behind : (a b c : WorkNow) (e : StepErr) → Does Opens is_sync a b
-    → GivesUp is_exchange b e c → Works a (Err (of_step e)) c
+    → GivesNothing is_exchange b e c → SyncWorks a (Err (of_step e)) c
 stopped_behind a b c e h k =
     works_stopped a c e
     (gives_up_behind Opens is_sync a b c e h
@@ -112,29 +112,29 @@ stopped_behind a b c e h k =
 
 -- what came behind the opening
 works_both : (a b c : WorkNow) → Does Opens is_opening a b
-    → Finishes (Exchanges b.desk.keeper.kept) is_exchange b c
-    → Finishes (Syncs a.desk.keeper.kept) is_sync a c
+    → Finishes (Exchanges b.site.keeper.kept) is_exchange b c
+    → Finishes (SyncsTables a.site.keeper.kept) is_sync a c
 works_both a b c h k =
     let same = opened_blobs a b h in
-    does_then Opens (Exchanges a.desk.keeper.kept) is_sync a b c
+    does_then Opens (Exchanges a.site.keeper.kept) is_sync a b c
     (does_within is_opening is_sync a b opening_within h)
-    (does_as (Exchanges b.desk.keeper.kept) (Exchanges a.desk.keeper.kept) is_sync b c
-    (λ shown ds. then_as Downloads b.desk.keeper.kept a.desk.keeper.kept _ ds same)
+    (does_as (Exchanges b.site.keeper.kept) (Exchanges a.site.keeper.kept) is_sync b c
+    (λ shown ds. then_as Downloads b.site.keeper.kept a.site.keeper.kept _ ds same)
     (does_within is_exchange is_sync b c exchange_within k))
 
 pub works_behind : (a b c : WorkNow) (e : StepErr) → Does Opens is_opening a b
-    → ExchangesOr b (Err e) c → Works a (Err (of_step e)) c
+    → ExchangesOr b (Err e) c → SyncWorks a (Err (of_step e)) c
 works_behind a b c (FailSafe count) h k =
     let same = opened_blobs a b h in
     let lists = Hears (ListDir Root) (Listed k.listing) in
     record {
       listing = k.listing;
       listed =
-          does_then Opens (ListsBehind a.desk.keeper.kept k.listing) is_sync a b c
+          does_then Opens (ListsBehind a.site.keeper.kept k.listing) is_sync a b c
           (does_within is_opening is_sync a b opening_within h)
-          (does_as (ListsBehind b.desk.keeper.kept k.listing)
-          (ListsBehind a.desk.keeper.kept k.listing) is_sync b c
-          (λ shown ds. then_as lists b.desk.keeper.kept a.desk.keeper.kept _ ds same)
+          (does_as (ListsBehind b.site.keeper.kept k.listing)
+          (ListsBehind a.site.keeper.kept k.listing) is_sync b c
+          (λ shown ds. then_as lists b.site.keeper.kept a.site.keeper.kept _ ds same)
           (does_within is_exchange is_sync b c exchange_within k.listed));
       rows = k.rows;
     }
@@ -148,14 +148,14 @@ works_behind a b c NoMemory h k =
     stopped_behind a b c NoMemory (does_within is_opening is_sync a b opening_within h) k
 
 -- the exchange was done behind the opening, of a session that had called nothing
-pub works_done : (a b c : WorkNow) → session_calls a.desk.line.trail ≡ []
-    → Does Opens is_opening a b → ExchangesOr b (Ok tt) c → Works a (Ok tt) c
+pub works_done : (a b c : WorkNow) → session_calls a.site.line.trail ≡ []
+    → Does Opens is_opening a b → ExchangesOr b (Ok tt) c → SyncWorks a (Ok tt) c
 works_done a b c none h k =
-    let whole = works_both a b c h k.0 in (whole, (k.1, whole.agrees (agree_begun a.desk none)))
+    let whole = works_both a b c h k.0 in (whole, (k.1, whole.agrees (agree_begun a.site none)))
 
 -- rows wait that can't be sealed
 pub lacks_key : (a b : WorkNow) (t : Tables) (key : Option (List ℕ)) → Does Opens is_opening a b
-    → t ≡ b.desk.tables → needs_key t ≡ true → IsActiveKey t.info.active.value key
+    → t ≡ b.site.tables → needs_key t ≡ true → IsActiveKey t.info.active.value key
     → LacksKey a key b
 lacks_key a b t key h same needs active = record {
   opened = does_within is_opening is_sync a b opening_within h;
@@ -170,20 +170,20 @@ does_nowhere : {there : Stage} (P : Part) (a b : WorkNow) → DoesTo there [] P 
 does_nowhere {there} P a b h =
     ends_at_placed {R = Unit {0}} there P is_sync nowhere nowhere a b (Ok tt) refl h
 
-stopped_nowhere : (a b : WorkNow) (e : StepErr) → GivesUp is_sync a e b
-    → GivesUp is_sync (placed nowhere a) e (placed nowhere b)
+stopped_nowhere : (a b : WorkNow) (e : StepErr) → GivesNothing is_sync a e b
+    → GivesNothing is_sync (placed nowhere a) e (placed nowhere b)
 stopped_nowhere a b e h = gives_up_placed is_sync nowhere nowhere a b e refl h
 
-works_nowhere : (a b : WorkNow) (result : Result (Unit {0}) SyncErr) → Works a result b
-    → Works (placed nowhere a) result (placed nowhere b)
-works_nowhere a b (Ok done) h = (does_nowhere (Syncs a.desk.keeper.kept) a b h.0, h.1)
+works_nowhere : (a b : WorkNow) (result : Result (Unit {0}) SyncErr) → SyncWorks a result b
+    → SyncWorks (placed nowhere a) result (placed nowhere b)
+works_nowhere a b (Ok done) h = (does_nowhere (SyncsTables a.site.keeper.kept) a b h.0, h.1)
 works_nowhere a b (Err (LeaseLost seen)) h = stopped_nowhere a b (Lost seen) h
 works_nowhere a b (Err (TargetOlder version)) h = (h.0, does_nowhere (ReadsVersion version) a b h.1)
 works_nowhere a b (Err (TargetNewer version)) h = (h.0, does_nowhere (ReadsVersion version) a b h.1)
 works_nowhere a b (Err BadInfo) h = does_nowhere ReadsBadInfo a b h
 works_nowhere a b (Err (sync_errors.FailSafe count)) h = record {
   listing = h.listing;
-  listed = does_nowhere (Then Opens (ListsBehind a.desk.keeper.kept h.listing)) a b h.listed;
+  listed = does_nowhere (Then Opens (ListsBehind a.site.keeper.kept h.listing)) a b h.listed;
   rows = h.rows;
 }
 works_nowhere a b (Err (NoKey key)) h = record {
@@ -196,14 +196,14 @@ works_nowhere a b (Err sync_errors.KeeperFault) h = stopped_nowhere a b KeeperFa
 works_nowhere a b (Err sync_errors.NoMemory) h = stopped_nowhere a b NoMemory h
 works_nowhere a b (Err (Busy lock now)) h = absurd h
 
--- so it is said of the desk, the lease and the report
+-- so it is said of the client, the lease and the report
 pub works_here : (a b : WorkNow) (result : Result (Unit {0}) SyncErr) → a.known ≡ None
-    → b.known ≡ None → Works a result b
-    → Works (work a.desk a.lease a.report) result (work b.desk b.lease b.report)
+    → b.known ≡ None → SyncWorks a result b
+    → SyncWorks (work a.site a.lease a.report) result (work b.site b.lease b.report)
 works_here a b result before behind h =
-    subst (λ (k : Option Shown). Works (work a.desk a.lease a.report) result
-    (work_by k b.desk b.lease b.report)) behind
-    (subst (λ (k : Option Shown). Works (work_by k a.desk a.lease a.report) result
+    subst (λ (k : Option Shown). SyncWorks (work a.site a.lease a.report) result
+    (work_by nowhere k b.site b.lease b.report)) behind
+    (subst (λ (k : Option Shown). SyncWorks (work_by nowhere k a.site a.lease a.report) result
     (placed nowhere b)) before (works_nowhere a b result h))
 
 -- ---- what it keeps
@@ -230,12 +230,12 @@ exchange_keeps call is = record { keeps = refl; asks_none = λ told. refl }
 pub record HasOpened (a b : WorkNow) : Type 0 where
   pub does : Does Opens is_opening a b
   pub sync : b.lease.kind ≡ Sync
-  pub lawful : IsLawful b.lease b.desk
-  pub told : KnowsVersion b.lease b.desk
-  pub merges : MergesBetween a.desk b.desk
+  pub lawful : IsLawful b.lease b.site
+  pub told : KnowsVersion b.lease b.site
+  pub merges : MergesBetween a.site b.site
 
 pub opened : (a b : WorkNow) → a.lease.kind ≡ Sync → Does Opens is_opening a b
-    → IsLawful b.lease b.desk → KnowsVersion b.lease b.desk → MergesBetween a.desk b.desk
+    → IsLawful b.lease b.site → KnowsVersion b.lease b.site → MergesBetween a.site b.site
     → HasOpened a b
 opened a b sync does lawful told merges = record {
   does = does;
@@ -246,14 +246,14 @@ opened a b sync does lawful told merges = record {
 }
 
 pub lawful_behind : (a b c : WorkNow) → HasOpened a b → Went is_exchange b c
-    → IsLawful c.lease c.desk
+    → IsLawful c.lease c.site
 lawful_behind a b c h went =
     (stays_lawful is_exchange (Some SUPPORTED) b c exchange_keeps h.does.ready.held h.sync h.lawful
     (λ version is. h.told ∙ is) went).lawful
 
 -- no info is put behind the opening
 pub merges_behind : (a b c : WorkNow) → HasOpened a b → Went is_exchange b c
-    → MergesBetween a.desk c.desk
+    → MergesBetween a.site c.site
 merges_behind a b c h went =
     merges_on Opens is_sync a b c (does_within is_opening is_sync a b opening_within h.does)
     (went_within is_exchange is_sync b c exchange_within went) h.merges
@@ -287,8 +287,8 @@ can_put t none = by t.info.e2ee.value refl where
       inr (ap (map row_id) (none_waiting t.rows rest))
 
 -- the session has put no item yet
-pub unput_opened : (a b : WorkNow) → session_calls a.desk.line.trail ≡ []
-    → Does Opens is_opening a b → AreUnput b.desk
+pub unput_opened : (a b : WorkNow) → session_calls a.site.line.trail ≡ []
+    → Does Opens is_opening a b → AreUnput b.site
 unfolding has_put
 unput_opened a b none h = λ id new_row.
     unput_behind is_opening a b h id ∙ ap (λ (hs : List Heard). has_put id hs) none

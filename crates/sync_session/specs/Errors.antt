@@ -3,10 +3,10 @@ use Rattle.conflicts.specs.declared.error.StepErr.{StepErr}
 use Rattle.conflicts.specs.declared.error.StepErr.TheVariants as step_errors
 use Rattle.lease.specs.declared.error.LeaseErr.{LeaseErr}
 use Rattle.lease.specs.declared.error.LeaseErr.TheVariants as lease_errors
-use Rattle.table_keeper.specs.declared.keeper_err.KeeperErr.{KeeperErr}
-use Rattle.table_keeper.specs.declared.keeper_err.KeeperErr.TheVariants as keeper_errors
-use Rattle.opening.specs.declared.refusal.OpenErr.{OpenErr}
-use Rattle.opening.specs.declared.refusal.OpenErr.TheVariants as open_errors
+use Rattle.keeper.specs.declared.keeper_err.KeeperErr.{KeeperErr}
+use Rattle.keeper.specs.declared.keeper_err.KeeperErr.TheVariants as keeper_errors
+use Rattle.session_opening.specs.declared.refusal.OpenErr.{OpenErr}
+use Rattle.session_opening.specs.declared.refusal.OpenErr.TheVariants as open_errors
 use Rattle.sync_session.specs.declared.sync_err.SyncErr.{SyncErr}
 use Rattle.sync_session.specs.declared.sync_err.SyncErr.TheVariants.{Busy, LeaseLost, TargetOlder, TargetNewer, BadInfo, FailSafe, TargetFault, KeeperFault, NoMemory}
 

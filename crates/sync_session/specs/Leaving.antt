@@ -1,9 +1,11 @@
 -- How a sync gives its lease up.
 use Rattle.std.specs.Prelude.{◌≡◌, Bool, true, false, Result, Ok, Err}
-use Rattle.desk.specs.Desks.{DeskNow, IsSameDesk}
+use Rattle.client.specs.Sites.{SiteNow, IsSameSite}
 use Rattle.lease.specs.Added.{Makes, leave_calls}
 use Rattle.lease.specs.Calls.{LeaseGoesOn}
 use Rattle.lease.specs.Outcomes.{Releases}
+use Rattle.lease.specs.Phase.{Held}
+use Rattle.lease.specs.Standing.{StandsIn}
 use Rattle.lease.specs.declared.error.LeaseErr.{LeaseErr}
 use Rattle.lease.specs.declared.error.LeaseErr.TheVariants as lease_errors
 use Rattle.lease.specs.declared.lease.Lease.{Lease}
@@ -18,35 +20,41 @@ holds_lease (Err TargetFault) = false
 holds_lease (Err NoMemory) = false
 holds_lease worked = true
 
+-- and then the trail tells it
+abbrev pub HoldsIf : Result (Unit {0}) SyncErr → Lease → SiteNow → Type 0
+HoldsIf worked lease d =
+    holds_lease worked ≡ true
+    → StandsIn lease.client d.line.trail (Held lease.kind lease.stamp)
+
 -- only work that is done answers that the release failed
 abbrev pub or_fault : Result (Unit {0}) SyncErr → Result (Unit {0}) SyncErr
 or_fault (Ok done) = Err TargetFault
 or_fault (Err e) = Err e
 
 -- what a session answers whose work was answered so, and whose release so
-abbrev pub answer_of : Result (Unit {0}) LeaseErr → Result (Unit {0}) SyncErr →
+abbrev pub answer_once_left : Result (Unit {0}) LeaseErr → Result (Unit {0}) SyncErr →
     Result (Unit {0}) SyncErr
-answer_of (Ok done) worked = worked
-answer_of (Err lease_errors.NoMemory) worked = Err NoMemory
-answer_of (Err e) worked = or_fault worked
+answer_once_left (Ok done) worked = worked
+answer_once_left (Err lease_errors.NoMemory) worked = Err NoMemory
+answer_once_left (Err e) worked = or_fault worked
 
 -- the lease was given up
-pub record GivesUpLease (lease : Lease) (worked : Result (Unit {0}) SyncErr) (old : DeskNow)
-    (result : Result (Unit {0}) SyncErr) (new : DeskNow) : Type 0 where
+pub record GivesUpLease (lease : Lease) (worked : Result (Unit {0}) SyncErr) (old : SiteNow)
+    (result : Result (Unit {0}) SyncErr) (new : SiteNow) : Type 0 where
   pub released : Result (Unit {0}) LeaseErr
   pub gives : Releases lease old.line new.line released
   pub calls : Makes (leave_calls lease.kind lease.client) old.line.trail new.line.trail released
   pub goes : LeaseGoesOn lease.client old.line new.line
-  pub same : IsSameDesk old new
-  pub is : result ≡ answer_of released worked
+  pub same : IsSameSite old new
+  pub is : result ≡ answer_once_left released worked
 
 -- if it is held still; else nothing is called
-abbrev pub LeavesIf : Bool → Lease → Result (Unit {0}) SyncErr → DeskNow →
-    Result (Unit {0}) SyncErr → DeskNow → Type 0
+abbrev pub LeavesIf : Bool → Lease → Result (Unit {0}) SyncErr → SiteNow →
+    Result (Unit {0}) SyncErr → SiteNow → Type 0
 LeavesIf true lease worked old result new = GivesUpLease lease worked old result new
 LeavesIf false lease worked old result new = (result ≡ worked) × (new ≡ old)
 
-abbrev pub Leaves : Lease → Result (Unit {0}) SyncErr → DeskNow → Result (Unit {0}) SyncErr →
-    DeskNow → Type 0
-Leaves lease worked old result new =
+abbrev pub LeavesLease : Lease → Result (Unit {0}) SyncErr → SiteNow → Result (Unit {0}) SyncErr →
+    SiteNow → Type 0
+LeavesLease lease worked old result new =
     LeavesIf (holds_lease worked) lease worked old result new

@@ -1,8 +1,8 @@
 -- A whole sync, from its begin to its end, and why it answers as it does.
-use Rattle.std.specs.Prelude.{ℕ, ◌≡◌, List, [], ◌∷◌, ◌++◌, Bool, true, false, None, Result, Ok, Err}
+use Rattle.std.specs.Prelude.{ℕ, ◌≡◌, List, [], ◌∷◌, ◌++◌, Bool, true, false, Option, Some, None, Result, Ok, Err}
 use Rattle.conflicts.specs.Reports.{new_report}
 use Rattle.conflicts.specs.declared.report.SyncReport.{SyncReport}
-use Rattle.desk.specs.Desks.{DeskNow, IsSameDesk}
+use Rattle.client.specs.Sites.{SiteNow, IsSameSite, IsTidy}
 use Rattle.jop_outside.specs.Outside.{HasRisen}
 use Rattle.jop_base.specs.declared.lock_name.LockKind.TheVariants.{Sync}
 use Rattle.jop_base.specs.declared.path.Path.TheVariants.{Lock as LockFile}
@@ -22,47 +22,42 @@ use Rattle.lease.specs.Phase.{Phase}
 use Rattle.lease.specs.WholeSession.{AddsBegun, AddsWhole}
 use Rattle.lease.specs.Work.{NoneFailed}
 use Rattle.lease.specs.declared.lease.Lease.{Lease}
-use Rattle.licences.specs.Trails.{session_calls}
-use Rattle.licences.specs.Views.{View, Working, at_rest}
-use Rattle.table_keeper.specs.Keepers.{KeeperNow}
+use Rattle.lease.specs.declared.lock.Lock.{Lock}
+use Rattle.law_kept.specs.Trails.{KeepsNotes}
+use Rattle.law_licences.specs.Deeds.{deeds_of}
+use Rattle.law_licences.specs.Licences.{MergesInfo, ObeysData}
+use Rattle.law_licences.specs.Trails.{session_calls}
+use Rattle.law_licences.specs.Views.{View, Working, at_rest}
+use Rattle.keeper.specs.Keepers.{KeeperNow}
 use Rattle.local_store.specs.declared.change.Change.{Change}
 use Rattle.local_store.specs.declared.tables.Tables.{Tables}
-use Rattle.session_steps.specs.Agreeing.{AgreeBut}
-use Rattle.session_steps.specs.Steps.{IsStep}
-use Rattle.session_steps.specs.Work.{WorkNow, work}
+use Rattle.session.specs.Agreeing.{AgreeBut}
+use Rattle.session.specs.Steps.{IsStep}
+use Rattle.session.specs.Work.{WorkNow, view_of, work}
 use Rattle.target_upgrade.specs.Course.{KeepsVersions, course_of}
-use Rattle.sync_run.specs.Sessions.{HasBegun}
+use Rattle.sync_run.specs.Sessions.{GoesBy, HasBegun}
 use Rattle.sync_session.specs.Keys.{sealed_rows}
-use Rattle.sync_session.specs.Leaving.{Leaves}
-use Rattle.sync_session.specs.Telling.{Tells}
-use Rattle.sync_session.specs.Working.{Works, is_sync}
+use Rattle.sync_session.specs.Leaving.{LeavesLease}
+use Rattle.sync_session.specs.Telling.{Tells, TellsWork}
+use Rattle.sync_session.specs.Working.{SyncWorks, is_sync}
 use Rattle.sync_session.specs.declared.sync_err.SyncErr.{SyncErr}
 use Rattle.sync_session.specs.declared.sync_err.SyncErr.TheVariants.{Busy, LeaseLost, TargetFault, KeeperFault, NoMemory}
 
 -- ---- why
 
 -- The lease was had, the work under it came to this, and then its lock was deleted, which is the last call.
-pub record HasLeft (client : List ℕ) (worked : Result (Unit {0}) SyncErr) (old new : DeskNow)
+pub record HasLeft (client : List ℕ) (worked : Result (Unit {0}) SyncErr) (old new : SiteNow)
     : Type 0 where
   pub lease : Lease
-  pub held : DeskNow
+  pub held : SiteNow
   pub had : HasAcquired Sync client held.line.trail lease
-  pub begun : IsSameDesk old held
+  pub begun : IsSameSite old held
   pub late : WorkNow
-  pub works : Works (work held lease new_report) worked late
-  pub left : IsSameDesk late.desk new
+  pub works : SyncWorks (work held lease new_report) worked late
+  pub left : IsSameSite late.site new
   pub reply : Reply
   pub ends : new.line.trail
-      ≡ late.desk.line.trail ++ Called (Delete (LockFile (own_name Sync client))) reply ∷ []
-
--- the work under the lease came to this, and then the lease was given up, if it was held still
-pub record EndsWork (lease : Lease) (old : DeskNow) (report : SyncReport)
-    (result : Result (Unit {0}) SyncErr) (new : DeskNow) (after : SyncReport) : Type 0 where
-  pub worked : Result (Unit {0}) SyncErr
-  pub late : WorkNow
-  pub works : Works (work old lease report) worked late
-  pub leaves : Leaves late.lease worked late.desk result new
-  pub reported : late.report ≡ after
+      ≡ late.site.line.trail ++ Called (Delete (LockFile (own_name Sync client))) reply ∷ []
 
 -- the report, once the rows that are sealed are counted
 abbrev pub with_locked : Tables → SyncReport → SyncReport
@@ -70,17 +65,17 @@ with_locked t r = record r { locked = sealed_rows t }
 
 -- All was done, and the lock's delete was answered, and not by `Failed`. The report says what was
 -- done, and the bytes of resources that the session has put or got are the target's.
-pub record HasSynced (client : List ℕ) (report : SyncReport) (old new : DeskNow) : Type 0 where
+pub record HasSynced (client : List ℕ) (report : SyncReport) (old new : SiteNow) : Type 0 where
   pub left : HasLeft client (Ok tt) old new
   pub heard : ¬ (left.reply ≡ Failed)
-  pub reports : report ≡ with_locked left.late.desk.tables left.late.report
+  pub reports : report ≡ with_locked left.late.site.tables left.late.report
   pub agrees : AgreeBut [] new
 
 -- Each answer, by what its calls came to. Out of memory none of them was answered `Failed`.
-abbrev pub SyncAnswers : List ℕ → DeskNow → Result SyncReport SyncErr → DeskNow → Type 0
+abbrev pub SyncAnswers : List ℕ → SiteNow → Result SyncReport SyncErr → SiteNow → Type 0
 SyncAnswers client old (Ok report) new = HasSynced client report old new
 SyncAnswers client old (Err (Busy lock now)) new =
-    IsBlocked Sync client new.line.trail lock now × IsSameDesk old new
+    IsBlocked Sync client new.line.trail lock now × IsSameSite old new
 SyncAnswers client old (Err (LeaseLost seen)) new =
     (at : Phase) × HasMissed Sync client at new.line.trail seen
 SyncAnswers client old (Err TargetFault) new = Fails client old.line new.line
@@ -91,20 +86,21 @@ SyncAnswers client old (Err e) new = HasLeft client (Err e) old new
 
 -- the calls have come to this, and the lock is released as far as can be known, but for want of
 -- memory
-abbrev pub IsSyncReleased : List ℕ → DeskNow → Result SyncReport SyncErr → DeskNow → Type 0
+abbrev pub IsSyncReleased : List ℕ → SiteNow → Result SyncReport SyncErr → SiteNow → Type 0
 IsSyncReleased client old (Err NoMemory) new = SyncAnswers client old (Err NoMemory) new
 IsSyncReleased client old result new =
     SyncAnswers client old result new × (ends_released (phase_of client new.line.trail) ≡ true)
 
 -- a session ends with every answer but out of memory
-abbrev pub has_ended : Result SyncReport SyncErr → Bool
-has_ended (Err NoMemory) = false
-has_ended result = true
+abbrev pub has_ended_sync : Result SyncReport SyncErr → Bool
+has_ended_sync (Err NoMemory) = false
+has_ended_sync result = true
 
--- a session has begun and has called nothing
-pub record HasBegunSync (client : List ℕ) (trail : List Event) : Type 0 where
-  pub begun : HasBegun client trail
-  pub calls : session_calls trail ≡ []
+-- a session of the client has begun and has called nothing, and its tables are in order
+pub record HasBegunSync (client : List ℕ) (d : SiteNow) : Type 0 where
+  pub begun : HasBegun client d.line.trail
+  pub calls : session_calls d.line.trail ≡ []
+  pub tidy : IsTidy d
 
 -- what is seen of a client with these tables, whose session has begun
 abbrev pub begun_view : Tables → View
@@ -116,61 +112,93 @@ pub record SyncGoesOn (client : List ℕ) (old new : LineNow) : Type 0 where
   pub goes : GoesOn (IsStep is_sync client) client old new
   pub work : (course_of client new.trail).lawful ≡ true
 
+-- the work under the lease came to this, and then the lease was given up, if it was held still
+pub record EndsWork (lease : Lease) (old : SiteNow) (report : SyncReport)
+    (result : Result (Unit {0}) SyncErr) (new : SiteNow) (after : SyncReport) : Type 0 where
+  pub worked : Result (Unit {0}) SyncErr
+  pub late : WorkNow
+  pub works : SyncWorks (work old lease report) worked late
+  pub leaves : LeavesLease late.lease worked late.site result new
+  pub reported : late.report ≡ after
+  pub goes : SyncGoesOn lease.client old.line new.line
+  pub tells : TellsWork (view_of None old) old new
+
+-- a session that had begun took its lease, synced under it and gave it up
+pub record RunsSync (client : List ℕ) (old : SiteNow) (result : Result SyncReport SyncErr)
+    (new : SiteNow) : Type 0 where
+  pub released : IsSyncReleased client old result new
+  pub goes : SyncGoesOn client old.line new.line
+  pub tells : TellsWork (begun_view old.tables) old new
+
 -- ---- the session
 
--- a client's own side, and the target, at a moment
-pub record SyncNow : Type 0 where
-  pub line : LineNow
-  pub keeper : KeeperNow
-  pub made : List Change
-
-abbrev pub sync_now : List Event → TargetNow → KeeperNow → List Change → SyncNow
-sync_now trail target keeper made = record {
+-- a client that has these
+abbrev pub sited : List Event → TargetNow → KeeperNow → Tables → List Change → SiteNow
+sited trail target keeper tables made = record {
   line = record { trail = trail; target = target };
   keeper = keeper;
+  tables = tables;
   made = made;
 }
 
--- the client at its desk with these tables
-abbrev pub desk_at : Tables → SyncNow → DeskNow
-desk_at t s = record { line = s.line; keeper = s.keeper; tables = t; made = s.made }
+-- once one more event is written down
+abbrev pub written_down : Event → SiteNow → SiteNow
+written_down event d = record d { line = record d.line { trail = d.line.trail ++ event ∷ [] } }
 
--- once the session's begin is written down
-abbrev pub begun_at : Tables → SyncNow → DeskNow
-begun_at t s = record {
-  line = record s.line { trail = s.line.trail ++ Began ∷ [] };
-  keeper = s.keeper;
-  tables = t;
-  made = s.made;
-}
+-- once the session's begin is, and its end
+abbrev pub begun_at : SiteNow → SiteNow
+begun_at d = written_down Began d
 
--- once its end is written down
-abbrev pub ended_at : DeskNow → SyncNow
-ended_at d = record {
-  line = record d.line { trail = d.line.trail ++ Ended ∷ [] };
-  keeper = d.keeper;
-  made = d.made;
-}
+abbrev pub ended_at : SiteNow → SiteNow
+ended_at d = written_down Ended d
 
--- From these tables one session was added, of work of a sync, of changes, and of its lease's calls; it has ended.
-pub record IsWholeSync (client : List ℕ) (t : Tables) (old : SyncNow)
-    (result : Result SyncReport SyncErr) (new : SyncNow) : Type 0 where
-  pub tells : Tells (at_rest t) (desk_at t old) (desk_at t new)
+-- One session was added, of work of a sync, of changes, and of its lease's calls; it has ended.
+pub record IsWholeSync (client : List ℕ) (old : SiteNow) (result : Result SyncReport SyncErr)
+    (new : SiteNow) : Type 0 where
+  pub tells : Tells (at_rest old.tables) old new
   pub whole : AddsWhole (IsStep is_sync client) client old.line.trail new.line.trail
   pub versions : KeepsVersions client (Began ∷ (whole.middle ++ Ended ∷ []))
-  pub last : DeskNow
+  pub last : SiteNow
   pub ended : new ≡ ended_at last
-  pub answers : SyncAnswers client (begun_at t old) result last
+  pub answers : SyncAnswers client (begun_at old) result last
 
 -- Out of memory nothing was added, or such a session that hasn't ended. No call of it was answered
 -- `Failed`: a failed call is never told as want of memory.
-pub record IsOpenSync (client : List ℕ) (t : Tables) (old new : SyncNow) : Type 0 where
-  pub tells : Tells (at_rest t) (desk_at t old) (desk_at t new)
+pub record IsOpenSync (client : List ℕ) (old new : SiteNow) : Type 0 where
+  pub tells : Tells (at_rest old.tables) old new
   pub begun : AddsBegun (IsStep is_sync client) client old.line.trail new.line.trail
   pub versions : KeepsVersions client begun.more
   pub heard : has_failed begun.more ≡ false
 
--- what a sync from these tables adds, by its answer
-abbrev pub AddsFrom : List ℕ → Tables → SyncNow → Result SyncReport SyncErr → SyncNow → Type 0
-AddsFrom client t old (Err NoMemory) new = IsOpenSync client t old new
-AddsFrom client t old result new = IsWholeSync client t old result new
+-- what a sync of a client adds, by its answer
+abbrev pub AddsFrom : List ℕ → SiteNow → Result SyncReport SyncErr → SiteNow → Type 0
+AddsFrom client old (Err NoMemory) new = IsOpenSync client old new
+AddsFrom client old result new = IsWholeSync client old result new
+
+-- ---- what it promises
+
+-- a trail and a target went on by work of a sync and its lease's calls, and by begins and ends of sessions
+abbrev pub GoesBySync : List ℕ → List Event → List Event → TargetNow → TargetNow → Type 0
+GoesBySync client old new before after = GoesBy (IsStep is_sync) client old new before after
+
+-- the lock that a busy answer names, and the moment at which it was live
+abbrev pub blocked_by : Result SyncReport SyncErr → Option (Lock × ℕ)
+blocked_by (Err (Busy lock now)) = Some (lock, now)
+blocked_by result = None
+
+-- what was added has its licences, from these tables on
+abbrev pub LicensedFrom : Tables → List Event → List Event → List Change → List Change → Type 0
+LicensedFrom t old new made changed =
+    (added : List Event) (changes : List Change)
+    → new ≡ old ++ added → changed ≡ made ++ changes
+    → ObeysData (at_rest t) (deeds_of added changes)
+    × MergesInfo (at_rest t) (deeds_of added changes)
+
+-- Then no saved note is lost, in whatever history this is the client's last run, if no other
+-- upload of the note falls between a check and its write, and the other clients have their
+-- licences too.
+abbrev pub KeepsNotesIn : List ℕ → Tables → List Event → List Event → List Change →
+    List Change → Type 0
+KeepsNotesIn client t old new made changed =
+    (added : List Event) (changes : List Change)
+    → new ≡ old ++ added → changed ≡ made ++ changes → KeepsNotes client t added changes

@@ -1,27 +1,27 @@
 -- All that a client did in a session, told by its calls and changes.
 use Rattle.std.specs.Prelude.{◌≡◌, List, ◌++◌, length, option_map}
-use Rattle.desk.specs.Desks.{DeskNow}
-use Rattle.licences.specs.Deeds.{Deed, changes_in, deeds_of, events_of}
-use Rattle.licences.specs.Licences.{AreWork, MergesInfo, ObeysData}
-use Rattle.licences.specs.Views.{View}
-use Rattle.table_keeper.specs.declared.blob.Blob.{Blob}
-use Rattle.session_steps.specs.Saving.{kept_after}
+use Rattle.client.specs.Sites.{SiteNow}
+use Rattle.law_licences.specs.Deeds.{Deed, changes_in, deeds_of, events_of}
+use Rattle.law_licences.specs.Licences.{AreWork, MergesInfo, ObeysData}
+use Rattle.law_licences.specs.Views.{View}
+use Rattle.keeper.specs.declared.blob.Blob.{Blob}
+use Rattle.session.specs.Saving.{kept_after_saves}
 
 -- A client has gone on by these deeds, which its trail and its changes tell. Each call and each
 -- change has its licence, by what one saw of the client before them, and so has each put of the
 -- info. The changes are kept, if the keeper tells, and the bytes of resources that were saved.
-pub record Tells (v : View) (old new : DeskNow) : Type 0 where
+pub record Tells (v : View) (old new : SiteNow) : Type 0 where
   pub deeds : List Deed
   pub saves : List Blob
   pub trail : new.line.trail ≡ old.line.trail ++ events_of (length old.made) deeds
   pub made : new.made ≡ old.made ++ changes_in deeds
   pub kept : new.keeper.kept
-      ≡ option_map (kept_after (changes_in deeds) saves) old.keeper.kept
+      ≡ option_map (kept_after_saves (changes_in deeds) saves) old.keeper.kept
   pub told : deeds_of (events_of (length old.made) deeds) (changes_in deeds) ≡ deeds
   pub obeys : ObeysData v deeds
   pub merges : MergesInfo v deeds
 
 -- and that within the session that goes on
-pub record TellsWork (v : View) (old new : DeskNow) : Type 0 where
+pub record TellsWork (v : View) (old new : SiteNow) : Type 0 where
   pub tells : Tells v old new
   pub work : AreWork tells.deeds

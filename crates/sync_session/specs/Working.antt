@@ -2,23 +2,26 @@
 use Rattle.std.specs.Prelude.{ℕ, ◌≡◌, ◌<◌, List, [], Bool, true, ◌||◌, Option, Some, Result, Ok, Err}
 use Rattle.conflicts.specs.declared.error.StepErr.{StepErr}
 use Rattle.conflicts.specs.declared.error.StepErr.TheVariants as step_errors
-use Rattle.desk.specs.Desks.{DeskNow}
+use Rattle.client.specs.Sites.{SiteNow}
 use Rattle.download.specs.Downloading.{Downloads, is_download}
 use Rattle.jop_base.specs.declared.dir.Dir.TheVariants.{Root}
+use Rattle.jop_base.specs.declared.lock_name.LockKind.TheVariants.{Sync}
 use Rattle.jop_target.specs.declared.call.Call.{Call}
 use Rattle.jop_target.specs.declared.call.Call.TheVariants.{List as ListDir}
 use Rattle.jop_target.specs.declared.reply.Listing.{Listing}
 use Rattle.jop_target.specs.declared.reply.Reply.TheVariants.{Listed}
 use Rattle.lease.specs.Calls.{Fails}
 use Rattle.lease.specs.declared.error.Seen.{Seen}
-use Rattle.licences.specs.Pages.{emptied_by}
-use Rattle.licences.specs.Views.{shown_to}
-use Rattle.table_keeper.specs.Keepers.{Kept}
-use Rattle.opening.specs.Opening.{Opens, ReadsBadInfo, ReadsVersion, is_opening}
-use Rattle.session_steps.specs.Agreeing.{AgreeBut}
-use Rattle.session_steps.specs.Doing.{Does, Finishes, GivesUp, HasLapsed, KeeperFails, Starves, Stops}
-use Rattle.session_steps.specs.Parts.{Hears, Part, Then}
-use Rattle.session_steps.specs.Work.{WorkNow}
+use Rattle.lease.specs.declared.lease.Lease.{Lease}
+use Rattle.law_licences.specs.Trails.{session_calls}
+use Rattle.law_licences.specs.Pages.{emptied_by}
+use Rattle.law_licences.specs.Views.{shown_to}
+use Rattle.keeper.specs.Keepers.{Kept}
+use Rattle.session_opening.specs.Opening.{IsLawful, Opens, ReadsBadInfo, ReadsVersion, is_opening}
+use Rattle.session.specs.Agreeing.{AgreeBut}
+use Rattle.session.specs.Doing.{Does, Finishes, GivesNothing, HasLostLease, KeeperFails, Starves, Stops}
+use Rattle.session.specs.Parts.{Hears, Part, Then}
+use Rattle.session.specs.Work.{IsReady, WorkNow}
 use Rattle.target_upgrade.specs.Steps.{SUPPORTED}
 use Rattle.upload.specs.Deleting.{Deletes, is_deletion}
 use Rattle.upload.specs.Settled.{AreSettled}
@@ -44,8 +47,17 @@ abbrev pub Exchanges : Option Kept → Part
 Exchanges kept = Then (Sends kept) Downloads
 
 -- the info is read and becomes one with the client's own, and then that is done
-abbrev pub Syncs : Option Kept → Part
-Syncs kept = Then Opens (Exchanges kept)
+abbrev pub SyncsTables : Option Kept → Part
+SyncsTables kept = Then Opens (Exchanges kept)
+
+-- ---- where it begins
+
+-- a session has its lease, which is a sync lease, by what is allowed, and has called nothing under it
+pub record StartsSync (d : SiteNow) (lease : Lease) : Type 0 where
+  pub ready : IsReady d lease
+  pub sync : lease.kind ≡ Sync
+  pub lawful : IsLawful lease d
+  pub first : session_calls d.line.trail ≡ []
 
 -- ---- what it comes to
 
@@ -58,49 +70,49 @@ pub record IsEmptiedBehind (sort : Call → Bool) (Before : Listing → Part) (o
     (new : WorkNow) : Type 0 where
   pub listing : Listing
   pub listed : Does (Before listing) sort old new
-  pub rows : emptied_by (shown_to new.desk.tables listing) ≡ Some count
+  pub rows : emptied_by (shown_to new.site.tables listing) ≡ Some count
 
 -- What was saved and removed here is settled: each row that waits still has a file that this
 -- session saw and couldn't read, and no deletion is left.
-pub record LeavesNothing (d : DeskNow) : Type 0 where
+pub record LeavesNothing (d : SiteNow) : Type 0 where
   pub settled : AreSettled d
   pub deleted : d.tables.deletions ≡ []
 
 -- each answer behind the opening, by its cause
 abbrev pub ExchangesOr : WorkNow → Result (Unit {0}) StepErr → WorkNow → Type 0
 ExchangesOr old (Ok done) new =
-    Finishes (Exchanges old.desk.keeper.kept) is_exchange old new × LeavesNothing new.desk
+    Finishes (Exchanges old.site.keeper.kept) is_exchange old new × LeavesNothing new.site
 ExchangesOr old (Err (step_errors.FailSafe count)) new =
-    IsEmptiedBehind is_exchange (ListsBehind old.desk.keeper.kept) old count new
-ExchangesOr old (Err e) new = GivesUp is_exchange old e new
+    IsEmptiedBehind is_exchange (ListsBehind old.site.keeper.kept) old count new
+ExchangesOr old (Err e) new = GivesNothing is_exchange old e new
 
 -- rows wait that can't be sealed, since the client has no key
 pub record LacksKey (old : WorkNow) (key : Option (List ℕ)) (new : WorkNow) : Type 0 where
   pub opened : Does Opens is_sync old new
-  pub needs : needs_key new.desk.tables ≡ true
-  pub active : IsActiveKey new.desk.tables.info.active.value key
+  pub needs : needs_key new.site.tables ≡ true
+  pub active : IsActiveKey new.site.tables.info.active.value key
 
 -- the lease, from whatever stamp it was held, was lost at its renewal
 abbrev pub Lapses : WorkNow → WorkNow → Seen → Type 0
-Lapses old new seen = Stops is_sync old new × HasLapsed old.lease new seen
+Lapses old new seen = Stops is_sync old new × HasLostLease old.lease new seen
 
 -- each answer, by its cause
-abbrev pub Works : WorkNow → Result (Unit {0}) SyncErr → WorkNow → Type 0
-Works old (Ok done) new =
-    Finishes (Syncs old.desk.keeper.kept) is_sync old new
-    × (LeavesNothing new.desk × AgreeBut [] new.desk)
-Works old (Err (LeaseLost seen)) new = Lapses old new seen
-Works old (Err (TargetOlder version)) new =
+abbrev pub SyncWorks : WorkNow → Result (Unit {0}) SyncErr → WorkNow → Type 0
+SyncWorks old (Ok done) new =
+    Finishes (SyncsTables old.site.keeper.kept) is_sync old new
+    × (LeavesNothing new.site × AgreeBut [] new.site)
+SyncWorks old (Err (LeaseLost seen)) new = Lapses old new seen
+SyncWorks old (Err (TargetOlder version)) new =
     (version < SUPPORTED) × Does (ReadsVersion version) is_sync old new
-Works old (Err (TargetNewer version)) new =
+SyncWorks old (Err (TargetNewer version)) new =
     (SUPPORTED < version) × Does (ReadsVersion version) is_sync old new
-Works old (Err BadInfo) new = Does ReadsBadInfo is_sync old new
-Works old (Err (FailSafe count)) new =
-    IsEmptiedBehind is_sync (λ listing. Then Opens (ListsBehind old.desk.keeper.kept listing)) old
+SyncWorks old (Err BadInfo) new = Does ReadsBadInfo is_sync old new
+SyncWorks old (Err (FailSafe count)) new =
+    IsEmptiedBehind is_sync (λ listing. Then Opens (ListsBehind old.site.keeper.kept listing)) old
     count new
-Works old (Err (NoKey key)) new = LacksKey old key new
-Works old (Err TargetFault) new =
-    Stops is_sync old new × Fails old.lease.client old.desk.line new.desk.line
-Works old (Err KeeperFault) new = KeeperFails is_sync old new
-Works old (Err NoMemory) new = Starves is_sync old new
-Works old (Err (Busy lock now)) new = ⊥
+SyncWorks old (Err (NoKey key)) new = LacksKey old key new
+SyncWorks old (Err TargetFault) new =
+    Stops is_sync old new × Fails old.lease.client old.site.line new.site.line
+SyncWorks old (Err KeeperFault) new = KeeperFails is_sync old new
+SyncWorks old (Err NoMemory) new = Starves is_sync old new
+SyncWorks old (Err (Busy lock now)) new = ⊥

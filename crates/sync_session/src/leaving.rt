@@ -1,10 +1,8 @@
-ghost use Rattle.std.specs.Prelude.{◌≡◌, true};
-ghost use Rattle.lease.specs.Phase.{Held};
-ghost use Rattle.lease.specs.Standing.{StandsIn};
-ghost use Rattle.sync_session.specs.Leaving.{Leaves, answer_of, holds_lease, or_fault};
+ghost use Rattle.std.specs.Prelude.{◌≡◌};
+ghost use Rattle.sync_session.specs.Leaving.{HoldsIf, LeavesLease, answer_once_left, holds_lease, or_fault};
 
 use crate::sync_err::SyncErr;
-use desk::Desk;
+use client::Client;
 use lease::{Lease, LeaseErr, release};
 use std::alloc::Global;
 
@@ -35,7 +33,7 @@ fn or_fault(worked: Result<(), SyncErr>) -> Result<(), SyncErr>
 
 /// What a session answers whose work was answered so, and whose release so.
 fn answer(released: Result<(), LeaseErr>, worked: Result<(), SyncErr>) -> Result<(), SyncErr>
-    ensures { result ≡ answer_of released worked }
+    ensures { result ≡ answer_once_left released worked }
 {
     match released {
         Ok(()) => worked,
@@ -47,17 +45,16 @@ fn answer(released: Result<(), LeaseErr>, worked: Result<(), SyncErr>) -> Result
 }
 
 /// Gives up the lease behind the work, if it is held still, and answers what the session comes to.
-pub(crate) fn leave<S: Desk>(
+pub(crate) fn leave<S: Client>(
     alloc: Global,
     site: &mut S,
     lease: Lease,
     worked: Result<(), SyncErr>,
 ) -> Result<(), SyncErr>
-    requires held { holds_lease worked ≡ true
-        → StandsIn lease.client (S.desk site.old).line.trail (Held lease.kind lease.stamp) }
+    requires held { HoldsIf worked lease (S.site site.old) }
 
-    ensures leaves { Leaves lease worked (S.desk site.old) result (S.desk site.new) }
-    ensures stays { S.stays site.old site.new }
+    ensures leaves { LeavesLease lease worked (S.site site.old) result (S.site site.new) }
+    ensures stays { S.place site.new ≡ S.place site.old }
 {
     if !holds_lease(&worked) {
         return worked;

@@ -2,7 +2,7 @@
 //! goes to the target, and what others have done is read, all under one lease.
 //!
 //! Begin with [`sync_on`] and [`SyncErr`]. `specs/Working.antt` says what is done under the lease,
-//! as a sentence over the words of `session_steps`; `specs/Syncing.antt` says what a whole session
+//! as a sentence over the words of `session`; `specs/Syncing.antt` says what a whole session
 //! is, and why it answers as it does.
 #![tactic(auto)]
 

@@ -1,12 +1,12 @@
 ghost use Rattle.std.specs.Prelude.{◌≡◌};
-ghost use Rattle.sync_session.specs.Syncing.{has_ended};
+ghost use Rattle.sync_session.specs.Syncing.{has_ended_sync};
 
 use conflicts::{StepErr, SyncReport};
 use jop_base::Id;
+use keeper::KeeperErr;
 use lease::{LeaseErr, Lock, Seen};
-use opening::OpenErr;
+use session_opening::OpenErr;
 use std::alloc::AllocError;
-use table_keeper::KeeperErr;
 
 /// Why a sync ended before all was done.
 #[derive(Clone, Copy, Debug, PartialEq, Eq)]
@@ -34,7 +34,7 @@ pub enum SyncErr {
 
 /// Whether a session ends with this answer: with every one but out of memory.
 pub(crate) fn has_ended(outcome: &Result<SyncReport, SyncErr>) -> bool
-    ensures { result ≡ has_ended outcome.now }
+    ensures { result ≡ has_ended_sync outcome.now }
 {
     !matches!(outcome, Err(SyncErr::NoMemory))
 }

@@ -6,17 +6,17 @@ use Rattle.jop_target.specs.Replies.{IsReplyTo, KeepsBlob}
 use Rattle.jop_target.specs.declared.call.Call.{Call}
 use Rattle.jop_target.specs.declared.reply.Reply.{Reply}
 use Rattle.jop_target.specs.declared.reply.Reply.TheVariants.{Listed, Got, GotBlob, Absent, Done, Failed, TooLarge}
-use Rattle.dav_link.specs.Links.{WritesAlone, Takes, sink_of}
-use Rattle.dav_link.specs.Receiving.{HasRead, HasBroken, HasStarved}
-use Rattle.dav_link.proofs.LinkLaws.{Takes-nil}
+use Rattle.dav_link.specs.Links.{WritesAlone, TakesBytes, sink_of}
+use Rattle.dav_link.specs.Receiving.{HasReadBytes, HasBroken, HasStarved}
+use Rattle.dav_link.proofs.LinkLaws.{TakesBytes-nil}
 use Rattle.dav_wire.specs.Requests.{request_text}
 use Rattle.dav_wire.specs.ResponseReading.{ResponseReadsAs}
 use Rattle.dav_wire.specs.declared.response_reader.ReadResponse.TheVariants.{Whole}
 use Rattle.dav_wire.proofs.FitLemmas.{reply_fits}
 use Rattle.dav_link.specs.declared.error.LinkErr.{LinkErr}
 use Rattle.dav_link.specs.declared.error.LinkErr.TheVariants.{Fault, NoMemory}
-use Rattle.target_dav.specs.Awaiting.{HasNoResponse, HasResponse, Receives}
-use Rattle.target_dav.specs.Exchanges.{ClientNow, Moved, HasReply, HasFailed, HasNone, HasNoRoom, IsBegun, HasSent, Asks, Exchanges, blob_after, is_ready}
+use Rattle.target_dav.specs.Responses.{HasNoResponse, HasResponse, Receives}
+use Rattle.target_dav.specs.Exchanges.{LinkClientNow, Moved, HasReply, LinkHasFailed, HasNone, HasNoRoom, IsBegun, HasSent, Tried, Exchanged, blob_after, is_ready}
 use Rattle.target_dav.specs.declared.receiving.Received.{Received}
 use Rattle.dav_wire.proofs.ToldLemmas.{no_failure, blob_length}
 
@@ -26,17 +26,17 @@ Appends-none (Some w) = ap (λ (l : List ℕ). Some l) (sym (append-nil w))
 
 -- ---- the request
 
-Moved-begun : (old new : ClientNow) → IsBegun old new → Moved old [] [] new
+Moved-begun : (old new : LinkClientNow) → IsBegun old new → Moved old [] [] new
 Moved-begun old new begun = record {
   opened = begun.opened;
   written = subst (λ (w : Option (List ℕ)). Appends old.link.written [] w) (sym begun.alone.written)
       (Appends-none old.link.written);
-  left = subst (λ (w : Option (List ℕ)). Takes old.link.left [] w) (sym begun.alone.left)
-      (Takes-nil old.link.left);
+  left = subst (λ (w : Option (List ℕ)). TakesBytes old.link.left [] w) (sym begun.alone.left)
+      (TakesBytes-nil old.link.left);
 }
 
-pub begun_failed : (text : List ℕ) (old new : ClientNow) → IsBegun old new
-    → HasRisen old.link.faults new.link.faults → HasFailed text old new
+pub begun_failed : (text : List ℕ) (old new : LinkClientNow) → IsBegun old new
+    → HasRisen old.link.faults new.link.faults → LinkHasFailed text old new
 begun_failed text old new begun rose = record {
   sent = [];
   rest = text;
@@ -46,7 +46,7 @@ begun_failed text old new begun rose = record {
   rose = rose;
 }
 
-pub sent_whole : (text : List ℕ) (old mid new : ClientNow) → IsBegun old mid
+pub sent_whole : (text : List ℕ) (old mid new : LinkClientNow) → IsBegun old mid
     → mid.link.faults ≡ old.link.faults
     → WasWritten (sink_of mid.link) text (sink_of new.link) → WritesAlone mid.link new.link
     → new.ready ≡ mid.ready → HasSent text old new
@@ -59,10 +59,10 @@ sent_whole text old mid new begun stays whole alone ready = record {
   ready = ready ∙ begun.ready;
 }
 
-pub sent_cut : (text : List ℕ) (old mid new : ClientNow) → IsBegun old mid
+pub sent_cut : (text : List ℕ) (old mid new : LinkClientNow) → IsBegun old mid
     → mid.link.faults ≡ old.link.faults
     → WasCut (sink_of mid.link) text (sink_of new.link) → WritesAlone mid.link new.link
-    → HasFailed text old new
+    → LinkHasFailed text old new
 sent_cut text old mid new begun stays cut alone = record {
   sent = cut.start;
   rest = cut.rest;
@@ -72,24 +72,24 @@ sent_cut text old mid new begun stays cut alone = record {
     opened = alone.opened ∙ begun.opened;
     written = subst (λ (w : Option (List ℕ)). Appends w cut.start new.link.written)
         begun.alone.written cut.written;
-    left = subst (λ (w : Option (List ℕ)). Takes old.link.left [] w)
-        (sym (alone.left ∙ begun.alone.left)) (Takes-nil old.link.left);
+    left = subst (λ (w : Option (List ℕ)). TakesBytes old.link.left [] w)
+        (sym (alone.left ∙ begun.alone.left)) (TakesBytes-nil old.link.left);
   };
   rose = let rose = cut.rose in omega arith;
 }
 
 -- ---- the response
 
-Moved-read : (text : List ℕ) (old mid new : ClientNow) (bytes : List ℕ) → HasSent text old mid
-    → HasRead mid.link bytes new.link → Moved old text bytes new
+Moved-read : (text : List ℕ) (old mid new : LinkClientNow) (bytes : List ℕ) → HasSent text old mid
+    → HasReadBytes mid.link bytes new.link → Moved old text bytes new
 Moved-read text old mid new bytes sent read = record {
   opened = read.alone.opened ∙ sent.opened;
   written = subst (λ (w : Option (List ℕ)). Appends old.link.written text w)
       (sym read.alone.written) sent.written;
-  left = subst (λ (w : Option (List ℕ)). Takes w bytes new.link.left) sent.left read.left;
+  left = subst (λ (w : Option (List ℕ)). TakesBytes w bytes new.link.left) sent.left read.left;
 }
 
-pub replied : (host : List ℕ) (call : Call) (blob : List ℕ) (old mid new : ClientNow)
+pub replied : (host : List ℕ) (call : Call) (blob : List ℕ) (old mid new : LinkClientNow)
     (received : Received) (after : List ℕ) → HasSent (request_text host call blob) old mid
     → HasResponse call mid.link received new.link
     → after ≡ blob_after received.reply blob received.blob
@@ -106,9 +106,9 @@ replied host call blob old mid new received after sent response left ready = rec
   ready = ready ∙ ap (λ (b : Bool). is_ready received.reply b) response.alone;
 }
 
-pub none_came : (text : List ℕ) (call : Call) (old mid new : ClientNow) → HasSent text old mid
+pub none_came : (text : List ℕ) (call : Call) (old mid new : LinkClientNow) → HasSent text old mid
     → HasBroken mid.link new.link ⊎ HasNoResponse call mid.link new.link
-    → HasFailed text old new ⊎ HasNone text call old new
+    → LinkHasFailed text old new ⊎ HasNone text call old new
 none_came text call old mid new sent (inl broken) = inl (record {
   sent = text;
   rest = [];
@@ -124,7 +124,7 @@ none_came text call old mid new sent (inr none) = inr (record {
   none = none.none;
 })
 
-pub no_room : (text : List ℕ) (old mid new : ClientNow) → HasSent text old mid
+pub no_room : (text : List ℕ) (old mid new : LinkClientNow) → HasSent text old mid
     → HasStarved mid.link new.link → new.ready ≡ mid.ready → HasNoRoom text old new
 no_room text old mid new sent starved ready = record {
   bytes = starved.bytes;
@@ -133,10 +133,10 @@ no_room text old mid new sent starved ready = record {
   ready = ready ∙ sent.ready;
 }
 
-asks_failure : (host : List ℕ) (call : Call) (blob : List ℕ) (old mid new : ClientNow)
+asks_failure : (host : List ℕ) (call : Call) (blob : List ℕ) (old mid new : LinkClientNow)
     (error : LinkErr) → HasSent (request_text host call blob) old mid
     → Receives call mid.link (Err error) new.link → new.ready ≡ mid.ready
-    → Asks host call blob old (Err error) new blob
+    → Tried host call blob old (Err error) new blob
 asks_failure host call blob old mid new Fault sent received ready = (
   ready ∙ sent.ready,
   refl,
@@ -145,10 +145,10 @@ asks_failure host call blob old mid new Fault sent received ready = (
 asks_failure host call blob old mid new NoMemory sent received ready =
     (refl, inr (no_room (request_text host call blob) old mid new sent received ready))
 
-pub ask_fails : (host : List ℕ) (call : Call) (blob text : List ℕ) (old mid new : ClientNow)
+pub ask_fails : (host : List ℕ) (call : Call) (blob text : List ℕ) (old mid new : LinkClientNow)
     (r : Result Received LinkErr) (error : LinkErr) → HasSent text old mid
     → text ≡ request_text host call blob → Receives call mid.link r new.link → r ≡ Err error
-    → new.ready ≡ mid.ready → Asks host call blob old (Err error) new blob
+    → new.ready ≡ mid.ready → Tried host call blob old (Err error) new blob
 ask_fails host call blob text old mid new r error sent same received is ready =
     let A : Result Received LinkErr → Type 0 = λ x. Receives call mid.link x new.link in
     asks_failure host call blob old mid new error
@@ -156,9 +156,9 @@ ask_fails host call blob text old mid new r error sent same received is ready =
 
 -- ---- what is asked of every target
 
-pub reply_is_told : (host : List ℕ) (call : Call) (blob : List ℕ) (old : ClientNow) (reply : Reply)
-    (new : ClientNow) (after : List ℕ) → HasReply host call blob old reply new after
-    → Exchanges host call blob old (Ok reply) new after
+pub reply_is_told : (host : List ℕ) (call : Call) (blob : List ℕ) (old : LinkClientNow) (reply : Reply)
+    (new : LinkClientNow) (after : List ℕ) → HasReply host call blob old reply new after
+    → Exchanged host call blob old (Ok reply) new after
 reply_is_told host call blob old Failed new after h =
     absurd (no_failure call h.bytes h.got h.used h.response)
 reply_is_told host call blob old (Listed listing) new after h = h
@@ -168,21 +168,21 @@ reply_is_told host call blob old (Absent now) new after h = h
 reply_is_told host call blob old (Done now) new after h = h
 reply_is_told host call blob old (TooLarge len) new after h = h
 
-pub reply_is_no_failure : (host : List ℕ) (call : Call) (blob : List ℕ) (old : ClientNow)
-    (reply : Reply) (new : ClientNow) (after : List ℕ)
+pub reply_is_no_failure : (host : List ℕ) (call : Call) (blob : List ℕ) (old : LinkClientNow)
+    (reply : Reply) (new : LinkClientNow) (after : List ℕ)
     → HasReply host call blob old reply new after → reply ≡ Failed → ⊥
 reply_is_no_failure host call blob old reply new after h is =
     no_failure call h.bytes h.got h.used
     (subst (λ (r : Reply). ResponseReadsAs call h.bytes (Whole r h.got h.used)) is h.response)
 
-pub reply_shape : (host : List ℕ) (call : Call) (blob : List ℕ) (old : ClientNow) (reply : Reply)
-    (new : ClientNow) (after : List ℕ) → HasReply host call blob old reply new after
+pub reply_shape : (host : List ℕ) (call : Call) (blob : List ℕ) (old : LinkClientNow) (reply : Reply)
+    (new : LinkClientNow) (after : List ℕ) → HasReply host call blob old reply new after
     → IsReplyTo call reply
 reply_shape host call blob old reply new after h =
     reply_fits call h.bytes reply h.got h.used h.response
 
-pub reply_blob : (host : List ℕ) (call : Call) (blob : List ℕ) (old : ClientNow) (reply : Reply)
-    (new : ClientNow) (after : List ℕ) → HasReply host call blob old reply new after
+pub reply_blob : (host : List ℕ) (call : Call) (blob : List ℕ) (old : LinkClientNow) (reply : Reply)
+    (new : LinkClientNow) (after : List ℕ) → HasReply host call blob old reply new after
     → KeepsBlob None call blob (Ok reply) after
 reply_blob host call blob old Failed new after h = h.kept
 reply_blob host call blob old (Listed listing) new after h = h.kept

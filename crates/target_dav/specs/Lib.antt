@@ -1,2 +1,2 @@
-pub mod Awaiting
+pub mod Responses
 pub mod Exchanges

@@ -1,6 +1,6 @@
 ghost use Rattle.std.specs.Prelude.{◌≡◌, IfOk, None, false};
 ghost use Rattle.jop_target.specs.Replies.{IsReplyTo, HasCause, Answers, KeepsBlob};
-ghost use Rattle.target_dav.specs.Exchanges.{Asks, Begins, Exchanges, Sends, blob_after, client_at, is_ready};
+ghost use Rattle.target_dav.specs.Exchanges.{BeginsCall, CallsOver, SendsText, TriesOver, blob_after, client_now, is_ready};
 
 use crate::receiving::{Received, receive};
 use dav_link::{Link, LinkErr, write_message};
@@ -50,8 +50,7 @@ impl<L: Link> DavTarget<L> {
 
     /// Opens the link, unless the last call left it ready.
     fn begin(&mut self) -> Result<(), Failed>
-        ensures begins { let before = client_at (L.state self.old.link) self.old.ready in
-            Begins before result (client_at (L.state self.new.link) self.new.ready) }
+        ensures begins { BeginsCall (client_now L.state self.old) result (client_now L.state self.new) }
         ensures others { (self.new.host ≡ self.old.host) × (self.new.faults ≡ self.old.faults) }
     {
         if self.ready {
@@ -63,8 +62,7 @@ impl<L: Link> DavTarget<L> {
 
     /// Writes a request over the link.
     fn send(&mut self, text: &[u8]) -> Result<(), Failed>
-        ensures sends { let before = client_at (L.state self.old.link) self.old.ready in
-            Sends text.now before result (client_at (L.state self.new.link) self.new.ready) }
+        ensures sends { SendsText text.now (client_now L.state self.old) result (client_now L.state self.new) }
         ensures others { (self.new.host ≡ self.old.host) × (self.new.faults ≡ self.old.faults) }
     {
         self.begin()?;
@@ -77,8 +75,8 @@ impl<L: Link> DavTarget<L> {
         ensures reply { result ≡ received.reply }
         ensures blob { blob.new ≡ blob_after received.reply blob.old received.blob }
         ensures ready { self.new.ready ≡ is_ready received.reply received.alone }
-        ensures others { (self.new.link ≡ self.old.link) × (self.new.host ≡ self.old.host)
-            × (self.new.faults ≡ self.old.faults) }
+        ensures link { self.new.link ≡ self.old.link }
+        ensures others { (self.new.host ≡ self.old.host) × (self.new.faults ≡ self.old.faults) }
     {
         let Received {
             reply,
@@ -92,9 +90,7 @@ impl<L: Link> DavTarget<L> {
 
     /// Makes a call over the link.
     fn ask(&mut self, alloc: Global, call: &Call, blob: &mut Bytes) -> Result<Reply, LinkErr>
-        ensures asks { let before = client_at (L.state self.old.link) self.old.ready in
-            Asks self.old.host call.now blob.old before result
-            (client_at (L.state self.new.link) self.new.ready) blob.new }
+        ensures asks { TriesOver L.state call.now blob.old self.old result self.new blob.new }
         ensures others { (self.new.host ≡ self.old.host) × (self.new.faults ≡ self.old.faults) }
     {
         let request = write_request(alloc, &self.host, call, blob)?;
@@ -133,9 +129,7 @@ impl<L: Link> Target for DavTarget<L> {
         ensures answers { Answers None call.now blob.old result None }
         ensures blob { KeepsBlob None call.now blob.old result blob.new }
 
-        ensures exchange { let before = client_at (L.state self.old.link) self.old.ready in
-            Exchanges self.old.host call.now blob.old before result
-            (client_at (L.state self.new.link) self.new.ready) blob.new }
+        ensures exchange { CallsOver L.state call.now blob.old self.old result self.new blob.new }
         ensures host { self.new.host ≡ self.old.host }
     {
         match self.ask(alloc, call, blob) {

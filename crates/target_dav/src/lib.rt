@@ -3,10 +3,10 @@
 //! Begin with [`DavTarget`] and `specs/Exchanges.antt`, which says what a call over a link comes to.
 #![tactic(auto)]
 
-mod awaiting;
 mod budget;
 mod dav_target;
 mod receiving;
+mod response_to;
 
 pub use dav_link::{Link, MemLink};
 pub use dav_target::DavTarget;

@@ -1,7 +1,7 @@
-ghost use Rattle.target_dav.specs.Awaiting.{Receives};
+ghost use Rattle.target_dav.specs.Responses.{Receives};
 
-use crate::awaiting::{await_body, await_head};
-use dav_link::{Link, LinkErr};
+use crate::response_to::ResponseTo;
+use dav_link::{Link, LinkErr, await_message};
 use dav_wire::{ReadResponse, read_response};
 use jop_base::Bytes;
 use jop_target::{Call, Reply};
@@ -27,10 +27,7 @@ pub(crate) fn receive<L: Link>(
     ensures { Receives call.now (L.state link.old) result (L.state link.new) }
 {
     let mut kept = Bytes::new(alloc);
-    if !await_head(alloc, link, call, &mut kept)? {
-        return Err(LinkErr::Fault);
-    }
-    if !await_body(link, call, &mut kept)? {
+    if !await_message(alloc, link, &ResponseTo { call }, &mut kept)? {
         return Err(LinkErr::Fault);
     }
     match read_response(alloc, call, kept.as_slice())? {

@@ -3,7 +3,7 @@
 //!
 //! `specs/Steps.antt` says which call comes next, by what was read and answered so far, and
 //! `specs/Course.antt` what any session may do under its lease. Begin with [`read_version`] and
-//! [`upgrade`]. What they make of a target is a law of its own, in the crate `upgrade_laws`.
+//! [`upgrade`]. What they make of a target is a law of its own, in the crate `law_exclusion`.
 #![tactic(auto)]
 
 mod asking;

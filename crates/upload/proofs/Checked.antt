@@ -6,11 +6,11 @@ use Rattle.jop_target.specs.Replies.{IsReplyTo}
 use Rattle.jop_target.specs.declared.call.Call.TheVariants.{Get}
 use Rattle.jop_target.specs.declared.reply.Reply.{Reply}
 use Rattle.jop_target.specs.declared.reply.Reply.TheVariants.{Listed, Got, GotBlob, Absent, Done, Failed, TooLarge}
-use Rattle.licences.specs.Items.{remote_in}
+use Rattle.law_licences.specs.Items.{remote_in}
 use Rattle.local_store.specs.declared.content.Content.{Content}
-use Rattle.session_steps.specs.Findings.{finding_of, is_base, other_of}
-use Rattle.session_steps.specs.declared.finding.Finding.{Finding}
-use Rattle.session_steps.specs.declared.finding.Finding.TheVariants.{Same, Unreadable}
+use Rattle.session.specs.Findings.{finding_of, is_base, other_of}
+use Rattle.session.specs.declared.finding.Finding.{Finding}
+use Rattle.session.specs.declared.finding.Finding.TheVariants.{Same, Unreadable}
 use Rattle.upload.specs.Settled.{IsNoItem}
 
 IsBad : Finding → Type 0

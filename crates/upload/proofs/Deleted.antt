@@ -2,30 +2,30 @@
 use Rattle.std.specs.Prelude.{◌≡◌, List, [], ◌∷◌, Bool, true, false, if◌then◌else◌, Option, Some, Result, Ok, Err, OnOk, refl}
 use Rattle.std.proofs.Common.{sym, ap, subst, ◌∙◌, inl, inr}
 use Rattle.conflicts.specs.declared.error.StepErr.{StepErr}
-use Rattle.desk.specs.Desks.{DeskNow}
+use Rattle.client.specs.Sites.{SiteNow}
 use Rattle.jop_base.proofs.KeyedLaws.{bytes_eq-refl}
 use Rattle.jop_base.specs.Keyed.{at, cut}
 use Rattle.jop_base.specs.declared.path.Path.{Path}
-use Rattle.jop_base.specs.declared.path.Path.TheVariants.{Info, OldVersion, Item, Blob, Lock, Temp}
+use Rattle.jop_base.specs.declared.path.Path.TheVariants.{Item, Blob}
 use Rattle.jop_target.specs.Replies.{IsReplyTo}
 use Rattle.jop_target.specs.declared.call.Call.TheVariants.{Delete}
 use Rattle.jop_target.specs.declared.reply.Reply.{Reply}
 use Rattle.jop_target.specs.declared.reply.Reply.TheVariants.{Listed, Got, GotBlob, Absent, Done, Failed, TooLarge}
-use Rattle.licences.proofs.Joins.{view_from-append}
-use Rattle.licences.specs.Deeds.{Deed}
-use Rattle.licences.specs.Deletions.{IsDeleted, MayDrop, WasDeleted}
-use Rattle.licences.specs.Views.{Heard, Shown, View, Working, is_about_locks, view_from}
+use Rattle.law_licences.proofs.Joins.{view_from-append}
+use Rattle.law_licences.specs.Deeds.{Deed}
+use Rattle.law_licences.specs.Deletions.{IsDeleted, MayDrop, WasDeleted}
+use Rattle.law_licences.specs.Views.{Heard, Shown, View, Working, is_about_locks, view_from}
 use Rattle.local_store.specs.Rows.{deletion_id}
 use Rattle.local_store.specs.Tables.{deletion_at}
 use Rattle.local_store.specs.declared.deletion.Deletion.{Deletion}
 use Rattle.local_store.specs.declared.tables.Tables.{Tables}
-use Rattle.session_steps.proofs.Behind.{behind}
-use Rattle.session_steps.proofs.Ending.{does_as, does_nothing}
-use Rattle.session_steps.proofs.Joins.{does_then}
-use Rattle.session_steps.specs.Doing.{Does, Ends}
-use Rattle.session_steps.specs.Parts.{ForEach, Then}
-use Rattle.session_steps.specs.Sessions.{is_data}
-use Rattle.session_steps.specs.Work.{IsReady, WorkNow, view_of}
+use Rattle.session.proofs.Behind.{behind}
+use Rattle.session.proofs.Ending.{does_as, does_nothing}
+use Rattle.session.proofs.Joins.{does_then}
+use Rattle.session.specs.Doing.{Does, Ends}
+use Rattle.session.specs.Parts.{ForEach, Then}
+use Rattle.session.specs.Sessions.{is_data}
+use Rattle.session.specs.Work.{IsReady, WorkNow, view_of}
 use Rattle.upload.specs.Deleting.{Deletes, DeletesBytes, DeletesFile, DeletesOne, is_deletion}
 
 -- ---- a file
@@ -100,7 +100,7 @@ bytes_still d false other v ds h was =
     subst (WasDeleted other) (sym (ap (λ (x : List Deed). (view_from v x).calls) h)) was
 
 pub nothing_for : (d : Deletion) (resource : Bool) (a : WorkNow) → resource ≡ false
-    → IsReady a.desk a.lease → Does (DeletesBytes d resource) is_deletion a a
+    → IsReady a.site a.lease → Does (DeletesBytes d resource) is_deletion a a
 nothing_for d true a e ready = absurd cc
 nothing_for d false a e ready = does_nothing is_deletion a ready
 
@@ -111,14 +111,14 @@ unfolding at
 first_at d ds =
     ap (λ (same : Bool). if same then Some d else at deletion_id ds d.id) (bytes_eq-refl d.id)
 
-pub stands : (old : DeskNow) (d : Deletion) (rest : List Deletion)
+pub stands : (old : SiteNow) (d : Deletion) (rest : List Deletion)
     → old.tables.deletions ≡ d ∷ rest → deletion_at old.tables d.id ≡ Some d
 stands old d rest is =
     ap (λ (ds : List Deletion). at deletion_id ds d.id) is ∙ first_at d rest
 
 -- it stands there while its files are deleted
-pub still_there : (d : Deletion) (a b : WorkNow) → deletion_at a.desk.tables d.id ≡ Some d
-    → Does (DeletesFile (Item d.id)) is_deletion a b → deletion_at b.desk.tables d.id ≡ Some d
+pub still_there : (d : Deletion) (a b : WorkNow) → deletion_at a.site.tables d.id ≡ Some d
+    → Does (DeletesFile (Item d.id)) is_deletion a b → deletion_at b.site.tables d.id ≡ Some d
 still_there d a b at h =
     ap (λ (t : Tables). deletion_at t d.id)
     (behind (λ t cs u us. u ≡ t) (DeletesFile (Item d.id)) is_deletion a b
@@ -145,10 +145,10 @@ both_gone d v ds at h =
     })
 
 -- once they are, it may be dropped
-pub may_drop : (d : Deletion) (a b w : WorkNow) → deletion_at a.desk.tables d.id ≡ Some d
+pub may_drop : (d : Deletion) (a b w : WorkNow) → deletion_at a.site.tables d.id ≡ Some d
     → Does (DeletesFile (Item d.id)) is_deletion a b
     → Does (DeletesBytes d d.resource) is_deletion b w → (shown : Option Shown)
-    → MayDrop (view_of shown w.desk) d.id
+    → MayDrop (view_of shown w.site) d.id
 may_drop d a b w at h k shown =
     let may = behind
     (λ t cs u us. deletion_at t d.id ≡ Some d
@@ -167,12 +167,12 @@ unfolding cut
 first_cut d ds =
     ap (λ (same : Bool). if same then ds else d ∷ cut deletion_id ds d.id) (bytes_eq-refl d.id)
 
-pub all_of_them : (ds : List Deletion) (a b : WorkNow) → ds ≡ a.desk.tables.deletions
+pub all_of_them : (ds : List Deletion) (a b : WorkNow) → ds ≡ a.site.tables.deletions
     → Does (ForEach DeletesOne ds) is_deletion a b → Does Deletes is_deletion a b
 all_of_them ds a b is h =
     does_as (ForEach DeletesOne ds) Deletes is_deletion a b
     (λ shown es one.
-    subst (λ (xs : List Deletion). ForEach DeletesOne xs (view_of shown a.desk) es) is one)
+    subst (λ (xs : List Deletion). ForEach DeletesOne xs (view_of shown a.site) es) is one)
     h
 
 rest_of : (d : Deletion) (rest : List Deletion) (v : View) (ds : List Deed)
@@ -205,15 +205,15 @@ none_of (d ∷ rest) v ds h is =
     ∙ none_of rest (view_from v h.first) h.second h.behind (rest_of d rest v h.first h.before is))
 
 pub rest_behind : (d : Deletion) (rest : List Deletion) (a b : WorkNow)
-    → a.desk.tables.deletions ≡ d ∷ rest → Does (DeletesOne d) is_deletion a b
-    → b.desk.tables.deletions ≡ rest
+    → a.site.tables.deletions ≡ d ∷ rest → Does (DeletesOne d) is_deletion a b
+    → b.site.tables.deletions ≡ rest
 rest_behind d rest a b is h =
     let left = behind (λ t cs u us. t.deletions ≡ d ∷ rest → u.deletions ≡ rest) (DeletesOne d)
     is_deletion a b (rest_of d rest) h in
     left is
 
 pub none_behind : (a b : WorkNow) (result : Result (Unit {0}) StepErr)
-    → Ends Deletes is_deletion a result b → OnOk result (b.desk.tables.deletions ≡ [])
+    → Ends Deletes is_deletion a result b → OnOk result (b.site.tables.deletions ≡ [])
 none_behind a b (Ok done) h =
     behind (λ t cs u us. u.deletions ≡ []) Deletes is_deletion a b
     (λ v ds it. none_of v.tables.deletions v ds it refl) h

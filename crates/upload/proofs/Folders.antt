@@ -3,34 +3,34 @@ use Rattle.std.specs.Prelude.{ℕ, ◌≡◌, List, filter, Bool, true, false, O
 use Rattle.std.proofs.Common.{ap, subst, ◌∙◌, inr}
 use Rattle.conflicts.specs.Rules.{folder_gone_changes}
 use Rattle.conflicts.specs.declared.error.StepErr.{StepErr}
-use Rattle.desk.specs.Desks.{DeskNow}
+use Rattle.client.specs.Sites.{SiteNow}
 use Rattle.jop_base.specs.Keyed.{IsSorted}
 use Rattle.jop_target.specs.declared.call.Call.{Call}
-use Rattle.licences.specs.Checks.{last_on}
-use Rattle.licences.specs.Conflicts.{MayConflict}
-use Rattle.licences.specs.Copies.{copies_for}
-use Rattle.licences.specs.Items.{is_folder, is_note_in}
-use Rattle.licences.specs.Trails.{session_calls}
-use Rattle.licences.specs.Views.{Shown}
+use Rattle.law_licences.specs.Checks.{last_on}
+use Rattle.law_licences.specs.Conflicts.{MayConflict}
+use Rattle.law_licences.specs.Copies.{copies_for}
+use Rattle.law_licences.specs.Items.{is_folder, is_note_in}
+use Rattle.law_licences.specs.Trails.{session_calls}
+use Rattle.law_licences.specs.Views.{Shown}
 use Rattle.local_store.specs.Changing.{after_all}
 use Rattle.local_store.specs.Rows.{item_of, row_id}
 use Rattle.local_store.specs.Tables.{row_at}
 use Rattle.local_store.specs.declared.change.Change.{Change}
 use Rattle.local_store.specs.declared.row.Row.{Row}
 use Rattle.local_store.specs.declared.tables.Tables.{Tables}
-use Rattle.session_steps.proofs.Behind.{calls_each, tables_each}
-use Rattle.session_steps.proofs.Ending.{does_nothing, ends_as}
-use Rattle.session_steps.proofs.Folders.{IsGoing, goes_on}
-use Rattle.session_steps.specs.Doing.{Does, Ends}
-use Rattle.session_steps.specs.Parts.{Changes, ForEach}
-use Rattle.session_steps.specs.Work.{IsReady, WorkNow, view_of}
-use Rattle.session_steps.specs.declared.finding.Finding.TheVariants.{Missing}
-use Rattle.session_steps.proofs.Found.{missing_found}
+use Rattle.session.proofs.Behind.{calls_each, tables_each}
+use Rattle.session.proofs.Ending.{does_nothing, ends_as}
+use Rattle.session.proofs.Folders.{IsGoing, goes_on}
+use Rattle.session.specs.Doing.{Does, Ends}
+use Rattle.session.specs.Parts.{Changes, ForEach}
+use Rattle.session.specs.Work.{IsReady, WorkNow, view_of}
+use Rattle.session.specs.declared.finding.Finding.TheVariants.{Missing}
+use Rattle.session.proofs.Found.{missing_found}
 use Rattle.upload.specs.Found.{IsFound}
 use Rattle.upload.specs.Uploading.{ClearsIf}
 
 -- a row whose file is gone may give way to nothing
-pub may_go : (row : Row) (d : DeskNow) (shown : Option Shown) → IsFound row Missing d
+pub may_go : (row : Row) (d : SiteNow) (shown : Option Shown) → IsFound row Missing d
     → MayConflict (view_of shown d) row.id None (copies_for row.content None)
 may_go row d shown h = record {
   row = row;
@@ -41,7 +41,7 @@ may_go row d shown h = record {
   copied = refl;
 }
 
-pub is_going : (row : Row) (d : DeskNow) (shown : Option Shown) → IsFound row Missing d
+pub is_going : (row : Row) (d : SiteNow) (shown : Option Shown) → IsFound row Missing d
     → is_folder (item_of row.content) ≡ true → IsSorted row_id d.tables.rows
     → IsGoing (view_of shown d) row.id row
 is_going row d shown h is ordered = record {
@@ -52,7 +52,7 @@ is_going row d shown h is ordered = record {
 }
 
 -- it is still found gone behind the moves
-pub found_still : (row : Row) (a b : DeskNow) (changes : List Change) → IsFound row Missing a
+pub found_still : (row : Row) (a b : SiteNow) (changes : List Change) → IsFound row Missing a
     → is_folder (item_of row.content) ≡ true → IsSorted row_id a.tables.rows
     → changes ≡ folder_gone_changes a.tables row.id → b.tables ≡ after_all a.tables changes
     → session_calls b.line.trail ≡ session_calls a.line.trail → IsFound row Missing b
@@ -71,28 +71,28 @@ found_still row a b changes h is ordered are tables calls =
     }
 
 pub found_behind_moves : (row : Row) (changes : List Change) (sort : Call → Bool) (a b : WorkNow)
-    (result : Result (Unit {0}) StepErr) → IsFound row Missing a.desk
-    → is_folder (item_of row.content) ≡ true → IsSorted row_id a.desk.tables.rows
-    → changes ≡ folder_gone_changes a.desk.tables row.id
-    → Ends (ForEach Changes changes) sort a result b → OnOk result (IsFound row Missing b.desk)
+    (result : Result (Unit {0}) StepErr) → IsFound row Missing a.site
+    → is_folder (item_of row.content) ≡ true → IsSorted row_id a.site.tables.rows
+    → changes ≡ folder_gone_changes a.site.tables row.id
+    → Ends (ForEach Changes changes) sort a result b → OnOk result (IsFound row Missing b.site)
 found_behind_moves row changes sort a b (Ok done) h is ordered are k =
-    found_still row a.desk b.desk changes h is ordered are (tables_each changes sort a b k)
+    found_still row a.site b.site changes h is ordered are (tables_each changes sort a b k)
     (calls_each changes sort a b k)
 found_behind_moves row changes sort a b (Err e) h is ordered are k = tt
 
 -- all moves are the clearing of the folder
 pub clears_if : (folder : List ℕ) (changes : List Change) (sort : Call → Bool) (a b : WorkNow)
-    (result : Result (Unit {0}) StepErr) → changes ≡ folder_gone_changes a.desk.tables folder
+    (result : Result (Unit {0}) StepErr) → changes ≡ folder_gone_changes a.site.tables folder
     → Ends (ForEach Changes changes) sort a result b → Ends (ClearsIf folder true) sort a result b
 clears_if folder changes sort a b result are h =
     ends_as (ForEach Changes changes) (ClearsIf folder true) sort a b result
     (λ shown deeds. subst (λ (cs : List Change).
-    ForEach Changes cs (view_of shown a.desk) deeds) are)
+    ForEach Changes cs (view_of shown a.site) deeds) are)
     h
 
 -- what is no folder is cleared as it is
 pub clears_nothing : (folder : List ℕ) (is : Bool) (sort : Call → Bool) (a : WorkNow)
-    → is ≡ false → IsReady a.desk a.lease → Does (ClearsIf folder is) sort a a
+    → is ≡ false → IsReady a.site a.lease → Does (ClearsIf folder is) sort a a
 clears_nothing folder true sort a e ready = absurd cc
 clears_nothing folder false sort a e ready = does_nothing sort a ready
 

@@ -4,47 +4,47 @@ use Rattle.std.proofs.Common.{sym, ap, subst, ◌∙◌, arith, inl, inr}
 use Rattle.std.proofs.lemmas.Bool.{or_cases, or_left, or_right}
 use Rattle.conflicts.specs.declared.error.StepErr.{StepErr}
 use Rattle.delta.specs.Order.{has}
-use Rattle.desk.specs.Desks.{DeskNow}
+use Rattle.client.specs.Sites.{SiteNow}
 use Rattle.jop_base.proofs.KeyedLaws.{bytes_eq-refl, same_text}
 use Rattle.jop_base.specs.Keyed.{IsSorted, at}
 use Rattle.jop_target.specs.declared.call.Call.{Call}
-use Rattle.licences.specs.Checks.{is_pending}
-use Rattle.licences.specs.Deeds.{Deed, changes_in}
-use Rattle.licences.specs.Puts.{has_put}
-use Rattle.licences.specs.Trails.{session_calls}
-use Rattle.licences.specs.Views.{Shown, View, view_from}
-use Rattle.table_keeper.specs.Keepers.{Kept}
+use Rattle.law_licences.specs.Checks.{is_pending}
+use Rattle.law_licences.specs.Deeds.{Deed, changes_in}
+use Rattle.law_licences.specs.Puts.{has_put}
+use Rattle.law_licences.specs.Trails.{session_calls}
+use Rattle.law_licences.specs.Views.{Shown, View, view_from}
+use Rattle.keeper.specs.Keepers.{Kept}
 use Rattle.local_store.specs.Rows.{row_id}
 use Rattle.local_store.specs.Tables.{row_at}
-use Rattle.table_keeper.specs.declared.blob.Blob.{Blob}
+use Rattle.keeper.specs.declared.blob.Blob.{Blob}
 use Rattle.local_store.specs.declared.change.Change.{Change}
 use Rattle.local_store.specs.declared.row.Row.{Row}
 use Rattle.local_store.specs.declared.tables.Tables.{Tables}
-use Rattle.session_steps.proofs.Ending.{ends_as}
-use Rattle.session_steps.proofs.Joins.{view_at}
-use Rattle.session_steps.proofs.Saves.{GetsNone, saves_none}
-use Rattle.session_steps.proofs.Seen.{view_from-but_locks}
-use Rattle.session_steps.specs.Doing.{Does, Ends}
-use Rattle.session_steps.specs.Saving.{kept_after, saved_all}
-use Rattle.session_steps.specs.Parts.{ForEach, Part, but_locks}
-use Rattle.session_steps.specs.Work.{WorkNow, view_of}
+use Rattle.session.proofs.Ending.{ends_as}
+use Rattle.session.proofs.Joins.{view_at}
+use Rattle.session.proofs.Saves.{GetsNone, saves_none}
+use Rattle.session.proofs.Seen.{view_from-but_locks}
+use Rattle.session.specs.Doing.{Does, Ends}
+use Rattle.session.specs.Saving.{kept_after_saves, saved_all}
+use Rattle.session.specs.Parts.{ForEach, Part, but_locks}
+use Rattle.session.specs.Work.{WorkNow, view_of}
 use Rattle.upload.proofs.Tending.{IsTended, tended_one}
-use Rattle.upload.specs.Conditions.{AreUnput, CanPut, is_new}
+use Rattle.upload.specs.Conditions.{AreUnput, CanPut, is_new_row}
 use Rattle.upload.specs.Settled.{AreLeft, AreSettled, WasUnreadable}
 use Rattle.upload.specs.Uploading.{Uploads, UploadsOne, blobs_of, is_upload, pending_ids}
 
 -- ---- what is seen behind a part
 
--- behind a part what is seen is what the desk shows
-pub record Sees (P : Part) (a b : DeskNow) : Type 0 where
+-- behind a part what is seen is what the client shows
+pub record Sees (P : Part) (a b : SiteNow) : Type 0 where
   pub deeds : List Deed
   pub shown : Option Shown
   pub part : P (view_of None a) deeds
   pub is : view_from (view_of None a) deeds ≡ view_of shown b
 
-pub sees : (P : Part) (sort : Call → Bool) (a b : WorkNow) → Does P sort a b → Sees P a.desk b.desk
+pub sees : (P : Part) (sort : Call → Bool) (a b : WorkNow) → Does P sort a b → Sees P a.site b.site
 sees P sort a b h =
-    let v = view_of None a.desk in
+    let v = view_of None a.site in
     record {
       deeds = but_locks h.went.deeds;
       shown = (view_from v h.went.deeds).shown;
@@ -55,47 +55,47 @@ sees P sort a b h =
 
 -- what was kept of resources is kept
 blobs_changed : (kept : Option Kept) (changes : List Change)
-    → blobs_of (option_map (kept_after changes []) kept) ≡ blobs_of kept
+    → blobs_of (option_map (kept_after_saves changes []) kept) ≡ blobs_of kept
 unfolding saved_all
 blobs_changed None changes = refl
 blobs_changed (Some k) changes = refl
 
 pub same_blobs : (P : Part) (sort : Call → Bool) (a b : WorkNow) → GetsNone sort
-    → Does P sort a b → blobs_of b.desk.keeper.kept ≡ blobs_of a.desk.keeper.kept
+    → Does P sort a b → blobs_of b.site.keeper.kept ≡ blobs_of a.site.keeper.kept
 same_blobs P sort a b nothing h =
     let changes = changes_in h.went.deeds in
     let none = saves_none sort a b h.went nothing in
     ap blobs_of h.went.kept
-    ∙ (ap (λ (bs : List Blob). blobs_of (option_map (kept_after changes bs) a.desk.keeper.kept))
+    ∙ (ap (λ (bs : List Blob). blobs_of (option_map (kept_after_saves changes bs) a.site.keeper.kept))
     none
-    ∙ blobs_changed a.desk.keeper.kept changes)
+    ∙ blobs_changed a.site.keeper.kept changes)
 
 -- ---- one row
 
--- the row of this id was tended, and the desk shows it
-pub record HasTended (id : List ℕ) (a b : DeskNow) : Type 0 where
+-- the row of this id was tended, and the client shows it
+pub record HasTended (id : List ℕ) (a b : SiteNow) : Type 0 where
   pub shown : Option Shown
   pub tended : IsTended id (view_of None a) (view_of shown b)
 
 pub tended : (blobs : Option (List Blob)) (sort : Call → Bool) (id : List ℕ) (a b : WorkNow)
-    → IsSorted row_id a.desk.tables.rows → Does (UploadsOne blobs id) sort a b
-    → HasTended id a.desk b.desk
+    → IsSorted row_id a.site.tables.rows → Does (UploadsOne blobs id) sort a b
+    → HasTended id a.site b.site
 tended blobs sort id a b ordered h =
     let s = sees (UploadsOne blobs id) sort a b h in
     record {
       shown = s.shown;
-      tended = subst (λ (w : View). IsTended id (view_of None a.desk) w) s.is
-          (tended_one blobs id (view_of None a.desk) s.deeds ordered s.part);
+      tended = subst (λ (w : View). IsTended id (view_of None a.site) w) s.is
+          (tended_one blobs id (view_of None a.site) s.deeds ordered s.part);
     }
 
-new_waits : (row : Option Row) → is_new row ≡ true → is_pending row ≡ true
+new_waits : (row : Option Row) → is_new_row row ≡ true → is_pending row ≡ true
 new_waits None h = absurd cc
 new_waits (Some r) h = both r.pending (is_none r.base) h where
   both : (a b : Bool) → (a && b) ≡ true → a ≡ true
   both true b h = refl
   both false b h = absurd cc
 
-unput_if : (same : Bool) (id other : List ℕ) (a b : DeskNow) → bytes_eq id other ≡ same
+unput_if : (same : Bool) (id other : List ℕ) (a b : SiteNow) → bytes_eq id other ≡ same
     → (h : HasTended id a b) → is_pending (row_at b.tables other) ≡ true
     → has_put other (session_calls b.line.trail) ≡ has_put other (session_calls a.line.trail)
 unput_if true id other a b e h waits =
@@ -105,16 +105,16 @@ unput_if true id other a b e h waits =
     (h.tended.unput (ap (λ (k : List ℕ). is_pending (row_at b.tables k)) is ∙ waits))
 unput_if false id other a b e h waits = h.tended.tends.puts other e
 
-pub unput_on : (id : List ℕ) (a b : DeskNow) → HasTended id a b → AreUnput a → AreUnput b
+pub unput_on : (id : List ℕ) (a b : SiteNow) → HasTended id a b → AreUnput a → AreUnput b
 unput_on id a b h unput other new =
     let waits = new_waits (row_at b.tables other) new in
     let same = h.tended.tends.keeps.rows other waits in
     unput_if (bytes_eq id other) id other a b refl h waits
-    ∙ unput other (ap is_new same ∙ new)
+    ∙ unput other (ap is_new_row same ∙ new)
 
 -- ---- those that are left
 
-left_if : (a b : DeskNow) (id other : List ℕ) (rest : List (List ℕ)) → HasTended id a b
+left_if : (a b : SiteNow) (id other : List ℕ) (rest : List (List ℕ)) → HasTended id a b
     → is_pending (row_at b.tables other) ≡ true
     → (has (id ∷ rest) other ≡ true) ⊎ WasUnreadable other (session_calls a.line.trail)
     → (has rest other ≡ true) ⊎ WasUnreadable other (session_calls b.line.trail)
@@ -128,19 +128,19 @@ left_if a b id other rest h waits (inl here) =
       | inr e ↦ inl e
     ]
 
-pub left_on : (a b : DeskNow) (id : List ℕ) (rest : List (List ℕ)) → HasTended id a b
+pub left_on : (a b : SiteNow) (id : List ℕ) (rest : List (List ℕ)) → HasTended id a b
     → AreLeft a (id ∷ rest) → AreLeft b rest
 left_on a b id rest h left other waits =
     let same = h.tended.tends.keeps.rows other waits in
     left_if a b id other rest h waits (left other (ap is_pending same ∙ waits))
 
-nothing_left : (d : DeskNow) (id : List ℕ)
+nothing_left : (d : SiteNow) (id : List ℕ)
     → (has [] id ≡ true) ⊎ WasUnreadable id (session_calls d.line.trail)
     → WasUnreadable id (session_calls d.line.trail)
 nothing_left d id (inl h) = absurd cc
 nothing_left d id (inr was) = was
 
-pub settled : (d : DeskNow) → AreLeft d [] → AreSettled d
+pub settled : (d : SiteNow) → AreLeft d [] → AreSettled d
 settled d left id waits = nothing_left d id (left id waits)
 
 -- ---- at first
@@ -167,7 +167,7 @@ has_each [] id h = absurd cc
 has_each (y ∷ ys) id h =
     first_if y ys id (bytes_eq y.id id) y.pending refl refl h (has_each ys id)
 
-pub left_first : (d : DeskNow) → AreLeft d (pending_ids d.tables)
+pub left_first : (d : SiteNow) → AreLeft d (pending_ids d.tables)
 left_first d id waits = inl (has_each d.tables.rows id waits)
 
 -- ---- the whole upload
@@ -181,11 +181,11 @@ can_put t ids i within (inr none) =
     absurd (omega (arith, e))
 
 pub ends_all : (ids : List (List ℕ)) (a b : WorkNow) (result : Result (Unit {0}) StepErr)
-    → ids ≡ pending_ids a.desk.tables
-    → Ends (ForEach (UploadsOne (blobs_of a.desk.keeper.kept)) ids) is_upload a result b
-    → Ends (Uploads a.desk.keeper.kept) is_upload a result b
+    → ids ≡ pending_ids a.site.tables
+    → Ends (ForEach (UploadsOne (blobs_of a.site.keeper.kept)) ids) is_upload a result b
+    → Ends (Uploads a.site.keeper.kept) is_upload a result b
 ends_all ids a b result is h =
-    let P = UploadsOne (blobs_of a.desk.keeper.kept) in
-    ends_as (ForEach P ids) (Uploads a.desk.keeper.kept) is_upload a b result
-    (λ shown deeds. subst (λ (xs : List (List ℕ)). ForEach P xs (view_of shown a.desk) deeds) is)
+    let P = UploadsOne (blobs_of a.site.keeper.kept) in
+    ends_as (ForEach P ids) (Uploads a.site.keeper.kept) is_upload a b result
+    (λ shown deeds. subst (λ (xs : List (List ℕ)). ForEach P xs (view_of shown a.site) deeds) is)
     h

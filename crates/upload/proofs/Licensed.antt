@@ -3,7 +3,7 @@ use Rattle.std.specs.Prelude.{ℕ, ◌≡◌, List, Bool, true, false, bytes_eq,
 use Rattle.std.proofs.Common.{ap, subst, ◌∙◌}
 use Rattle.std.proofs.lemmas.Bool.{and_parts}
 use Rattle.conflicts.specs.declared.error.StepErr.{StepErr}
-use Rattle.desk.specs.Desks.{DeskNow}
+use Rattle.client.specs.Sites.{SiteNow}
 use Rattle.item_text.specs.Grammar.{written}
 use Rattle.item_text.specs.Valid.{IsItem}
 use Rattle.jop_base.proofs.KeyedLaws.{All-at, bytes_eq-refl}
@@ -14,14 +14,12 @@ use Rattle.jop_target.specs.declared.call.Call.{Call}
 use Rattle.jop_target.specs.declared.call.Call.TheVariants.{Put}
 use Rattle.jop_target.specs.declared.reply.Reply.{Reply}
 use Rattle.jop_target.specs.declared.reply.Reply.TheVariants.{Listed, Got, GotBlob, Absent, Done, Failed, TooLarge}
-use Rattle.licences.specs.Checks.{last_on}
-use Rattle.licences.specs.Conflicts.{MayConflict}
-use Rattle.licences.specs.Copies.{copies_for}
-use Rattle.licences.specs.Deeds.{Deed}
-use Rattle.licences.specs.Items.{is_resource}
-use Rattle.licences.specs.Puts.{MayPut, MayPutBlob, MayUpload, has_put}
-use Rattle.licences.specs.Trails.{session_calls}
-use Rattle.licences.specs.Views.{Heard, Shown, View, view_from}
+use Rattle.law_licences.specs.Checks.{last_on}
+use Rattle.law_licences.specs.Deeds.{Deed}
+use Rattle.law_licences.specs.Items.{is_resource}
+use Rattle.law_licences.specs.Puts.{MayPut, MayPutBlob, MayUpload, has_put}
+use Rattle.law_licences.specs.Trails.{session_calls}
+use Rattle.law_licences.specs.Views.{Heard, Shown, View, view_from}
 use Rattle.local_store.specs.Rows.{item_of, row_id}
 use Rattle.local_store.specs.Sound.{IsContentOf, IsSound, IsSoundRow}
 use Rattle.local_store.specs.Tables.{base_of, row_at}
@@ -29,25 +27,25 @@ use Rattle.local_store.specs.declared.content.Content.{Content}
 use Rattle.local_store.specs.declared.content.Content.TheVariants.{Plain, Sealed}
 use Rattle.local_store.specs.declared.row.Row.{Row}
 use Rattle.local_store.specs.declared.tables.Tables.{Tables}
-use Rattle.session_steps.proofs.Behind.{behind, found_behind}
-use Rattle.session_steps.proofs.Ending.{does_nothing}
-use Rattle.session_steps.proofs.Found.{base_found, other_found}
-use Rattle.session_steps.specs.Asking.{IsAnswer}
-use Rattle.session_steps.specs.Doing.{Does, Ends}
-use Rattle.session_steps.specs.Findings.{finding_of}
-use Rattle.session_steps.specs.Parts.{Hears}
-use Rattle.session_steps.specs.Sessions.{Finds}
-use Rattle.session_steps.specs.Work.{IsReady, WorkNow, view_of}
-use Rattle.session_steps.specs.declared.finding.Finding.{Finding}
-use Rattle.session_steps.specs.declared.finding.Finding.TheVariants.{Same, Other}
-use Rattle.table_keeper.specs.declared.blob.Blob.{Blob}
+use Rattle.session.proofs.Behind.{behind, found_behind}
+use Rattle.session.proofs.Ending.{does_nothing}
+use Rattle.session.proofs.Found.{base_found}
+use Rattle.session.specs.Asking.{IsAnswer}
+use Rattle.session.specs.Doing.{Does, Ends}
+use Rattle.session.specs.Findings.{finding_of}
+use Rattle.session.specs.Parts.{Hears}
+use Rattle.session.specs.Sessions.{FindsFile}
+use Rattle.session.specs.Work.{IsReady, WorkNow, view_of}
+use Rattle.session.specs.declared.finding.Finding.{Finding}
+use Rattle.session.specs.declared.finding.Finding.TheVariants.{Same}
+use Rattle.keeper.specs.declared.blob.Blob.{Blob}
 use Rattle.upload.specs.Found.{IsFound}
 use Rattle.upload.specs.Uploading.{PutsIfNew, PutsKept, PutsText, is_new_resource, is_upload}
 
 -- ---- what was found
 
 -- nothing on the row's file was called since
-pub still_found : (row : Row) (finding : Finding) (a b : DeskNow) → b.tables ≡ a.tables
+pub still_found : (row : Row) (finding : Finding) (a b : SiteNow) → b.tables ≡ a.tables
     → last_on row.id (session_calls b.line.trail) ≡ last_on row.id (session_calls a.line.trail)
     → IsFound row finding a → IsFound row finding b
 still_found row finding a b tables last h = record {
@@ -60,11 +58,11 @@ still_found row finding a b tables last h = record {
 
 -- a row that waits, of which the file was found
 pub found_row : (row : Row) (finding : Finding) (sort : Call → Bool) (a b : WorkNow)
-    → b.desk.tables ≡ a.desk.tables → row_at a.desk.tables row.id ≡ Some row
-    → row.pending ≡ true → Does (Finds row.id finding) sort a b → IsFound row finding b.desk
+    → b.site.tables ≡ a.site.tables → row_at a.site.tables row.id ≡ Some row
+    → row.pending ≡ true → Does (FindsFile row.id finding) sort a b → IsFound row finding b.site
 found_row row finding sort a b same at pending h =
     let f = found_behind row.id finding sort a b h in
-    let still : row_at b.desk.tables row.id ≡ Some row =
+    let still : row_at b.site.tables row.id ≡ Some row =
     ap (λ (t : Tables). row_at t row.id) same ∙ at in
     record {
       reply = f.reply;
@@ -76,11 +74,11 @@ found_row row finding sort a b same at pending h =
 
 -- a get is no put
 pub unput_row : (id : List ℕ) (finding : Finding) (sort : Call → Bool) (a b : WorkNow)
-    → Does (Finds id finding) sort a b → has_put id (session_calls a.desk.line.trail) ≡ false
-    → has_put id (session_calls b.desk.line.trail) ≡ false
+    → Does (FindsFile id finding) sort a b → has_put id (session_calls a.site.line.trail) ≡ false
+    → has_put id (session_calls b.site.line.trail) ≡ false
 unfolding has_put view_from
 unput_row id finding sort a b h unput =
-    behind (λ t cs u us. has_put id us ≡ has_put id cs) (Finds id finding) sort a b
+    behind (λ t cs u us. has_put id us ≡ has_put id cs) (FindsFile id finding) sort a b
     (λ v ds it. ap (λ (x : List Deed). has_put id (view_from v x).calls) it.4) h
     ∙ unput
 
@@ -90,7 +88,7 @@ none_is : (base : Option (List ℕ)) → is_none base ≡ true → base ≡ None
 none_is None e = refl
 none_is (Some base) e = absurd cc
 
-pub may_put_blob : (row : Row) (d : DeskNow) (shown : Option Shown) → IsFound row Same d
+pub may_put_blob : (row : Row) (d : SiteNow) (shown : Option Shown) → IsFound row Same d
     → is_new_resource row ≡ true
     → (is_none row.base ≡ true → has_put row.id (session_calls d.line.trail) ≡ false)
     → MayPutBlob (view_of shown d) row.id
@@ -115,7 +113,7 @@ pub valid_item : (t : Tables) (row : Row) → IsSound t → row_at t row.id ≡ 
 valid_item t row sound at =
     valid_content row.id row.content (All-at row_id IsSoundRow t.rows row.id row sound.rows at).content
 
-pub may_put : (row : Row) (d : DeskNow) (text : List ℕ) (shown : Option Shown)
+pub may_put : (row : Row) (d : SiteNow) (text : List ℕ) (shown : Option Shown)
     → IsFound row Same d → d.tables.info.e2ee.value ≡ false → text ≡ written (item_of row.content)
     → MayPut (view_of shown d) row.id text
 may_put row d text shown h readable is = record {
@@ -144,7 +142,7 @@ put_here id text v ds h = (
 )
 
 pub may_upload : (id text : List ℕ) (sort : Call → Bool) (a b : WorkNow) (shown : Option Shown)
-    → Does (PutsText id text) sort a b → MayUpload (view_of shown b.desk) id text
+    → Does (PutsText id text) sort a b → MayUpload (view_of shown b.site) id text
 may_upload id text sort a b shown h =
     let put = behind
     (λ t cs u us. (now : ℕ) × (last_on id us
@@ -172,7 +170,7 @@ text_put id text reply answer v ds h =
 -- ---- the bytes of a new resource
 
 pub puts_no_bytes : (blobs : Option (List Blob)) (id : List ℕ) (new : Bool) (a : WorkNow)
-    → new ≡ false → IsReady a.desk a.lease → Does (PutsIfNew blobs id new) is_upload a a
+    → new ≡ false → IsReady a.site a.lease → Does (PutsIfNew blobs id new) is_upload a a
 puts_no_bytes blobs id true a e ready = absurd cc
 puts_no_bytes blobs id false a e ready = does_nothing is_upload a ready
 
@@ -182,17 +180,3 @@ pub puts_bytes : (blobs : Option (List Blob)) (id : List ℕ) (new : Bool) (a b 
     → Ends (PutsIfNew blobs id new) is_upload a result b
 puts_bytes blobs id true a b result e h = h
 puts_bytes blobs id false a b result e h = absurd cc
-
--- ---- another file
-
-pub may_yield : (row : Row) (d : DeskNow) (remote : List ℕ × Content) (shown : Option Shown)
-    → IsFound row (Other remote) d
-    → MayConflict (view_of shown d) row.id (Some remote) (copies_for row.content (Some remote))
-may_yield row d remote shown h = record {
-  row = row;
-  reply = h.reply;
-  pending = record { at = h.at; pending = h.pending };
-  check = h.last;
-  other = other_found row.id row.base h.reply remote h.found;
-  copied = refl;
-}

@@ -6,19 +6,19 @@ use Rattle.jop_target.specs.declared.call.Call.{Call}
 use Rattle.jop_target.specs.declared.call.Call.TheVariants.{PutBlob}
 use Rattle.jop_target.specs.declared.reply.Reply.{Reply}
 use Rattle.jop_target.specs.declared.reply.Reply.TheVariants.{Listed, Got, GotBlob, Absent, Done, Failed, TooLarge}
-use Rattle.licences.specs.Checks.{last_on}
-use Rattle.licences.specs.Deeds.{Deed}
-use Rattle.licences.specs.Trails.{session_calls}
-use Rattle.licences.specs.Views.{View, view_from}
-use Rattle.session_steps.proofs.Behind.{behind}
-use Rattle.session_steps.proofs.Ending.{does_as}
-use Rattle.session_steps.specs.Asking.{IsAnswer}
-use Rattle.session_steps.specs.Doing.{Does}
-use Rattle.session_steps.specs.Parts.{Hears, Nothing}
-use Rattle.session_steps.specs.Work.{WorkNow, view_of}
-use Rattle.table_keeper.specs.Keepers.{IsBlobOfKept, Kept}
-use Rattle.table_keeper.specs.declared.blob.Blob.{Blob}
-use Rattle.upload.specs.Uploading.{PutsIfNew, PutsKept, PutsThese, blobs_of, bytes_of, is_upload}
+use Rattle.law_licences.specs.Checks.{last_on}
+use Rattle.law_licences.specs.Deeds.{Deed}
+use Rattle.law_licences.specs.Trails.{session_calls}
+use Rattle.law_licences.specs.Views.{View, view_from}
+use Rattle.session.proofs.Behind.{behind}
+use Rattle.session.proofs.Ending.{does_as}
+use Rattle.session.specs.Asking.{IsAnswer}
+use Rattle.session.specs.Doing.{Does}
+use Rattle.session.specs.Parts.{Hears, Nothing}
+use Rattle.session.specs.Work.{WorkNow, view_of}
+use Rattle.keeper.specs.Keepers.{IsBlobOfKept, Kept}
+use Rattle.keeper.specs.declared.blob.Blob.{Blob}
+use Rattle.upload.specs.Uploading.{PutsIfNew, PutsKept, PutsThese, blobs_of, blob_bytes, is_upload}
 
 none_put : (kept : Option Kept) (id : List ℕ) (v : View) (ds : List Deed)
     → IsBlobOfKept kept id None → Nothing v ds → PutsKept (blobs_of kept) id v ds
@@ -31,7 +31,7 @@ pub puts_nothing : (kept : Option Kept) (id : List ℕ) (a b : WorkNow)
     → Does (PutsKept (blobs_of kept) id) is_upload a b
 puts_nothing kept id a b told h =
     does_as Nothing (PutsKept (blobs_of kept) id) is_upload a b
-    (λ shown ds. none_put kept id (view_of shown a.desk) ds told) h
+    (λ shown ds. none_put kept id (view_of shown a.site) ds told) h
 
 these_put : (kept : Option Kept) (id bytes : List ℕ) (len now : ℕ) (v : View) (ds : List Deed)
     → len ≡ length bytes → IsBlobOfKept kept id (Some bytes)
@@ -90,7 +90,7 @@ leaves_these other id (Some bytes) v ds h = leaves_put other id (length bytes) h
 
 leaves_kept : (other : List ℕ) (blobs : Option (List Blob)) (id : List ℕ) (v : View)
     (ds : List Deed) → PutsKept blobs id v ds → Leaves other v (view_from v ds)
-leaves_kept other (Some blobs) id v ds h = leaves_these other id (bytes_of blobs id) v ds h
+leaves_kept other (Some blobs) id v ds h = leaves_these other id (blob_bytes blobs id) v ds h
 leaves_kept other None id v ds h =
     elim h [
       | inl none ↦ leaves_nothing other v ds none
@@ -103,15 +103,15 @@ leaves_new other blobs id true v ds h = leaves_kept other blobs id v ds h
 leaves_new other blobs id false v ds h = leaves_nothing other v ds h
 
 pub tables_new : (blobs : Option (List Blob)) (id : List ℕ) (new : Bool) (sort : Call → Bool)
-    (a b : WorkNow) → Does (PutsIfNew blobs id new) sort a b → b.desk.tables ≡ a.desk.tables
+    (a b : WorkNow) → Does (PutsIfNew blobs id new) sort a b → b.site.tables ≡ a.site.tables
 tables_new blobs id new sort a b h =
     behind (λ t cs u us. u ≡ t) (PutsIfNew blobs id new) sort a b
     (λ v ds it. (leaves_new id blobs id new v ds it).tables) h
 
 pub last_new : (other : List ℕ) (blobs : Option (List Blob)) (id : List ℕ) (new : Bool)
     (sort : Call → Bool) (a b : WorkNow) → Does (PutsIfNew blobs id new) sort a b
-    → last_on other (session_calls b.desk.line.trail)
-    ≡ last_on other (session_calls a.desk.line.trail)
+    → last_on other (session_calls b.site.line.trail)
+    ≡ last_on other (session_calls a.site.line.trail)
 last_new other blobs id new sort a b h =
     behind (λ t cs u us. last_on other us ≡ last_on other cs) (PutsIfNew blobs id new) sort a b
     (λ v ds it. (leaves_new other blobs id new v ds it).last) h

@@ -9,28 +9,28 @@ use Rattle.jop_base.specs.declared.path.Path.TheVariants.{Item}
 use Rattle.jop_target.specs.declared.call.Call.TheVariants.{Get, Put, PutBlob}
 use Rattle.jop_target.specs.declared.reply.Reply.{Reply}
 use Rattle.jop_target.specs.declared.reply.Reply.TheVariants.{Done}
-use Rattle.licences.proofs.Joins.{view_from-append}
-use Rattle.licences.specs.Checks.{is_pending}
-use Rattle.licences.specs.Copies.{copies_for}
-use Rattle.licences.specs.Deeds.{Deed, Asks}
-use Rattle.licences.specs.Items.{is_folder, is_note_in}
-use Rattle.licences.specs.Puts.{has_put}
-use Rattle.licences.specs.Views.{View, view_from}
+use Rattle.law_licences.proofs.Joins.{view_from-append}
+use Rattle.law_licences.specs.Checks.{is_pending}
+use Rattle.law_licences.specs.Copies.{copies_for}
+use Rattle.law_licences.specs.Deeds.{Deed, Asks}
+use Rattle.law_licences.specs.Items.{is_folder, is_note_in}
+use Rattle.law_licences.specs.Puts.{has_put}
+use Rattle.law_licences.specs.Views.{View, view_from}
 use Rattle.local_store.specs.Rows.{item_of, row_id}
 use Rattle.local_store.specs.Tables.{row_at}
-use Rattle.table_keeper.specs.declared.blob.Blob.{Blob}
+use Rattle.keeper.specs.declared.blob.Blob.{Blob}
 use Rattle.local_store.specs.declared.change.Change.TheVariants.{Uploaded}
 use Rattle.local_store.specs.declared.content.Content.{Content}
 use Rattle.local_store.specs.declared.row.Row.{Row}
-use Rattle.session_steps.specs.Findings.{finding_of, waiting}
-use Rattle.session_steps.specs.Parts.{Changes, ForEach, Hears, Nothing, Part, Then}
-use Rattle.session_steps.specs.declared.finding.Finding.{Finding}
-use Rattle.session_steps.specs.declared.finding.Finding.TheVariants.{Same, Other, Missing, Unreadable}
+use Rattle.session.specs.Findings.{finding_of, waiting}
+use Rattle.session.specs.Parts.{Changes, ForEach, Hears, Nothing, Part, Then}
+use Rattle.session.specs.declared.finding.Finding.{Finding}
+use Rattle.session.specs.declared.finding.Finding.TheVariants.{Same, Other, Missing, Unreadable}
 use Rattle.upload.proofs.Checked.{no_item}
 use Rattle.upload.proofs.Waiting.{Keeps, conflict_still, keeps_conflict, keeps_moved, keeps_on, keeps_same, keeps_uploaded, uploaded_still}
 use Rattle.upload.specs.Settled.{IsNoItem, WasUnreadable}
-use Rattle.session_steps.specs.Asking.{IsAnswer}
-use Rattle.upload.specs.Uploading.{Clears, ClearsIf, Puts, PutsIfNew, PutsKept, PutsText, PutsThese, Settles, UploadsFound, UploadsOne, UploadsRow, Yields, bytes_of, is_new_resource}
+use Rattle.session.specs.Asking.{IsAnswer}
+use Rattle.upload.specs.Uploading.{Clears, ClearsIf, Puts, PutsIfNew, PutsKept, PutsText, PutsThese, Settles, UploadsFound, UploadsOne, UploadsRow, Yields, blob_bytes, is_new_resource}
 
 -- Rows that wait are kept, items of other ids aren't put, and what was heard isn't forgotten.
 pub record Tends (id : List ℕ) (v w : View) : Type 0 where
@@ -183,7 +183,7 @@ tends_these id other (Some bytes) v ds ordered h =
 tends_kept : (id other : List ℕ) (blobs : Option (List Blob)) → IsTending id (PutsKept blobs other)
 unfolding IsTending
 tends_kept id other (Some blobs) v ds ordered h =
-    tends_these id other (bytes_of blobs other) v ds ordered h
+    tends_these id other (blob_bytes blobs other) v ds ordered h
 tends_kept id other None v ds ordered h = elim h [
   | inl none ↦ tends_nothing id v ds ordered none
   | inr put ↦ tends_blob id other put.0 (Done put.1.0) v ds ordered put.1.1

@@ -1,33 +1,30 @@
 -- How an upload's parts are told of one row.
-use Rattle.std.specs.Prelude.{ℕ, ◌≡◌, List, Bool, true, false, ◌&&◌, is_none, if◌then◌else◌, Option, Some, None, Result, Ok, Err, refl}
+use Rattle.std.specs.Prelude.{ℕ, ◌≡◌, List, Bool, true, false, ◌&&◌, is_none, Option, Some, Result, Ok, Err}
 use Rattle.std.proofs.Common.{sym, ap, subst, ◌∙◌}
 use Rattle.conflicts.specs.declared.error.StepErr.{StepErr}
-use Rattle.desk.specs.Desks.{DeskNow}
-use Rattle.jop_base.proofs.KeyedLaws.{key-at}
-use Rattle.licences.specs.Deeds.{Deed}
-use Rattle.licences.specs.Puts.{has_put}
-use Rattle.licences.specs.Trails.{session_calls}
-use Rattle.licences.specs.Views.{View, view_from}
-use Rattle.local_store.specs.Rows.{row_id}
+use Rattle.client.specs.Sites.{SiteNow}
+use Rattle.law_licences.specs.Deeds.{Deed}
+use Rattle.law_licences.specs.Views.{View, view_from}
 use Rattle.local_store.specs.Tables.{base_of, row_at}
 use Rattle.local_store.specs.declared.row.Row.{Row}
-use Rattle.local_store.specs.declared.tables.Tables.{Tables}
-use Rattle.session_steps.proofs.Ending.{does_as, does_nothing, ends_as, ends_then}
-use Rattle.session_steps.specs.Doing.{Does, Ends}
-use Rattle.session_steps.specs.Findings.{finding_of, waiting}
-use Rattle.session_steps.specs.Parts.{Then}
-use Rattle.session_steps.specs.Sessions.{Finds}
-use Rattle.session_steps.specs.Work.{IsReady, WorkNow, view_of}
-use Rattle.session_steps.specs.declared.finding.Finding.{Finding}
-use Rattle.session_steps.specs.declared.finding.Finding.TheVariants.{Unreadable}
-use Rattle.table_keeper.specs.declared.blob.Blob.{Blob}
-use Rattle.upload.specs.Conditions.{AreUnput, is_new}
+use Rattle.session.proofs.WaitingRow.{Waits}
+use Rattle.session.proofs.Ending.{does_as, does_nothing, ends_as, ends_then}
+use Rattle.session.specs.Doing.{Does, Ends}
+use Rattle.session.specs.Findings.{finding_of, waiting}
+use Rattle.session.specs.Parts.{Then}
+use Rattle.session.specs.Sessions.{FindsFile}
+use Rattle.session.specs.Work.{IsReady, WorkNow, view_of}
+use Rattle.session.specs.declared.finding.Finding.{Finding}
+use Rattle.session.specs.declared.finding.Finding.TheVariants.{Unreadable}
+use Rattle.keeper.specs.declared.blob.Blob.{Blob}
+use Rattle.upload.specs.Conditions.{AreUnput, is_new_row}
+use Rattle.upload.specs.Found.{IsUploadable}
 use Rattle.upload.specs.Uploading.{Settles, UploadsFound, UploadsOne, UploadsRow, is_upload}
 
 -- the file is got, and then that is done
 row_told : (blobs : Option (List Blob)) (row : Row) (finding : Finding) (v : View)
     (ds : List Deed) → row_at v.tables row.id ≡ Some row
-    → Then (Finds row.id finding) (Settles blobs row finding) v ds → UploadsRow blobs row v ds
+    → Then (FindsFile row.id finding) (Settles blobs row finding) v ds → UploadsRow blobs row v ds
 row_told blobs row finding v ds at h =
     let f = h.before in
     let is : finding ≡ finding_of row.id row.base f.0 =
@@ -47,14 +44,14 @@ row_told blobs row finding v ds at h =
 
 pub ends_row : (blobs own : Option (List Blob)) (row : Row) (finding : Finding)
     (a b c : WorkNow) (result : Result (Unit {0}) StepErr) → own ≡ blobs
-    → row_at a.desk.tables row.id ≡ Some row → Does (Finds row.id finding) is_upload a b
+    → row_at a.site.tables row.id ≡ Some row → Does (FindsFile row.id finding) is_upload a b
     → Ends (Settles own row finding) is_upload b result c
     → Ends (UploadsRow blobs row) is_upload a result c
 ends_row blobs own row finding a b c result same at h k =
-    ends_as (Then (Finds row.id finding) (Settles blobs row finding)) (UploadsRow blobs row)
+    ends_as (Then (FindsFile row.id finding) (Settles blobs row finding)) (UploadsRow blobs row)
     is_upload a c result
-    (λ shown ds it. row_told blobs row finding (view_of shown a.desk) ds at it)
-    (ends_then (Finds row.id finding) (Settles blobs row finding) is_upload a b c result h
+    (λ shown ds it. row_told blobs row finding (view_of shown a.site) ds at it)
+    (ends_then (FindsFile row.id finding) (Settles blobs row finding) is_upload a b c result h
     (subst (λ (x : Option (List Blob)). Ends (Settles x row finding) is_upload b result c) same k))
 
 -- what is done, told by what was found
@@ -67,58 +64,38 @@ settles_as blobs row finding f a b result is h =
 
 -- of a file that can't be read nothing comes
 pub settles_nothing : (blobs : Option (List Blob)) (row : Row) (finding : Finding) (a : WorkNow)
-    → finding ≡ Unreadable → IsReady a.desk a.lease → Does (Settles blobs row finding) is_upload a a
+    → finding ≡ Unreadable → IsReady a.site a.lease → Does (Settles blobs row finding) is_upload a a
 settles_nothing blobs row finding a is ready =
     subst (λ (x : Finding). Does (Settles blobs row x) is_upload a a) (sym is)
     (does_nothing is_upload a ready)
 
 -- ---- the row of an id
 
--- this row waits, and is that of the id
-pub record Waits (t : Tables) (id : List ℕ) (row : Row) : Type 0 where
-  pub at : row_at t row.id ≡ Some row
-  pub pending : row.pending ≡ true
-
-waits_if : (t : Tables) (id : List ℕ) (stood row : Row) (pending : Bool)
-    → row_at t id ≡ Some stood → stood.pending ≡ pending
-    → Some row ≡ (if pending then Some stood else None) → Waits t id row
-waits_if t id stood row true at e is =
-    let it : stood ≡ row = cc in
-    subst (λ (r : Row). Waits t id r) it (record {
-      at = ap (row_at t) (key-at row_id t.rows id stood at) ∙ at;
-      pending = e;
-    })
-waits_if t id stood row false at e is = absurd cc
-
-waits_by : (t : Tables) (id : List ℕ) (stood : Option Row) (row : Row) → row_at t id ≡ stood
-    → Some row ≡ waiting stood → Waits t id row
-waits_by t id None row at is = absurd cc
-waits_by t id (Some stood) row at is = waits_if t id stood row stood.pending at refl is
-
-pub waits : (t : Tables) (id : List ℕ) (row : Row) → Some row ≡ waiting (row_at t id)
-    → Waits t id row
-waits t id row is = waits_by t id (row_at t id) row refl is
-
 both_true : (a b : Bool) → a ≡ true → b ≡ true → (a && b) ≡ true
 both_true true b h k = k
 both_true false b h k = absurd cc
 
-pub unput_at : (d : DeskNow) (id : List ℕ) (row : Row) → Waits d.tables id row → AreUnput d
-    → is_none row.base ≡ true → has_put row.id (session_calls d.line.trail) ≡ false
-unput_at d id row h unput none =
-    unput row.id (ap is_new h.at ∙ both_true row.pending (is_none row.base) h.pending none)
+pub uploadable_at : (d : SiteNow) (id : List ℕ) (row : Row) → Waits d.tables id row
+    → d.tables.info.e2ee.value ≡ false → AreUnput d → IsUploadable row d
+uploadable_at d id row h readable unput = record {
+  at = h.own;
+  pending = h.pending;
+  readable = readable;
+  unput = λ none.
+      unput row.id (ap is_new_row h.own ∙ both_true row.pending (is_none row.base) h.pending none);
+}
 
 pub uploads_found : (blobs : Option (List Blob)) (id : List ℕ) (row : Option Row) (a b : WorkNow)
-    → row ≡ waiting (row_at a.desk.tables id) → Does (UploadsFound blobs row) is_upload a b
+    → row ≡ waiting (row_at a.site.tables id) → Does (UploadsFound blobs row) is_upload a b
     → Does (UploadsOne blobs id) is_upload a b
 uploads_found blobs id row a b is h =
     does_as (UploadsFound blobs row) (UploadsOne blobs id) is_upload a b
-    (λ shown ds. subst (λ (r : Option Row). UploadsFound blobs r (view_of shown a.desk) ds) is)
+    (λ shown ds. subst (λ (r : Option Row). UploadsFound blobs r (view_of shown a.site) ds) is)
     h
 
 -- whatever became of it
 pub ends_found : (blobs : Option (List Blob)) (id : List ℕ) (row : Option Row) (a b : WorkNow)
-    (result : Result (Unit {0}) StepErr) → row ≡ waiting (row_at a.desk.tables id)
+    (result : Result (Unit {0}) StepErr) → row ≡ waiting (row_at a.site.tables id)
     → Ends (UploadsFound blobs row) is_upload a result b
     → Ends (UploadsOne blobs id) is_upload a result b
 ends_found blobs id row a b (Ok done) is h = uploads_found blobs id row a b is h

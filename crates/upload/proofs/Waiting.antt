@@ -3,7 +3,7 @@ use Rattle.std.specs.Prelude.{ℕ, ◌≡◌, List, Bool, true, false, bytes_eq,
 use Rattle.std.proofs.Common.{sym, ap, subst, ◌∙◌}
 use Rattle.jop_base.proofs.KeyedLaws.{IsSorted-cut, IsSorted-put, at-cut, at-cut_other, at-put, at-put_same, same_text}
 use Rattle.jop_base.specs.Keyed.{IsSorted, at, cut}
-use Rattle.licences.specs.Checks.{is_pending}
+use Rattle.law_licences.specs.Checks.{is_pending}
 use Rattle.local_store.specs.Changing.{after, conflicted, noted_if, uploaded, with_remote, with_row, without_row}
 use Rattle.local_store.specs.Rows.{item_of, row_id}
 use Rattle.local_store.specs.Tables.{row_at}

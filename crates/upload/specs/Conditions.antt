@@ -1,11 +1,12 @@
 -- What an upload asks of the client.
 use Rattle.std.specs.Prelude.{ℕ, ◌≡◌, ◌⊎◌, List, [], Bool, true, false, ◌&&◌, is_none, Option, Some, None}
-use Rattle.desk.specs.Desks.{DeskNow}
-use Rattle.licences.specs.Puts.{has_put}
-use Rattle.licences.specs.Trails.{session_calls}
+use Rattle.client.specs.Sites.{SiteNow}
+use Rattle.law_licences.specs.Puts.{has_put}
+use Rattle.law_licences.specs.Trails.{session_calls}
 use Rattle.local_store.specs.Tables.{row_at}
 use Rattle.local_store.specs.declared.row.Row.{Row}
 use Rattle.local_store.specs.declared.tables.Tables.{Tables}
+use Rattle.session.specs.Work.{IsAtWork, WorkNow}
 use Rattle.upload.specs.Uploading.{pending_ids}
 
 -- Files are put as they are, as no key is known here; or none of these is to be put.
@@ -17,12 +18,18 @@ abbrev pub IsReadable : Tables → Type 0
 IsReadable t = CanPut t (pending_ids t)
 
 -- the row waits, and its file was never there
-abbrev pub is_new : Option Row → Bool
-is_new None = false
-is_new (Some r) = r.pending && is_none r.base
+abbrev pub is_new_row : Option Row → Bool
+is_new_row None = false
+is_new_row (Some r) = r.pending && is_none r.base
 
 -- no file of such a row was put in this session, so the bytes of a resource still come before it
-abbrev pub AreUnput : DeskNow → Type 0
+abbrev pub AreUnput : SiteNow → Type 0
 AreUnput d =
-    (id : List ℕ) → is_new (row_at d.tables id) ≡ true
+    (id : List ℕ) → is_new_row (row_at d.tables id) ≡ true
     → has_put id (session_calls d.line.trail) ≡ false
+
+-- A session may upload: it is at work, all rows that wait may be put, and no file of a new one was put in it.
+pub record CanUpload (w : WorkNow) : Type 0 where
+  pub ready : IsAtWork w
+  pub readable : IsReadable w.site.tables
+  pub first : AreUnput w.site

@@ -5,11 +5,11 @@ use Rattle.jop_base.specs.declared.path.Path.TheVariants.{Item, Blob}
 use Rattle.jop_target.specs.declared.call.Call.{Call}
 use Rattle.jop_target.specs.declared.call.Call.TheVariants.{Delete}
 use Rattle.jop_target.specs.declared.reply.Reply.{Reply}
-use Rattle.licences.specs.Deletions.{IsDeleted}
+use Rattle.law_licences.specs.Deletions.{IsDeleted}
 use Rattle.local_store.specs.declared.change.Change.TheVariants.{Dropped}
 use Rattle.local_store.specs.declared.deletion.Deletion.{Deletion}
-use Rattle.session_steps.specs.Parts.{Changes, ForEach, Hears, Nothing, Part, Then}
-use Rattle.session_steps.specs.Sessions.{is_data}
+use Rattle.session.specs.Parts.{Changes, ForEach, Hears, Nothing, Part, Then}
+use Rattle.session.specs.Sessions.{is_data}
 
 -- a delete of an item or of the bytes of a resource
 abbrev pub is_deletion : Call → Bool

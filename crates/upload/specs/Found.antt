@@ -1,25 +1,52 @@
 -- A row that waits, and what its file is to it.
-use Rattle.std.specs.Prelude.{◌≡◌, true, Some}
-use Rattle.desk.specs.Desks.{DeskNow}
+use Rattle.std.specs.Prelude.{ℕ, ◌≡◌, List, true, false, is_none, Option, Some}
+use Rattle.client.specs.Sites.{SiteNow}
 use Rattle.jop_base.specs.declared.path.Path.TheVariants.{Item}
 use Rattle.jop_target.specs.declared.call.Call.TheVariants.{Get}
 use Rattle.jop_target.specs.declared.reply.Reply.{Reply}
-use Rattle.licences.specs.Checks.{last_on}
-use Rattle.licences.specs.Trails.{session_calls}
-use Rattle.licences.specs.Views.{Heard}
+use Rattle.law_licences.specs.Checks.{last_on}
+use Rattle.law_licences.specs.Conflicts.{MayConflict}
+use Rattle.law_licences.specs.Copies.{copies_for}
+use Rattle.law_licences.specs.Puts.{has_put}
+use Rattle.law_licences.specs.Trails.{session_calls}
+use Rattle.law_licences.specs.Views.{Heard, Shown}
+use Rattle.local_store.specs.Sound.{IsRemoteOf}
 use Rattle.local_store.specs.Tables.{row_at}
+use Rattle.local_store.specs.declared.content.Content.{Content}
 use Rattle.local_store.specs.declared.row.Row.{Row}
-use Rattle.session_steps.specs.Findings.{finding_of}
-use Rattle.session_steps.specs.declared.finding.Finding.{Finding}
+use Rattle.session.specs.Findings.{IsSoundFinding, finding_of}
+use Rattle.session.specs.Work.{view_of}
+use Rattle.session.specs.declared.finding.Finding.{Finding}
 
 -- a get of the row's file
-abbrev pub got : Row → Reply → Heard
-got row reply = record { call = Get (Item row.id); reply = Some reply }
+abbrev pub row_file_got : Row → Reply → Heard
+row_file_got row reply = record { call = Get (Item row.id); reply = Some reply }
 
--- the row waits, and the session's last call on its file got this
-pub record IsFound (row : Row) (finding : Finding) (d : DeskNow) : Type 0 where
+-- the row waits, and the session's last call on its file row_file_got this
+pub record IsFound (row : Row) (finding : Finding) (d : SiteNow) : Type 0 where
   pub reply : Reply
   pub found : finding ≡ finding_of row.id row.base reply
   pub at : row_at d.tables row.id ≡ Some row
   pub pending : row.pending ≡ true
-  pub last : last_on row.id (session_calls d.line.trail) ≡ Some (got row reply)
+  pub last : last_on row.id (session_calls d.line.trail) ≡ Some (row_file_got row reply)
+
+-- The row waits, and may be put: files are put as they are, as no key is known here, and no file of it was put in this
+-- session if it is new.
+pub record IsUploadable (row : Row) (d : SiteNow) : Type 0 where
+  pub at : row_at d.tables row.id ≡ Some row
+  pub pending : row.pending ≡ true
+  pub readable : d.tables.info.e2ee.value ≡ false
+  pub unput : is_none row.base ≡ true → has_put row.id (session_calls d.line.trail) ≡ false
+
+-- the session's last call on its file row_file_got this, which may take its place
+pub record IsSeen (row : Row) (finding : Finding) (d : SiteNow) : Type 0 where
+  pub found : IsFound row finding d
+  pub sound : IsSoundFinding row.id finding
+  pub readable : d.tables.info.e2ee.value ≡ false
+  pub unput : is_none row.base ≡ true → has_put row.id (session_calls d.line.trail) ≡ false
+
+-- the row may give way to this, or to nothing, whatever the session was shown
+pub record MayYield (row : Row) (remote : Option (List ℕ × Content)) (d : SiteNow) : Type 0 where
+  pub sound : IsRemoteOf row.id remote
+  pub may : (shown : Option Shown)
+      → MayConflict (view_of shown d) row.id remote (copies_for row.content remote)

@@ -1,16 +1,17 @@
 -- Which rows are settled.
 use Rattle.std.specs.Prelude.{ℕ, ◌≡◌, ◌⊎◌, List, [], ◌∷◌, true, None, Some}
 use Rattle.delta.specs.Order.{has}
-use Rattle.desk.specs.Desks.{DeskNow}
+use Rattle.client.specs.Sites.{SiteNow}
 use Rattle.jop_base.specs.declared.path.Path.TheVariants.{Item}
 use Rattle.jop_target.specs.declared.call.Call.TheVariants.{Get}
 use Rattle.jop_target.specs.declared.reply.Reply.{Reply}
 use Rattle.jop_target.specs.declared.reply.Reply.TheVariants.{Got, TooLarge}
-use Rattle.licences.specs.Checks.{is_pending}
-use Rattle.licences.specs.Items.{remote_in}
-use Rattle.licences.specs.Trails.{session_calls}
-use Rattle.licences.specs.Views.{Heard}
+use Rattle.law_licences.specs.Checks.{is_pending}
+use Rattle.law_licences.specs.Items.{remote_in}
+use Rattle.law_licences.specs.Trails.{session_calls}
+use Rattle.law_licences.specs.Views.{Heard}
 use Rattle.local_store.specs.Tables.{row_at}
+use Rattle.upload.specs.Conditions.{AreUnput, CanPut}
 
 -- the file is no item of this id, or too large
 abbrev pub IsNoItem : List ℕ → Reply → Type 0
@@ -30,15 +31,21 @@ WasUnreadable id [] = ⊥
 WasUnreadable id (h ∷ hs) = HasNoItem id h ⊎ WasUnreadable id hs
 
 -- the row doesn't wait, or its file was seen in this session and can't be read
-abbrev pub IsSettled : List ℕ → DeskNow → Type 0
+abbrev pub IsSettled : List ℕ → SiteNow → Type 0
 IsSettled id d =
     is_pending (row_at d.tables id) ≡ true → WasUnreadable id (session_calls d.line.trail)
 
-abbrev pub AreSettled : DeskNow → Type 0
+abbrev pub AreSettled : SiteNow → Type 0
 AreSettled d = (id : List ℕ) → IsSettled id d
 
 -- each row that waits is one of these, or was seen so
-abbrev pub AreLeft : DeskNow → List (List ℕ) → Type 0
+abbrev pub AreLeft : SiteNow → List (List ℕ) → Type 0
 AreLeft d ids =
     (id : List ℕ) → is_pending (row_at d.tables id) ≡ true
     → (has ids id ≡ true) ⊎ WasUnreadable id (session_calls d.line.trail)
+
+-- these may be put, no file of a new row was put in this session, and each row that waits is one of them or settled
+pub record AreUploadable (ids : List (List ℕ)) (d : SiteNow) : Type 0 where
+  pub readable : CanPut d.tables ids
+  pub unput : AreUnput d
+  pub left : AreLeft d ids

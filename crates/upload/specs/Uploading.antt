@@ -1,5 +1,5 @@
 -- Items that wait are uploaded, or give way to the work of other clients.
-use Rattle.std.specs.Prelude.{ℕ, ◌⊎◌, List, length, map, filter, Bool, true, false, ◌&&◌, is_none, Option, Some, None, option_map}
+use Rattle.std.specs.Prelude.{ℕ, ◌⊎◌, List, length, map, filter, Bool, true, false, ◌&&◌, is_none, Option, Some, None, option_map, Result}
 use Rattle.conflicts.specs.Rules.{conflict_change, folder_gone_changes}
 use Rattle.item_text.specs.Grammar.{written}
 use Rattle.jop_base.specs.Keyed.{at}
@@ -8,20 +8,23 @@ use Rattle.jop_target.specs.declared.call.Call.{Call}
 use Rattle.jop_target.specs.declared.call.Call.TheVariants.{Get, Put, PutBlob}
 use Rattle.jop_target.specs.declared.reply.Reply.{Reply}
 use Rattle.jop_target.specs.declared.reply.Reply.TheVariants.{Done}
-use Rattle.licences.specs.Items.{is_folder, is_resource}
-use Rattle.table_keeper.specs.Keepers.{Kept, blob_id}
+use Rattle.law_licences.specs.Items.{is_folder, is_resource}
+use Rattle.keeper.specs.Keepers.{Kept, blob_id}
 use Rattle.local_store.specs.Rows.{item_of, row_id}
 use Rattle.local_store.specs.Tables.{row_at}
-use Rattle.table_keeper.specs.declared.blob.Blob.{Blob}
+use Rattle.keeper.specs.declared.blob.Blob.{Blob}
 use Rattle.local_store.specs.declared.change.Change.TheVariants.{Uploaded}
 use Rattle.local_store.specs.declared.content.Content.{Content}
 use Rattle.local_store.specs.declared.row.Row.{Row}
 use Rattle.local_store.specs.declared.tables.Tables.{Tables}
-use Rattle.session_steps.specs.Asking.{IsAnswer}
-use Rattle.session_steps.specs.Findings.{finding_of, waiting}
-use Rattle.session_steps.specs.Parts.{Changes, ForEach, Hears, Nothing, Part, Then}
-use Rattle.session_steps.specs.declared.finding.Finding.{Finding}
-use Rattle.session_steps.specs.declared.finding.Finding.TheVariants.{Same, Other, Missing, Unreadable}
+use Rattle.conflicts.specs.declared.error.StepErr.{StepErr}
+use Rattle.session.specs.Asking.{IsAnswer}
+use Rattle.session.specs.Doing.{Ends}
+use Rattle.session.specs.Work.{WorkNow}
+use Rattle.session.specs.Findings.{finding_of, waiting}
+use Rattle.session.specs.Parts.{Changes, ForEach, Hears, Nothing, Part, Then}
+use Rattle.session.specs.declared.finding.Finding.{Finding}
+use Rattle.session.specs.declared.finding.Finding.TheVariants.{Same, Other, Missing, Unreadable}
 
 -- an upload gets and puts items, and puts the bytes of resources
 abbrev pub is_upload : Call → Bool
@@ -37,8 +40,8 @@ abbrev pub blobs_of : Option Kept → Option (List Blob)
 blobs_of kept = option_map (λ (k : Kept). k.blobs) kept
 
 -- those of one resource
-abbrev pub bytes_of : List Blob → List ℕ → Option (List ℕ)
-bytes_of blobs id = option_map (λ (b : Blob). b.bytes) (at blob_id blobs id)
+abbrev pub blob_bytes : List Blob → List ℕ → Option (List ℕ)
+blob_bytes blobs id = option_map (λ (b : Blob). b.bytes) (at blob_id blobs id)
 
 -- these bytes of a resource are put, if there are any
 abbrev pub PutsThese : List ℕ → Option (List ℕ) → Part
@@ -47,7 +50,7 @@ PutsThese id (Some bytes) v ds = (now : ℕ) × Hears (PutBlob id (length bytes)
 
 -- those that are kept are put, if the keeper tells; else some, or none
 abbrev pub PutsKept : Option (List Blob) → List ℕ → Part
-PutsKept (Some blobs) id v ds = PutsThese id (bytes_of blobs id) v ds
+PutsKept (Some blobs) id v ds = PutsThese id (blob_bytes blobs id) v ds
 PutsKept None id v ds =
     Nothing v ds ⊎ ((len : ℕ) × ((now : ℕ) × Hears (PutBlob id len) (Done now) v ds))
 
@@ -61,6 +64,13 @@ PutsIfNew blobs id false = Nothing
 -- the text is put
 abbrev pub PutsText : List ℕ → List ℕ → Part
 PutsText id text v ds = (now : ℕ) × Hears (Put (Item id) text) (Done now) v ds
+
+-- the bytes of the row's own, if it is a new resource, and the text of its item
+abbrev pub PutsBytes : Option (List Blob) → Row → Part
+PutsBytes blobs row = PutsIfNew blobs row.id (is_new_resource row)
+
+abbrev pub PutsTextOf : Row → Part
+PutsTextOf row = PutsText row.id (written (item_of row.content))
 
 -- the bytes of a new resource, then the item's text, and then the row is uploaded
 abbrev pub Puts : Option (List Blob) → Row → Part
@@ -113,3 +123,11 @@ pending_ids t = map row_id (filter (λ (r : Row). r.pending) t.rows)
 -- all of them
 abbrev pub Uploads : Option Kept → Part
 Uploads kept v ds = ForEach (UploadsOne (blobs_of kept)) (pending_ids v.tables) v ds
+
+-- ---- what it comes to
+
+-- it was this part of an upload, told by the bytes that were kept before it, or it gave nothing
+abbrev pub EndsUpload : (Option (List Blob) → Part) → WorkNow → Result (Unit {0}) StepErr →
+    WorkNow → Type 0
+EndsUpload P old result new =
+    Ends (P (blobs_of old.site.keeper.kept)) is_upload old result new

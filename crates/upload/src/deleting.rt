@@ -4,17 +4,17 @@ ghost use Rattle.jop_target.specs.declared.call.Call.TheVariants.{Delete};
 ghost use Rattle.lease.specs.Standing.{IsSameBut};
 ghost use Rattle.local_store.specs.Tables.{deletion_at};
 ghost use Rattle.local_store.specs.declared.deletion.Deletion.{Deletion};
-ghost use Rattle.session_steps.specs.Doing.{Ends};
-ghost use Rattle.session_steps.specs.Sessions.{MayAsk, is_data};
-ghost use Rattle.session_steps.specs.Work.{IsAtWork, IsReady, work};
+ghost use Rattle.session.specs.Doing.{Ends};
+ghost use Rattle.session.specs.Sessions.{MayAsk, is_data};
+ghost use Rattle.session.specs.Work.{IsAtWork, IsReady, work};
 
+use client::Client;
 use conflicts::{StepErr, SyncReport};
-use desk::Desk;
 use jop_base::{Copied, Path};
 use jop_target::Call;
 use lease::Lease;
 use local_store::{Change, Deletion};
-use session_steps::{Hand, Session};
+use session::{Hand, Session};
 use std::alloc::Global;
 
 /// Deletes a file of an item, or the bytes of a resource.
@@ -31,7 +31,7 @@ fn delete<W: Session>(alloc: Global, s: &mut W, path: Path) -> Result<(), StepEr
 /// Deletes the bytes of what was a resource.
 fn delete_bytes<W: Session>(alloc: Global, s: &mut W, deletion: &Deletion) -> Result<(), StepErr>
     requires ready { IsAtWork (W.now s.old) }
-    requires at { deletion_at (W.now s.old).desk.tables deletion.now.id ≡ Some deletion.now }
+    requires at { deletion_at (W.now s.old).site.tables deletion.now.id ≡ Some deletion.now }
 
     ensures ends { Ends (DeletesBytes deletion.now deletion.now.resource) is_deletion (W.now s.old)
         result (W.now s.new) }
@@ -46,7 +46,7 @@ fn delete_bytes<W: Session>(alloc: Global, s: &mut W, deletion: &Deletion) -> Re
 fn delete_one<W: Session>(alloc: Global, s: &mut W, deletion: &Deletion) -> Result<(), StepErr>
     requires ready { IsAtWork (W.now s.old) }
     requires first { (rest : List Deletion)
-        × ((W.now s.old).desk.tables.deletions ≡ deletion.now ∷ rest) }
+        × ((W.now s.old).site.tables.deletions ≡ deletion.now ∷ rest) }
 
     ensures ends { Ends (DeletesOne deletion.now) is_deletion (W.now s.old) result (W.now s.new) }
 {
@@ -58,7 +58,7 @@ fn delete_one<W: Session>(alloc: Global, s: &mut W, deletion: &Deletion) -> Resu
 /// Does what is to be done for each of these deletions, which are all that there are.
 fn delete_each<W: Session>(alloc: Global, s: &mut W, deletions: &[Deletion]) -> Result<(), StepErr>
     requires ready { IsAtWork (W.now s.old) }
-    requires all { (W.now s.old).desk.tables.deletions ≡ deletions.now }
+    requires all { (W.now s.old).site.tables.deletions ≡ deletions.now }
 
     ensures ends { Ends Deletes is_deletion (W.now s.old) result (W.now s.new) }
 {
@@ -78,21 +78,21 @@ pub fn delete_listed<W: Session>(alloc: Global, s: &mut W) -> Result<(), StepErr
     delete_each(alloc, s, deletions.as_slice())
 }
 
-/// The same at a desk, under a lease, counted in a report.
-pub fn delete_all<S: Desk>(
+/// The same for a client, under a lease, counted in a report.
+pub fn delete_all<S: Client>(
     alloc: Global,
     site: &mut S,
     lease: &mut Lease,
     report: &mut SyncReport,
 ) -> Result<(), StepErr>
-    requires ready { IsReady (S.desk site.old) lease.old }
+    requires ready { IsReady (S.site site.old) lease.old }
 
-    ensures ready { OnOk result (IsReady (S.desk site.new) lease.new) }
+    ensures ready { OnOk result (IsReady (S.site site.new) lease.new) }
     ensures lease { IsSameBut lease.old lease.new }
-    ensures none { OnOk result ((S.desk site.new).tables.deletions ≡ []) }
-    ensures deletes { Ends Deletes is_deletion (work (S.desk site.old) lease.old report.old)
-        result (work (S.desk site.new) lease.new report.new) }
-    ensures stays { S.stays site.old site.new }
+    ensures none { OnOk result ((S.site site.new).tables.deletions ≡ []) }
+    ensures deletes { Ends Deletes is_deletion (work (S.site site.old) lease.old report.old)
+        result (work (S.site site.new) lease.new report.new) }
+    ensures stays { S.place site.new ≡ S.place site.old }
 {
     let mut s = Hand {
         site: &mut *site,

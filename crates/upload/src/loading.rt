@@ -1,22 +1,21 @@
 ghost use Rattle.std.specs.Prelude.{Option};
-ghost use Rattle.licences.specs.Puts.{MayPutBlob};
-ghost use Rattle.licences.specs.Views.{Shown};
-ghost use Rattle.session_steps.specs.Doing.{Ends};
-ghost use Rattle.session_steps.specs.Work.{IsAtWork, view_of};
-ghost use Rattle.upload.specs.Uploading.{PutsKept, blobs_of, is_upload};
+ghost use Rattle.law_licences.specs.Puts.{MayPutBlob};
+ghost use Rattle.law_licences.specs.Views.{Shown};
+ghost use Rattle.session.specs.Doing.{Ends};
+ghost use Rattle.session.specs.Work.{IsAtWork, view_of};
+ghost use Rattle.upload.specs.Uploading.{EndsUpload, PutsKept, is_upload};
 
 use conflicts::StepErr;
 use jop_base::Id;
-use session_steps::Session;
+use session::Session;
 use std::alloc::Global;
 
 /// Puts the bytes of a resource that the keeper has, if it has any.
 pub(crate) fn put_bytes<W: Session>(alloc: Global, s: &mut W, id: &Id) -> Result<(), StepErr>
     requires ready { IsAtWork (W.now s.old) }
-    requires may { (shown : Option Shown) → MayPutBlob (view_of shown (W.now s.old).desk) id.now }
+    requires may { (shown : Option Shown) → MayPutBlob (view_of shown (W.now s.old).site) id.now }
 
-    ensures ends { Ends (PutsKept (blobs_of (W.now s.old).desk.keeper.kept) id.now) is_upload
-        (W.now s.old) result (W.now s.new) }
+    ensures ends { EndsUpload (λ blobs. PutsKept blobs id.now) (W.now s.old) result (W.now s.new) }
 {
     let loaded = s.load(alloc, id)?;
     match loaded {

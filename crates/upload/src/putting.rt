@@ -1,13 +1,11 @@
-ghost use Rattle.std.specs.Prelude.{◌≡◌, IfOk, false, is_none, true};
+ghost use Rattle.std.specs.Prelude.{◌≡◌, IfOk, false};
 ghost use Rattle.item_text.specs.Grammar.{written};
-ghost use Rattle.licences.specs.Puts.{has_put};
-ghost use Rattle.licences.specs.Trails.{session_calls};
 ghost use Rattle.local_store.specs.Rows.{item_of};
-ghost use Rattle.session_steps.specs.Doing.{Ends, EndsIn};
-ghost use Rattle.session_steps.specs.Work.{IsAtWork};
-ghost use Rattle.session_steps.specs.declared.finding.Finding.TheVariants.{Same};
-ghost use Rattle.upload.specs.Found.{IsFound};
-ghost use Rattle.upload.specs.Uploading.{Puts, PutsIfNew, PutsText, blobs_of, is_new_resource, is_upload};
+ghost use Rattle.session.specs.Doing.{Ends, EndsIn};
+ghost use Rattle.session.specs.Work.{IsAtWork};
+ghost use Rattle.session.specs.declared.finding.Finding.TheVariants.{Same};
+ghost use Rattle.upload.specs.Found.{IsFound, IsSeen};
+ghost use Rattle.upload.specs.Uploading.{EndsUpload, Puts, PutsBytes, PutsTextOf, is_new_resource, is_upload};
 
 use crate::loading::put_bytes;
 use conflicts::StepErr;
@@ -16,7 +14,7 @@ use item_text::write_item;
 use jop_base::{Bytes, Copied, Path};
 use jop_target::Call;
 use local_store::{Change, Row, has_kind};
-use session_steps::Session;
+use session::Session;
 use std::alloc::Global;
 
 /// Whether the row is a resource that was never on the target.
@@ -29,12 +27,9 @@ fn is_new_resource(row: &Row) -> bool
 /// Puts the bytes of a new resource.
 fn put_if_new<W: Session>(alloc: Global, s: &mut W, row: &Row) -> Result<(), StepErr>
     requires ready { IsAtWork (W.now s.old) }
-    requires found { IsFound row.now Same (W.now s.old).desk }
-    requires unput { is_none row.now.base ≡ true
-        → has_put row.now.id (session_calls (W.now s.old).desk.line.trail) ≡ false }
+    requires seen { IsSeen row.now Same (W.now s.old).site }
 
-    ensures ends { Ends (PutsIfNew (blobs_of (W.now s.old).desk.keeper.kept) row.now.id
-        (is_new_resource row.now)) is_upload (W.now s.old) result (W.now s.new) }
+    ensures ends { EndsUpload (λ blobs. PutsBytes blobs row.now) (W.now s.old) result (W.now s.new) }
 {
     if !is_new_resource(row) {
         return Ok(());
@@ -45,11 +40,10 @@ fn put_if_new<W: Session>(alloc: Global, s: &mut W, row: &Row) -> Result<(), Ste
 /// Puts the text of a row's item over a file that is as the client left it, and gives the text back.
 fn put_text<W: Session>(alloc: Global, s: &mut W, row: &Row) -> Result<Bytes, StepErr>
     requires ready { IsAtWork (W.now s.old) }
-    requires found { IsFound row.now Same (W.now s.old).desk }
-    requires readable { (W.now s.old).desk.tables.info.e2ee.value ≡ false }
+    requires found { IsFound row.now Same (W.now s.old).site }
+    requires readable { (W.now s.old).site.tables.info.e2ee.value ≡ false }
 
-    ensures ends { Ends (PutsText row.now.id (written (item_of row.now.content))) is_upload
-        (W.now s.old) result (W.now s.new) }
+    ensures ends { Ends (PutsTextOf row.now) is_upload (W.now s.old) result (W.now s.new) }
     ensures text { IfOk result (λ text. text ≡ written (item_of row.now.content)) }
 {
     let text = write_item(alloc, row.content.item())?;
@@ -61,13 +55,9 @@ fn put_text<W: Session>(alloc: Global, s: &mut W, row: &Row) -> Result<Bytes, St
 /// Uploads a row whose file is as the client left it.
 pub(crate) fn put_row<W: Session>(alloc: Global, s: &mut W, row: &Row) -> Result<(), StepErr>
     requires ready { IsAtWork (W.now s.old) }
-    requires found { IsFound row.now Same (W.now s.old).desk }
-    requires readable { (W.now s.old).desk.tables.info.e2ee.value ≡ false }
-    requires unput { is_none row.now.base ≡ true
-        → has_put row.now.id (session_calls (W.now s.old).desk.line.trail) ≡ false }
+    requires seen { IsSeen row.now Same (W.now s.old).site }
 
-    ensures ends { Ends (Puts (blobs_of (W.now s.old).desk.keeper.kept) row.now) is_upload
-        (W.now s.old) result (W.now s.new) }
+    ensures ends { EndsUpload (λ blobs. Puts blobs row.now) (W.now s.old) result (W.now s.new) }
 {
     put_if_new(alloc, s, row)?;
     let text = put_text(alloc, s, row)?;

@@ -1,20 +1,16 @@
-ghost use Rattle.std.specs.Prelude.{◌≡◌, Option, None};
-ghost use Rattle.licences.specs.Conflicts.{MayConflict};
-ghost use Rattle.licences.specs.Copies.{copies_for};
-ghost use Rattle.licences.specs.Views.{Shown};
-ghost use Rattle.local_store.specs.Sound.{IsRemoteOf};
-ghost use Rattle.session_steps.specs.Doing.{Ends};
-ghost use Rattle.session_steps.specs.Parts.{Then};
-ghost use Rattle.session_steps.specs.Work.{IsAtWork, view_of};
-ghost use Rattle.session_steps.specs.declared.finding.Finding.TheVariants.{Missing};
-ghost use Rattle.upload.specs.Found.{IsFound};
+ghost use Rattle.std.specs.Prelude.{None};
+ghost use Rattle.session.specs.Doing.{Ends};
+ghost use Rattle.session.specs.Parts.{Then};
+ghost use Rattle.session.specs.Work.{IsAtWork};
+ghost use Rattle.session.specs.declared.finding.Finding.TheVariants.{Missing};
+ghost use Rattle.upload.specs.Found.{IsFound, MayYield};
 ghost use Rattle.upload.specs.Uploading.{Clears, Yields, is_upload};
 
 use crate::moving::clear;
 use conflicts::{StepErr, conflict_change};
 use jop_base::Bytes;
 use local_store::{Content, Row};
-use session_steps::Session;
+use session::Session;
 use std::alloc::Global;
 
 /// Lets a row give way to what its file holds, or to nothing.
@@ -25,9 +21,7 @@ pub(crate) fn give_way<W: Session>(
     remote: Option<(Bytes, Content)>,
 ) -> Result<(), StepErr>
     requires ready { IsAtWork (W.now s.old) }
-    requires sound { IsRemoteOf row.now.id remote }
-    requires may { (shown : Option Shown) → MayConflict (view_of shown (W.now s.old).desk)
-        row.now.id remote (copies_for row.now.content remote) }
+    requires may { MayYield row.now remote (W.now s.old).site }
 
     ensures ends { Ends (Yields row.now remote) is_upload (W.now s.old) result (W.now s.new) }
 {
@@ -37,7 +31,7 @@ pub(crate) fn give_way<W: Session>(
 /// Lets a row go whose file is gone, and before it the notes in it, if it is a folder.
 pub(crate) fn let_go<W: Session>(alloc: Global, s: &mut W, row: &Row) -> Result<(), StepErr>
     requires ready { IsAtWork (W.now s.old) }
-    requires found { IsFound row.now Missing (W.now s.old).desk }
+    requires found { IsFound row.now Missing (W.now s.old).site }
 
     ensures ends { Ends (Then (Clears row.now) (Yields row.now None)) is_upload (W.now s.old) result
         (W.now s.new) }

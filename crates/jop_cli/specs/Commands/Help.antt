@@ -1,7 +1,8 @@
 -- `help`: how the program is called.
 use Rattle.std.specs.Prelude.{◌≡◌, Ok}
-use Rattle.exit_status.specs.Outcomes.{Outcome}
-use Rattle.exit_status.specs.Statuses.{usage_line}
+use Rattle.client.specs.Outside.{OutsideNow}
+use Rattle.jop_status.specs.Outcomes.{Outcome}
+use Rattle.jop_status.specs.Statuses.{usage_line}
 
-abbrev pub Helps : Outcome → Type 0
-Helps outcome = outcome ≡ Ok usage_line
+abbrev pub Helps : OutsideNow → Outcome → OutsideNow → Type 0
+Helps before outcome after = (outcome ≡ Ok usage_line) × (after ≡ before)

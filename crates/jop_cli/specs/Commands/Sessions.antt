@@ -1,25 +1,18 @@
 -- Commands that run a session on a target.
-use Rattle.std.specs.Prelude.{ℕ, ◌≡◌, List, All, Option, Some, None, Result, Ok, Err}
-use Rattle.exclusion.specs.Exclusive.{KeepsExclusive}
-use Rattle.exit_status.specs.Outcomes.{Outcome}
-use Rattle.exit_status.specs.Refusals.{session_status}
-use Rattle.exit_status.specs.declared.status.Status.{Status}
-use Rattle.exit_status.specs.declared.status.Status.TheVariants as statuses
+use Rattle.std.specs.Prelude.{ℕ, ◌≡◌, ◌⊎◌, List, All, Bool, true, false, Option, Some, None, Result, Ok, Err}
+use Rattle.client.specs.Outside.{OutsideNow}
+use Rattle.client.specs.Owning.{NamesClient, Owns}
+use Rattle.client.specs.declared.own_err.OwnErr.{OwnErr}
 use Rattle.jop_base.specs.declared.lock_name.LockKind.{LockKind}
-use Rattle.jop_base.specs.declared.lock_name.LockKind.TheVariants.{Exclusive}
-use Rattle.jop_target.specs.Replies.{TargetNow}
-use Rattle.jop_target.specs.Trail.{LineNow}
+use Rattle.jop_status.specs.Outcomes.{Outcome}
+use Rattle.jop_status.specs.Refusals.{own_status, session_status}
+use Rattle.jop_status.specs.declared.status.Status.{Status}
+use Rattle.jop_status.specs.declared.status.Status.TheVariants as statuses
 use Rattle.jop_target.specs.declared.event.Event.{Event}
 use Rattle.jop_target.specs.declared.event.Event.TheVariants.{Made}
-use Rattle.lease.specs.Blocked.{NamesALiveLock}
-use Rattle.lease.specs.Exclusion.{KeepsApart}
+use Rattle.keeper.specs.Keepers.{KeeperNow}
 use Rattle.lease.specs.declared.lock.Lock.{Lock}
-use Rattle.table_keeper.specs.Keepers.{KeeperNow}
-use Rattle.site.specs.Owning.{NamesClient, OwnNow, own}
 use Rattle.sync_run.specs.declared.session_err.SessionErr.{SessionErr}
-use Rattle.target_upgrade.specs.Course.{ObeysLease}
-use Rattle.upgrade_laws.specs.Runs.{LeavesUpgraded}
-use Rattle.jop_cli.specs.Outside.{Outside, Ran}
 
 -- ---- what a command comes to
 
@@ -27,22 +20,6 @@ use Rattle.jop_cli.specs.Outside.{Outside, Ran}
 abbrev pub outcome_by : {T : Type 0} → (T → List ℕ) → Result T SessionErr → Outcome
 outcome_by text (Ok value) = Ok (text value)
 outcome_by text (Err error) = Err (session_status error)
-
--- ---- a client's own side
-
--- a client's own side, and the target
-pub record ClientNow : Type 0 where
-  pub own : OwnNow
-  pub target : TargetNow
-
-abbrev pub line_at : OwnNow → TargetNow → LineNow
-line_at own target = record { trail = own.site.trail; target = target }
-
-abbrev pub side : Outside → Ran → ClientNow
-side outside ran = record {
-  own = own outside.keeper outside.entropy ran.trail ran.made;
-  target = outside.target;
-}
 
 -- ---- a trail without a session
 
@@ -66,27 +43,38 @@ abbrev pub IsClientOf : Option (List ℕ) → KeeperNow → List ℕ → Type 0
 IsClientOf (Some named) keeper client = client ≡ named
 IsClientOf None keeper client = NamesClient keeper.kept (Some client)
 
--- ---- what holds in every history
+-- it isn't known, and nothing was run
+pub record IsUnowned (before : OutsideNow) (outcome : Outcome) (after : OutsideNow) : Type 0 where
+  pub error : OwnErr
+  pub owns : Owns before (Err error) after
+  pub is : outcome ≡ Err (own_status error)
 
--- a session that went well leaves the upgraded target, if it is an upgrade
-abbrev pub Redoes : LockKind → List ℕ → List Event → Status → Type 0
-Redoes Exclusive client events statuses.Ok = LeavesUpgraded client events
-Redoes Exclusive client events statuses.SinkFault = LeavesUpgraded client events
-Redoes kind client events status = Unit {0}
-
--- What is promised of the session that ends in this status, whatever history its events are the
--- client's last part of.
-pub record KeepsLease (kind : LockKind) (client : List ℕ) (events : List Event) (status : Status)
+-- it is known, or was named, and then it ran this
+pub record OwnRan {R : Type 0} (Ran : List ℕ → OutsideNow → R → OutsideNow → Type 0)
+    (told : R → Outcome) (before : OutsideNow) (outcome : Outcome) (after : OutsideNow)
     : Type 0 where
-  -- its locks are put, renewed and deleted in turn, and nothing else is called than its lease allows
-  pub obeys : ObeysLease client events
-  -- no other client's write falls within an upgrade, and no two upgrades overlap
-  pub apart : KeepsApart client events
-  -- and each write lands on the version that its session has read, if the other clients do under
-  -- their leases what is allowed
-  pub exclusive : KeepsExclusive client events
-  -- the lock that a busy answer names stood in the way, live, with that stamp
-  pub busy : (lock : Lock) (now : ℕ) → status ≡ statuses.Busy lock now →
-      NamesALiveLock kind client events lock now
-  -- done once, or behind an upgrade that was stopped anywhere, it leaves the upgraded target
-  pub redone : Redoes kind client events status
+  pub client : List ℕ
+  pub named : OutsideNow
+  pub owns : Owns before (Ok client) named
+  pub result : R
+  pub ran : Ran client named result after
+  pub is : outcome ≡ told result
+
+-- what a command comes to that runs this as the client that the tables name
+abbrev pub OwnRuns : {R : Type 0} → (List ℕ → OutsideNow → R → OutsideNow → Type 0) →
+    (R → Outcome) → OutsideNow → Outcome → OutsideNow → Type 0
+OwnRuns Ran told before outcome after =
+    IsUnowned before outcome after ⊎ OwnRan Ran told before outcome after
+
+-- ---- how a session is told
+
+-- the lock that an exit status says is in the way, and the moment at which it was seen
+abbrev pub lock_named : Status → Option (Lock × ℕ)
+lock_named (statuses.Busy lock now) = Some (lock, now)
+lock_named status = None
+
+-- whether an exit status says that the command's session went well
+abbrev pub went_well : Status → Bool
+went_well statuses.Ok = true
+went_well statuses.SinkFault = true
+went_well status = false

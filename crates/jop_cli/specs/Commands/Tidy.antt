@@ -1,9 +1,10 @@
 -- `tidy`: the canonical text of the item that the input reads to.
 use Rattle.std.specs.Prelude.{ℕ, ◌+◌, ◌<◌, ◌≤◌, ◌≡◌, ◌⊎◌, List, length}
 use Rattle.std.specs.Prelude.{Some, Result, Ok, Err}
-use Rattle.exit_status.specs.Outcomes.{Outcome}
-use Rattle.exit_status.specs.declared.status.Status.{Status}
-use Rattle.exit_status.specs.declared.status.Status.TheVariants as statuses
+use Rattle.client.specs.Outside.{IsReadOf, OutsideNow}
+use Rattle.jop_status.specs.Outcomes.{Outcome}
+use Rattle.jop_status.specs.declared.status.Status.{Status}
+use Rattle.jop_status.specs.declared.status.Status.TheVariants as statuses
 use Rattle.item_text.specs.Canonical.{IsCanonical}
 use Rattle.item_text.specs.Grammar.{first_fault}
 use Rattle.item_text.specs.declared.bad_item.BadItem.{BadItem}
@@ -13,6 +14,7 @@ use Rattle.jop_outside.specs.Outside.{HasRisen, SourceNow}
 use Rattle.jop_outside.specs.Reading.{WasRead, WasTooLarge}
 use Rattle.jop_outside.specs.declared.reading.ReadErr.{ReadErr}
 use Rattle.jop_outside.specs.declared.reading.ReadErr.TheVariants as read_errors
+use Rattle.jop_cli.specs.Worlds.{EmitsTo}
 use Rattle.jop_cli.specs.declared.command.tidy.TidyErr.{TidyErr}
 use Rattle.jop_cli.specs.declared.command.tidy.TidyErr.TheVariants as tidy_errors
 
@@ -56,38 +58,48 @@ TidiesInput old (Err tidy_errors.NoMemory) new = Unit {0}
 
 -- ---- the command
 
-abbrev pub status_of : TidyErr → Status
-status_of tidy_errors.Fault = statuses.SourceFault
-status_of tidy_errors.TooLarge = statuses.TooLarge (TIDY_LIMIT + 1)
-status_of (tidy_errors.Bad bad) = statuses.BadItem bad
-status_of tidy_errors.NoMemory = statuses.NoMemory
+abbrev pub tidy_status : TidyErr → Status
+tidy_status tidy_errors.Fault = statuses.SourceFault
+tidy_status tidy_errors.TooLarge = statuses.TooLarge (TIDY_LIMIT + 1)
+tidy_status (tidy_errors.Bad bad) = statuses.BadItem bad
+tidy_status tidy_errors.NoMemory = statuses.NoMemory
 
-abbrev pub outcome_of : Result (List ℕ) TidyErr → Outcome
-outcome_of (Ok text) = Ok text
-outcome_of (Err error) = Err (status_of error)
+abbrev pub tidy_outcome : Result (List ℕ) TidyErr → Outcome
+tidy_outcome (Ok text) = Ok text
+tidy_outcome (Err error) = Err (tidy_status error)
 
 abbrev pub bytes_outcome : Result (List ℕ) ItemErr → Outcome
 bytes_outcome (Ok text) = Ok text
-bytes_outcome (Err error) = Err (status_of (item_err error))
+bytes_outcome (Err error) = Err (tidy_status (item_err error))
+
+-- what these bytes come to is printed, or told as a status
+pub record EmitsTidied (bytes : List ℕ) (old : OutsideNow) (status : Status) (new : OutsideNow)
+    : Type 0 where
+  pub text : Result (List ℕ) ItemErr
+  pub tidies : TidiesBytes bytes text
+  pub emits : EmitsTo (bytes_outcome text) old status new
 
 -- a text, or its failing print, stands for what was read; a refusal for itself
 abbrev pub StandsFor : Result (List ℕ) TidyErr → Status → Type 0
 StandsFor (Ok text) status = (status ≡ statuses.Ok) ⊎ (status ≡ statuses.SinkFault)
-StandsFor (Err error) status = status ≡ status_of error
+StandsFor (Err error) status = status ≡ tidy_status error
 
-pub record Tidies (old : SourceNow) (outcome : Outcome) (new : SourceNow) : Type 0 where
+-- the input is tidied, and nothing else was used
+pub record Tidies (old : OutsideNow) (outcome : Outcome) (new : OutsideNow) : Type 0 where
   pub result : Result (List ℕ) TidyErr
-  pub tidies : TidiesInput old result new
-  pub is : outcome ≡ outcome_of result
+  pub tidies : TidiesInput old.input result new.input
+  pub is : outcome ≡ tidy_outcome result
+  pub within : IsReadOf TIDY_LIMIT old.input new.input
+  pub same : new ≡ record old { input = new.input }
 
 -- ---- an input that tells its bytes
 
 -- These bytes are past the limit, or have a first fault, or are an item's text: and `TooLarge`, `Bad`
 -- and a text come exactly then, unless a read fails first or memory runs out.
-abbrev pub IsAnswerTo : List ℕ → Result (List ℕ) TidyErr → Type 0
-IsAnswerTo bytes (Err tidy_errors.TooLarge) = TIDY_LIMIT < length bytes
-IsAnswerTo bytes (Err (tidy_errors.Bad bad)) =
+abbrev pub IsTidyAnswer : List ℕ → Result (List ℕ) TidyErr → Type 0
+IsTidyAnswer bytes (Err tidy_errors.TooLarge) = TIDY_LIMIT < length bytes
+IsTidyAnswer bytes (Err (tidy_errors.Bad bad)) =
     (length bytes ≤ TIDY_LIMIT) × (first_fault bytes ≡ Some bad)
-IsAnswerTo bytes (Ok text) = (length bytes ≤ TIDY_LIMIT) × IsCanonical bytes text
-IsAnswerTo bytes (Err tidy_errors.Fault) = Unit {0}
-IsAnswerTo bytes (Err tidy_errors.NoMemory) = Unit {0}
+IsTidyAnswer bytes (Ok text) = (length bytes ≤ TIDY_LIMIT) × IsCanonical bytes text
+IsTidyAnswer bytes (Err tidy_errors.Fault) = Unit {0}
+IsTidyAnswer bytes (Err tidy_errors.NoMemory) = Unit {0}

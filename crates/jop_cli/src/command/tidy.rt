@@ -1,12 +1,12 @@
-ghost use Rattle.std.specs.Prelude.{◌≡◌, ℕ, List, Result};
-ghost use Rattle.exit_status.specs.Outcomes.{Emits, Outcome};
-ghost use Rattle.item_text.specs.declared.bad_item.ItemErr.{ItemErr};
-ghost use Rattle.jop_cli.specs.Commands.Tidy.{TIDY_LIMIT, Tidies, TidiesBytes, bytes_outcome};
-ghost use Rattle.local_commands.specs.Sparing.{IsReadOf};
+ghost use Rattle.std.specs.Prelude.{◌≡◌, Some};
+ghost use Rattle.jop_cli.specs.Commands.Tidy.{EmitsTidied, TIDY_LIMIT};
+ghost use Rattle.jop_cli.specs.Run.{Acts, IsFresh};
+ghost use Rattle.jop_words.specs.declared.verb.Verb.TheVariants as verbs;
 
-use exit_status::{Status, emit_three};
+use crate::world::World;
 use item_text::{BadItem, ItemErr, canonical_parts};
-use jop_outside::{ReadErr, Sink, Source, read_to_end};
+use jop_outside::ReadErr;
+use jop_status::Status;
 use std::alloc::Global;
 
 /// The most bytes of an input that is tidied: 16 MiB.
@@ -55,9 +55,9 @@ impl From<ItemErr> for TidyErr {
 
 impl From<TidyErr> for Status {
     ghost use Rattle.std.specs.Prelude.{◌≡◌};
-    ghost use Rattle.jop_cli.specs.Commands.Tidy.{status_of};
+    ghost use Rattle.jop_cli.specs.Commands.Tidy.{tidy_status};
 
-    ghost from_gives = { λ t e. e ≡ status_of t };
+    ghost from_gives = { λ t e. e ≡ tidy_status t };
 
     fn from(error: TidyErr) -> Status {
         match error {
@@ -71,25 +71,25 @@ impl From<TidyErr> for Status {
 
 /// Reads the text of an item from the input and prints its canonical text, with nothing added. `Fault`
 /// and `TooLarge` come before `Bad`.
-pub(crate) fn tidy<I: Source, O: Sink>(alloc: Global, input: &mut I, out: &mut O) -> Status
-    ensures tidies { (outcome : Outcome) × Tidies (I.state input.old) outcome (I.state input.new)
-        × Emits outcome (O.state out.old) result (O.state out.new) }
-    ensures input { IsReadOf TIDY_LIMIT (I.state input.old) (I.state input.new) }
+pub(crate) fn obey<W: World>(alloc: Global, world: &mut W) -> Status
+    requires { IsFresh (W.now world.old) }
+    ensures acts { Acts (Some verbs.Tidy) (W.now world.old) result (W.now world.new) }
+    ensures stays { W.place world.new ≡ W.place world.old }
 {
-    match read_to_end(alloc, input, TIDY_LIMIT) {
-        Ok(bytes) => tidy_bytes(alloc, bytes.as_slice(), out),
+    match world.read_input(alloc, TIDY_LIMIT) {
+        Ok(bytes) => tidy_bytes(alloc, world, bytes.as_slice()),
         Err(error) => Status::from(TidyErr::from(error)),
     }
 }
 
 /// The same of the bytes of an item. Its body is printed from where it stands among them.
-fn tidy_bytes<O: Sink>(alloc: Global, bytes: &[u8], out: &mut O) -> Status
-    ensures { (text : Result (List ℕ) ItemErr) × TidiesBytes bytes.now text
-        × Emits (bytes_outcome text) (O.state out.old) result (O.state out.new) }
+fn tidy_bytes<W: World>(alloc: Global, world: &mut W, bytes: &[u8]) -> Status
+    ensures tidies { EmitsTidied bytes.now (W.now world.old) result (W.now world.new) }
+    ensures stays { W.place world.new ≡ W.place world.old }
 {
     match canonical_parts(alloc, bytes) {
         Ok((before, body, behind)) => {
-            emit_three(out, before.as_slice(), body.as_bytes(), behind.as_slice())
+            world.emit_three(before.as_slice(), body.as_bytes(), behind.as_slice())
         }
         Err(error) => Status::from(TidyErr::from(error)),
     }

@@ -3,8 +3,6 @@ use Rattle.std.specs.Prelude.{ℕ, ◌≡◌, List, [], ◌∷◌, ◌++◌, Non
 use Rattle.std.specs.Fmt.{decimal}
 use Rattle.std.specs.List.{flat_map}
 use Rattle.local_store.specs.declared.conflict_note.ConflictNote.{ConflictNote}
-use Rattle.local_commands.specs.declared.local_err.LocalErr.{LocalErr}
-use Rattle.local_commands.specs.declared.local_err.LocalErr.TheVariants.{KeeperFault, NoMemory}
 use Rattle.local_commands.specs.Running.{Plan, of_tables, only_text}
 use Rattle.local_commands.specs.Lines.{title_of}
 

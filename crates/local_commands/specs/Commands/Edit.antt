@@ -7,11 +7,12 @@ use Rattle.local_changes.specs.Editing.{edited_note, plain_note}
 use Rattle.local_changes.specs.declared.store_err.StoreErr.{StoreErr}
 use Rattle.local_store.specs.Tables.{row_at}
 use Rattle.local_commands.specs.Bodies.{body_intake}
-use Rattle.local_commands.specs.Drawing.{NoId}
+use Rattle.local_commands.specs.declared.drawing.Drawing.TheVariants.{NoId}
+use Rattle.local_commands.specs.declared.work.Work.{Work}
 use Rattle.local_commands.specs.declared.local_err.LocalErr.{LocalErr}
-use Rattle.local_commands.specs.declared.local_err.LocalErr.TheVariants.{KeeperFault, SourceFault, ClockFault, NotFound, Sealed, TimeEnd, TooLarge, NotText, NoMemory}
+use Rattle.local_commands.specs.declared.local_err.LocalErr.TheVariants.{TimeEnd}
 use Rattle.local_commands.specs.Refusals.{store_refusal}
-use Rattle.local_commands.specs.Running.{Plan, Work}
+use Rattle.local_commands.specs.Running.{Plan}
 use Rattle.local_commands.specs.Saving.{saving}
 
 -- a note that was last changed at the end of time can't be changed later
@@ -40,10 +41,3 @@ edit_plan id title = record {
   draws = NoId;
   Makes = λ t input now ids made. MakesEdit id title input now (plain_note id (row_at t id)) made;
 }
-
--- ---- its parts
-
--- the note may be edited, or this refusal is the cause why not
-abbrev pub AllowsNote : List ℕ → Result Item StoreErr → Result (Unit {0}) LocalErr → Type 0
-AllowsNote id note (Ok done) = ChecksNote id note None
-AllowsNote id note (Err e) = ChecksNote id note (Some e)

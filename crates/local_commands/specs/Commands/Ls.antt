@@ -1,15 +1,13 @@
 -- `ls`: the notebooks, or the notes of one.
-use Rattle.std.specs.Prelude.{ℕ, ◌≡◌, List, [], ◌∷◌, ◌++◌, Bool, ◌&&◌, codes, if◌then◌else◌, Option, Some, None, option_map, Ok}
+use Rattle.std.specs.Prelude.{ℕ, ◌≡◌, List, [], ◌∷◌, ◌++◌, Bool, ◌&&◌, codes, if◌then◌else◌, Option, Some, None, Ok}
 use Rattle.std.specs.List.{flat_map}
 use Rattle.local_changes.specs.Lookup.{folder_kind, note_kind, has_value}
 use Rattle.local_store.specs.Rows.{item_of, has_kind}
 use Rattle.local_store.specs.declared.content.Content.{Content}
 use Rattle.local_store.specs.declared.content.Content.TheVariants as contents
 use Rattle.local_store.specs.declared.row.Row.{Row}
-use Rattle.local_commands.specs.declared.local_err.LocalErr.{LocalErr}
-use Rattle.local_commands.specs.declared.local_err.LocalErr.TheVariants.{KeeperFault, NotFound, NoMemory}
 use Rattle.local_commands.specs.Running.{Plan, of_tables, only_text}
-use Rattle.local_commands.specs.Books.{missing_book}
+use Rattle.local_commands.specs.Books.{ChecksBook}
 use Rattle.local_commands.specs.Lines.{title_of}
 
 -- ---- what is printed
@@ -42,5 +40,5 @@ listing book rows = flat_map (line_if_listed book) rows
 -- a notebook that is asked for has to be there
 abbrev pub ls_plan : Option (List ℕ) → Plan
 ls_plan book = of_tables
-    (λ t refusal. refusal ≡ option_map NotFound (missing_book t book))
+    (λ t refusal. ChecksBook t book refusal)
     (λ t made. made ≡ Ok (only_text (listing book t.rows)))

@@ -1,27 +1,32 @@
-ghost use Rattle.std.specs.Prelude.{◌≡◌};
+ghost use Rattle.std.specs.Prelude.{◌≡◌, None};
 ghost use Rattle.local_store.specs.Sound.{IsSound};
 ghost use Rattle.local_store.specs.Tables.{row_at};
-ghost use Rattle.local_commands.specs.Commands.Cat.{IsLent, cat_plan, plain_at};
-ghost use Rattle.local_commands.specs.Keeping.{AreKept};
-ghost use Rattle.local_commands.specs.Refusals.{said};
-ghost use Rattle.local_commands.specs.Running.{Around, Runs};
+ghost use Rattle.local_commands.specs.Commands.Cat.{ChecksItem, IsLent, MakesText, plain_at};
+ghost use Rattle.local_commands.specs.Stages.{ChecksOr, MakesOr};
 
 use crate::local_err::LocalErr;
+use crate::work::{Work, only_text};
 use item_text::{Item, write_item};
-use jop_base::{Bytes, Id};
+use jop_base::Id;
 use local_store::{Content, Tables};
-use std::alloc::{AllocError, Global};
+use std::alloc::Global;
 
-/// The text of the item of this id, with nothing added. `NotFound` exactly if there is no row of it,
-/// and `Sealed` exactly if that is sealed.
-pub(crate) fn cat(alloc: Global, tables: &Tables, id: Id) -> Result<Bytes, LocalErr>
-    requires { IsSound tables.now }
-    ensures { (old : Around) → AreKept old.keeper tables.now →
-        Runs (cat_plan id) old (said (λ text. text) result) old }
+/// `NotFound` exactly if there is no row of this id, and `Sealed` exactly if that is sealed.
+pub(crate) fn check_item(tables: &Tables, id: &Id) -> Result<(), LocalErr>
+    ensures { ChecksOr (ChecksItem id.now (row_at tables.now id.now)) result }
 {
-    let item = plain_at(tables, &id)?;
-    let text = write_item(alloc, item)?;
-    Ok(text)
+    plain_at(tables, id)?;
+    Ok(())
+}
+
+/// Prints the text of the item of this id, with nothing added.
+pub(crate) fn make_text(alloc: Global, tables: &Tables, id: &Id) -> Result<Work, LocalErr>
+    requires sound { IsSound tables.now }
+    requires passed { ChecksItem id.now (row_at tables.now id.now) None }
+    ensures { MakesOr (MakesText (plain_at id.now (row_at tables.now id.now))) result }
+{
+    let item = plain_at(tables, id)?;
+    Ok(only_text(alloc, write_item(alloc, item)?))
 }
 
 /// The item of an id, which must be readable.

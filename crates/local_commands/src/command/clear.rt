@@ -1,39 +1,31 @@
-ghost use Rattle.std.specs.Prelude.{◌≡◌, [], true, false};
+ghost use Rattle.std.specs.Prelude.{◌≡◌, [], Ok};
 ghost use Rattle.std.specs.List.{list_any};
-ghost use Rattle.local_commands.specs.Commands.Clear.{clear_plan, has_number};
-ghost use Rattle.local_commands.specs.Keeping.{AreKept, notes};
-ghost use Rattle.local_commands.specs.Refusals.{said};
-ghost use Rattle.local_commands.specs.Running.{Around, Runs};
+ghost use Rattle.local_store.specs.declared.change.Change.TheVariants.{Cleared};
+ghost use Rattle.local_commands.specs.Commands.Clear.{ChecksNumber, has_number};
+ghost use Rattle.local_commands.specs.Running.{one_change};
+ghost use Rattle.local_commands.specs.Stages.{ChecksOr, MakesOr};
 
-use crate::keeping::commit;
 use crate::local_err::LocalErr;
-use jop_target::Diary;
-use local_store::{Change, Changes, ConflictNote, Tables};
+use crate::work::{Work, one_change};
+use jop_base::Bytes;
+use local_store::{Change, ConflictNote, Tables};
 use std::alloc::Global;
-use table_keeper::{Keeper, KeeperErr};
 
-/// Takes out the conflict notes of this number, and prints nothing. `NoConflict` exactly if there is
-/// none.
-pub(crate) fn clear<K: Keeper>(
-    alloc: Global,
-    tables: &Tables,
-    keeper: &mut K,
-    diary: &mut Diary,
-    made: &mut Changes,
-    number: u64,
-) -> Result<(), LocalErr>
-    requires kept { AreKept (K.state keeper.old) tables.now }
-    ensures { (around : Around) →
-        Runs (clear_plan number)
-        (record around { keeper = K.state keeper.old; notes = notes made.old.changes diary.old.events })
-        (said (λ done. []) result)
-        (record around { keeper = K.state keeper.new; notes = notes made.new.changes diary.new.events }) }
+/// `NoConflict` exactly if there is no conflict note of this number.
+pub(crate) fn check_number(tables: &Tables, number: u64) -> Result<(), LocalErr>
+    ensures { ChecksOr (ChecksNumber tables.now.conflicts number) result }
 {
     if !has_number(tables.conflicts.as_slice(), number) {
         return Err(LocalErr::NoConflict(number));
     }
-    commit(alloc, keeper, diary, made, Change::Cleared(number))?;
     Ok(())
+}
+
+/// Takes out the conflict notes of this number, and prints nothing.
+pub(crate) fn make_clear(alloc: Global, number: u64) -> Result<Work, LocalErr>
+    ensures { MakesOr (λ made. made ≡ Ok (one_change (Cleared number) [])) result }
+{
+    Ok(one_change(alloc, Change::Cleared(number), Bytes::new(alloc))?)
 }
 
 fn has_number(notes: &[ConflictNote], number: u64) -> bool

@@ -1,27 +1,25 @@
-ghost use Rattle.std.specs.Prelude.{◌≡◌, ◌∷◌, ◌++◌, [], OnOk};
+ghost use Rattle.std.specs.Prelude.{◌≡◌, ◌∷◌, ◌++◌, [], OnOk, Ok};
 ghost use Rattle.std.specs.Fmt.{decimal};
-ghost use Rattle.local_commands.specs.Commands.Conflicts.{conflicts_plan};
 ghost use Rattle.local_commands.specs.Commands.Conflicts.{note_line, note_lines};
-ghost use Rattle.local_commands.specs.Keeping.{AreKept};
-ghost use Rattle.local_commands.specs.Refusals.{said};
-ghost use Rattle.local_commands.specs.Running.{Around, Runs};
+ghost use Rattle.local_commands.specs.Running.{only_text};
+ghost use Rattle.local_commands.specs.Stages.{MakesOr};
 
+use crate::lines::title_of;
 use crate::local_err::LocalErr;
-use crate::title::title_of;
+use crate::work::{Work, only_text};
 use itoa::Buffer;
 use jop_base::Bytes;
 use local_store::{ConflictNote, Tables};
 use std::alloc::{AllocError, Global};
 
-/// A line for each conflict note, in the order in which they were made: its number, the id of the
-/// item and its title, with a space between each two.
-pub(crate) fn conflicts(alloc: Global, tables: &Tables) -> Result<Bytes, LocalErr>
-    ensures { (old : Around) → AreKept old.keeper tables.now →
-        Runs conflicts_plan old (said (λ text. text) result) old }
+/// Prints a line for each conflict note, in the order in which they were made: its number, the id of
+/// the item and its title, with a space between each two.
+pub(crate) fn make_list(alloc: Global, tables: &Tables) -> Result<Work, LocalErr>
+    ensures { MakesOr (λ made. made ≡ Ok (only_text (note_lines tables.now.conflicts))) result }
 {
     let mut text = Bytes::new(alloc);
     put_notes(&mut text, tables.conflicts.as_slice())?;
-    Ok(text)
+    Ok(only_text(alloc, text))
 }
 
 fn put_notes(text: &mut Bytes, notes: &[ConflictNote]) -> Result<(), AllocError>

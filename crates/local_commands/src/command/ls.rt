@@ -1,33 +1,27 @@
-ghost use Rattle.std.specs.Prelude.{◌≡◌, ◌++◌, OnOk, codes};
+ghost use Rattle.std.specs.Prelude.{◌≡◌, ◌++◌, OnOk, Ok, codes};
 ghost use Rattle.local_changes.specs.Lookup.{has_value};
 ghost use Rattle.local_commands.specs.Commands.Ls.{is_listed, label, line_if_listed, listing};
-ghost use Rattle.local_commands.specs.Commands.Ls.{ls_plan, row_line};
-ghost use Rattle.local_commands.specs.Keeping.{AreKept};
-ghost use Rattle.local_commands.specs.Refusals.{said};
-ghost use Rattle.local_commands.specs.Running.{Around, Runs};
+ghost use Rattle.local_commands.specs.Commands.Ls.{row_line};
+ghost use Rattle.local_commands.specs.Running.{only_text};
+ghost use Rattle.local_commands.specs.Stages.{MakesOr};
 
-use crate::books::missing_book;
+use crate::lines::title_of;
 use crate::local_err::LocalErr;
-use crate::title::title_of;
+use crate::work::{Work, only_text};
 use item_kinds::Kind;
 use item_text::{Item, prop};
 use jop_base::{Bytes, Id};
 use local_store::{Content, Row, Tables, has_kind};
 use std::alloc::{AllocError, Global};
 
-/// A line for each notebook, or for each note in the notebook that is given, in the order of their
-/// ids: the id, a space and the title, or `(sealed)` in place of the title of a sealed one. `NotFound`
-/// exactly if a notebook is given and no row of its id is one.
-pub(crate) fn ls(alloc: Global, tables: &Tables, book: Option<Id>) -> Result<Bytes, LocalErr>
-    ensures { (old : Around) → AreKept old.keeper tables.now →
-        Runs (ls_plan book) old (said (λ text. text) result) old }
+/// Prints a line for each notebook, or for each note in the notebook that is given, in the order of
+/// their ids: the id, a space and the title, or `(sealed)` in place of the title of a sealed one.
+pub(crate) fn make_list(alloc: Global, tables: &Tables, book: &Option<Id>) -> Result<Work, LocalErr>
+    ensures { MakesOr (λ made. made ≡ Ok (only_text (listing book.now tables.now.rows))) result }
 {
-    if let Some(book) = missing_book(tables, &book) {
-        return Err(LocalErr::NotFound(book));
-    }
     let mut text = Bytes::new(alloc);
-    put_rows(&mut text, tables.rows.as_slice(), &book)?;
-    Ok(text)
+    put_rows(&mut text, tables.rows.as_slice(), book)?;
+    Ok(only_text(alloc, text))
 }
 
 /// Puts a line behind the text for each row that is listed.

@@ -1,36 +1,29 @@
-ghost use Rattle.std.specs.Prelude.{[]};
-ghost use Rattle.local_commands.specs.Commands.Rm.{rm_plan};
-ghost use Rattle.local_commands.specs.Keeping.{AreKept, notes};
-ghost use Rattle.local_commands.specs.Refusals.{said};
-ghost use Rattle.local_commands.specs.Running.{Around, Runs};
+ghost use Rattle.std.specs.Prelude.{◌≡◌, None};
+ghost use Rattle.local_changes.specs.Makers.{removed};
+ghost use Rattle.local_commands.specs.Commands.Rm.{ChecksRemoval, MakesRemoval};
+ghost use Rattle.local_commands.specs.Stages.{ChecksOr, MakesOr};
 
-use crate::keeping::commit;
 use crate::local_err::LocalErr;
-use jop_base::Id;
-use jop_target::Diary;
-use local_changes::{StoreErr, removed};
-use local_store::{Changes, Tables};
+use crate::work::{Work, one_change};
+use jop_base::{Bytes, Id, let_go};
+use local_changes::removed;
+use local_store::Tables;
 use std::alloc::Global;
-use table_keeper::{Keeper, KeeperErr};
 
-/// Removes the item of this id, and prints nothing. `NotFound` exactly if there is no row of it, and
-/// `NotEmpty` exactly if it is a notebook in which notes or notebooks are.
-pub(crate) fn rm<K: Keeper>(
-    alloc: Global,
-    tables: &Tables,
-    keeper: &mut K,
-    diary: &mut Diary,
-    made: &mut Changes,
-    id: Id,
-) -> Result<(), LocalErr>
-    requires kept { AreKept (K.state keeper.old) tables.now }
-    ensures { (around : Around) →
-        Runs (rm_plan id)
-        (record around { keeper = K.state keeper.old; notes = notes made.old.changes diary.old.events })
-        (said (λ done. []) result)
-        (record around { keeper = K.state keeper.new; notes = notes made.new.changes diary.new.events }) }
+/// `NotFound` exactly if there is no row of this id, and `NotEmpty` exactly if it is a notebook in
+/// which notes or notebooks are.
+pub(crate) fn check_removal(tables: &Tables, id: &Id) -> Result<(), LocalErr>
+    ensures { ChecksOr (ChecksRemoval (removed tables.now id.now)) result }
+{
+    let_go(removed(tables, *id)?);
+    Ok(())
+}
+
+/// Removes the item of this id, and prints nothing.
+pub(crate) fn make_removal(alloc: Global, tables: &Tables, id: Id) -> Result<Work, LocalErr>
+    requires { ChecksRemoval (removed tables.now id) None }
+    ensures { MakesOr (MakesRemoval (removed tables.now id)) result }
 {
     let change = removed(tables, id)?;
-    commit(alloc, keeper, diary, made, change)?;
-    Ok(())
+    Ok(one_change(alloc, change, Bytes::new(alloc))?)
 }

@@ -1,59 +1,67 @@
-ghost use Rattle.std.specs.Prelude.{[]};
 ghost use Rattle.item_kinds.specs.Made.{IsLine};
-ghost use Rattle.local_commands.specs.Commands.Tag.{tag_plan};
-ghost use Rattle.local_commands.specs.Keeping.{AreKept, notes};
-ghost use Rattle.local_commands.specs.Refusals.{said};
-ghost use Rattle.local_commands.specs.Running.{Around, Runs};
+ghost use Rattle.local_store.specs.Tables.{row_at};
+ghost use Rattle.std.specs.Prelude.{◌≡◌, IfOk, map, ◌++◌, OnOk};
+ghost use Rattle.local_commands.specs.Commands.Tag.{ChecksNoteAt, tag_plan, tag_work};
+ghost use Rattle.local_commands.specs.Stages.{ChecksOr, IsReadyFor, MakesWork};
 
-use crate::keeping::commit_all;
+use crate::act::Act;
+use crate::drawing::{Drawing, two_ids};
 use crate::local_err::LocalErr;
-use crate::stamp::{StampErr, stamp_twice};
+use crate::needs::Needs;
+use crate::supply::Supply;
+use crate::work::Work;
 use item_kinds::Kind;
-use jop_base::{Id, Text};
-use jop_outside::{Clock, Entropy};
-use jop_target::Diary;
-use local_changes::{StoreErr, has_row, tagged};
-use local_store::{Changes, Tables};
-use std::alloc::Global;
-use table_keeper::{Keeper, KeeperErr};
+use jop_base::{Bytes, Id, Seq, Text};
+use local_changes::{has_row, tagged};
+use local_store::{Change, Tables};
+use std::alloc::{AllocError, Global};
 
-/// Gives a note the tag of this title, and prints nothing. `NotFound` exactly if no row of `note` is a
-/// note; it comes before the clock and the random source are asked. Two ids are drawn, whether they
-/// are used or not.
-pub(crate) fn tag<K: Keeper, C: Clock, N: Entropy>(
+/// What it needs beside the tables.
+pub(crate) const NEEDS: Needs = Needs {
+    intake: None,
+    clock: true,
+    draws: Drawing::TwoIds,
+};
+
+/// `NotFound` exactly if no row of this id is a note.
+pub(crate) fn check_note(tables: &Tables, note: &Id) -> Result<(), LocalErr>
+    ensures { ChecksOr (ChecksNoteAt note.now (row_at tables.now note.now)) result }
+{
+    if !has_row(tables, note, Kind::NOTE) {
+        return Err(LocalErr::NotFound(*note));
+    }
+    Ok(())
+}
+
+/// Gives a note the tag of this title, and prints nothing. Two ids are drawn, whether they are used or
+/// not.
+pub(crate) fn make_tag(
     alloc: Global,
     tables: &Tables,
-    keeper: &mut K,
-    clock: &mut C,
-    entropy: &mut N,
-    diary: &mut Diary,
-    made: &mut Changes,
     note: Id,
     title: Text,
-) -> Result<(), LocalErr>
+    supply: Supply,
+) -> Result<Work, LocalErr>
     requires title { IsLine title }
-    requires kept { AreKept (K.state keeper.old) tables.now }
-    ensures { (around : Around) →
-        Runs (tag_plan note title)
-        (record around {
-          keeper = K.state keeper.old;
-          clock = C.state clock.old;
-          entropy = N.state entropy.old;
-          notes = notes made.old.changes diary.old.events;
-        })
-        (said (λ done. []) result)
-        (record around {
-          keeper = K.state keeper.new;
-          clock = C.state clock.new;
-          entropy = N.state entropy.new;
-          notes = notes made.new.changes diary.new.events;
-        }) }
+    requires ready { IsReadyFor (tag_plan note title) tables.now supply }
+    ensures { MakesWork (tag_plan note title) tables.now supply result }
 {
-    if !has_row(tables, &note, Kind::NOTE) {
-        return Err(LocalErr::NotFound(note));
+    let (tag, link) = two_ids(supply.ids);
+    let changes = tagged(alloc, tables, tag, link, note, title, supply.now)?;
+    Ok(all_changes(alloc, changes)?)
+}
+
+/// These changes are made in their order, and nothing is printed.
+fn all_changes(alloc: Global, changes: Seq<Change>) -> Result<Work, AllocError>
+    ensures { IfOk result (λ work. work ≡ tag_work changes) }
+{
+    let mut acts = Seq::new(alloc);
+    let mut left = changes;
+    while !left.is_empty() {
+        acts.push(Act::MakeChange(left.remove(0)))?;
     }
-    let (now, tag, link) = stamp_twice(tables, clock, entropy)?;
-    let changes = tagged(alloc, tables, tag, link, note, title, now)?;
-    commit_all(alloc, keeper, diary, made, changes.as_slice())?;
-    Ok(())
+    Ok(Work {
+        acts,
+        text: Bytes::new(alloc),
+    })
 }

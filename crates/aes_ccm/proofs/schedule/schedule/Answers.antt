@@ -8,10 +8,12 @@ loop-more-init c = schedule_init c.args.key.now c.key_first-words.result _ refl 
 pub loop-more-preserved : goal.loop-more-preserved
 loop-more-preserved c =
     let len = is_key_len-whole (length c.args.key.now) c.requires in
-    schedule_step c.args.key.now c.loop-more.words c.put_word.new.words c.next_word-word.result _ c.loop-more.more refl (omega (arith, len.whole, len.low)) c.loop-more.invariant c.next_word-word.ensures c.put_word.ensures
+    schedule_step c.args.key.now c.loop-more.words c.put_word.new.words c.next_word-word.result _ c.loop-more.more refl
+    (omega (arith, len.whole, len.low)) c.loop-more.invariant c.next_word-word.ensures c.put_word.ensures
 
 pub returns-clause-key : goal.returns-clause-key
 returns-clause-key c = schedule_key c.args.key.now c.loop-more.words _ c.loop-more.more refl (is_key_len-whole (length c.args.key.now) c.requires) c.loop-more.invariant
 
 pub returns-clause-words : goal.returns-clause-words
-returns-clause-words c = schedule_words c.args.key.now c.loop-more.words _ c.loop-more.more refl (omega arith) c.loop-more.invariant
+returns-clause-words c = schedule_words c.args.key.now c.loop-more.words _ c.loop-more.more refl
+    (omega arith) c.loop-more.invariant

@@ -1,7 +1,7 @@
 use Rattle.std.proofs.Common.{◌≡◌, take, filter}
 use Rattle.std.specs.Prelude.{map}
 use Rattle.conflicts.specs.Rules.{move_of}
-use Rattle.licences.specs.Items.{is_note_in}
+use Rattle.law_licences.specs.Items.{is_note_in}
 use Rattle.conflicts.proofs.folder.folder_gone_changes.Given as goal
 
 abbrev pub invariant-loop-row : goal.invariant-loop-row

@@ -4,7 +4,7 @@ use Rattle.item_text.proofs.Parted.{item_in-refused}
 use Rattle.item_text.specs.Answers.{Answers}
 use Rattle.item_text.specs.declared.bad_item.ItemErr.{ItemErr}
 use Rattle.item_text.specs.declared.item.Item.{Item}
-use Rattle.licences.specs.Items.{content_of, if_of}
+use Rattle.law_licences.specs.Items.{content_without_keys, if_of}
 use Rattle.conflicts.proofs.remote.content_in.Goals as goal
 
 pub returns-in-Err-Bad-clause-content : goal.returns-in-Err-Bad-clause-content
@@ -14,5 +14,5 @@ returns-in-Err-Bad-clause-content c =
     let refused =
     subst (λ (e : ItemErr). Answers bytes (Err e)) c.in-Err-Bad.field-0-is
     c.in-Err-Bad.ensures.exact in
-    ap (λ (o : Option Item). option_map content_of (if_of c.args.id.now o))
+    ap (λ (o : Option Item). option_map content_without_keys (if_of c.args.id.now o))
     (sym (item_in-refused bytes c.in-Err-Bad.field-0-0 refused))

@@ -34,9 +34,9 @@ returns-clause-answers g c =
     let told = c.last-reply.ensures c.args.call h.0
     ((g.N.Line.state c.args.line.now).trail, h.1.trail) in
     call_answered c.args.call c.in_ok-asked.asked c.args.blob.now (g.N.Line.state c.args.line.now)
-    (g.N.Line.state c.call.new.self) c.args.date.now c.later.result c.in_ok-text.text
+    (g.N.Line.state c.call.new.self) c.args.date.now c.later_date.result c.in_ok-text.text
     c.call.new.blob h.0 c.last-reply.result.now c.in_ok-asked.ensures h.1 told c.in_ok-text.ensures
-    c.later.ensures
+    c.later_date.ensures
 
 pub returns-clause-date : goal.returns-clause-date
 returns-clause-date g c =
@@ -44,5 +44,5 @@ returns-clause-date g c =
     let told = c.last-reply.ensures c.args.call h.0
     ((g.N.Line.state c.args.line.now).trail, h.1.trail) in
     let shape = shape_as c.args.call c.args.call h.0 c.last-reply.result.now refl told h.1.shape in
-    subst (λ (n : ℕ). n ≤ last_time) (sym c.later.ensures)
+    subst (λ (n : ℕ). n ≤ last_time) (sym c.later_date.ensures)
     (later_early c.args.call c.last-reply.result.now c.args.date.now c.requires.date shape)

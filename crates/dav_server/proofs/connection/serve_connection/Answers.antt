@@ -1,6 +1,6 @@
 use Rattle.std.proofs.Common.{subst, arith, Ok}
 use Rattle.std.proofs.lemmas.Result.{err_from_is_err_and}
-use Rattle.dav_server.specs.Serving.{Turns}
+use Rattle.dav_server.specs.Serving.{TurnsAs}
 use Rattle.dav_server.specs.declared.turn.Next.{Next}
 use Rattle.dav_server.proofs.Served.{serving_begun, serving_on, served_all, served_over, turn_failed}
 use Rattle.dav_server.proofs.connection.serve_connection.Goals as goal
@@ -29,7 +29,7 @@ returns-in-Over-clause-serves g c =
     let new = g.L.Link.state c.serve_next.new.link in
     let at = g.N.Line.state c.loop-count.line in
     let end = g.N.Line.state c.serve_next.new.line in
-    let turn = subst (λ (x : Next). Turns mid new c.loop-count.kept at c.loop-count.date (Ok x)
+    let turn = subst (λ (x : Next). TurnsAs mid new c.loop-count.kept at c.loop-count.date (Ok x)
     c.serve_next.new.kept end c.serve_next.new.date) c.in-Over.is
     c.in_ok-serve_next.ensures.turns in
     served_over (g.L.Link.state c.args.link.now) mid new (g.N.Line.state c.args.line.now) at
@@ -42,7 +42,7 @@ returns-in-Ended-clause-serves g c =
     let new = g.L.Link.state c.serve_next.new.link in
     let at = g.N.Line.state c.loop-count.line in
     let end = g.N.Line.state c.serve_next.new.line in
-    let turn = subst (λ (x : Next). Turns mid new c.loop-count.kept at c.loop-count.date (Ok x)
+    let turn = subst (λ (x : Next). TurnsAs mid new c.loop-count.kept at c.loop-count.date (Ok x)
     c.serve_next.new.kept end c.serve_next.new.date) c.in-Ended.is
     c.in_ok-serve_next.ensures.turns in
     served_all (g.L.Link.state c.args.link.now) mid new (g.N.Line.state c.args.line.now) at
@@ -55,7 +55,7 @@ loop-count-preserved g c =
     let new = g.L.Link.state c.serve_next.new.link in
     let at = g.N.Line.state c.loop-count.line in
     let end = g.N.Line.state c.serve_next.new.line in
-    let turn = subst (λ (x : Next). Turns mid new c.loop-count.kept at c.loop-count.date (Ok x)
+    let turn = subst (λ (x : Next). TurnsAs mid new c.loop-count.kept at c.loop-count.date (Ok x)
     c.serve_next.new.kept end c.serve_next.new.date) c.in-Another.is
     c.in_ok-serve_next.ensures.turns in (
       serving_on (g.L.Link.state c.args.link.now) mid new (g.N.Line.state c.args.line.now) at

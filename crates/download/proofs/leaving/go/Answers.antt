@@ -5,8 +5,8 @@ use Rattle.download.specs.Downloading.{is_download, is_leaf}
 use Rattle.local_store.specs.Tables.{row_at}
 use Rattle.local_store.specs.declared.change.Change.TheVariants.{Gone}
 use Rattle.local_store.specs.declared.tables.Tables.{Tables}
-use Rattle.session_steps.proofs.Behind.{ends_working}
-use Rattle.session_steps.specs.Parts.{Changes}
+use Rattle.session.proofs.Behind.{ends_working}
+use Rattle.session.specs.Parts.{Changes}
 use Rattle.download.proofs.leaving.go.Goals as goal
 
 pub returns-then-not-is_leaf : goal.returns-then-not-is_leaf
@@ -27,5 +27,5 @@ returns g c = record {
       goes_away id is_download _ _ c.make_shown.result leaf
       (ends_working (Changes (Gone id)) is_download _ _ c.make_shown.result
       (c.make_shown.ensures.ends (Some known) is_download
-      (leaf_may_go known id (g.W.Session.now c.args.s.now).desk lacks leaf)));
+      (leaf_may_go known id (g.W.Session.now c.args.s.now).site lacks leaf)));
 }

@@ -1,8 +1,8 @@
 use Rattle.std.specs.Prelude.{Some, false, true}
 use Rattle.download.specs.Downloading.{LeavesOne, is_download}
-use Rattle.session_steps.proofs.Ending.{ends_then}
-use Rattle.session_steps.specs.Parts.{ForEach}
-use Rattle.session_steps.specs.Work.{knowing}
+use Rattle.session.proofs.Ending.{ends_then}
+use Rattle.session.specs.Parts.{ForEach}
+use Rattle.session.specs.Work.{knowing}
 use Rattle.download.proofs.leaving.leave.Goals as goal
 
 pub leave_each-requires-2-clause-ready : goal.leave_each-requires-2-clause-ready

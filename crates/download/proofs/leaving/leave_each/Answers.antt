@@ -3,9 +3,9 @@ use Rattle.std.proofs.lemmas.List.Elements.{All-get_or}
 use Rattle.std.proofs.lemmas.Result.{err_from_is_err_and}
 use Rattle.download.specs.Downloading.{LeavesOne, is_download}
 use Rattle.download.specs.Reading.{Lacks}
-use Rattle.session_steps.proofs.Ending.{does_nothing, gives_up_behind}
-use Rattle.session_steps.proofs.Repeating.{does_all, does_here}
-use Rattle.session_steps.specs.Parts.{ForEach}
+use Rattle.session.proofs.Ending.{does_nothing, gives_up_behind}
+use Rattle.session.proofs.Repeating.{does_all, does_here}
+use Rattle.session.specs.Parts.{ForEach}
 use Rattle.download.proofs.leaving.leave_each.Goals as goal
 
 pub loop-index-init : goal.loop-index-init

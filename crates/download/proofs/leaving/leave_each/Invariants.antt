@@ -1,10 +1,10 @@
 use Rattle.std.proofs.Common.{All, Some, take}
 use Rattle.download.specs.Downloading.{LeavesOne, is_download}
 use Rattle.download.specs.Reading.{Lacks}
-use Rattle.licences.specs.Views.{Shown}
-use Rattle.session_steps.specs.Doing.{Does}
-use Rattle.session_steps.specs.Parts.{ForEach}
-use Rattle.session_steps.specs.Work.{knowing}
+use Rattle.law_licences.specs.Views.{Shown}
+use Rattle.session.specs.Doing.{Does}
+use Rattle.session.specs.Parts.{ForEach}
+use Rattle.session.specs.Work.{knowing}
 use Rattle.download.proofs.leaving.leave_each.Given as goal
 
 -- those before here are gone

@@ -1,5 +1,5 @@
 use Rattle.download.proofs.Paged.{downloads}
-use Rattle.licences.specs.Views.{shown_to}
+use Rattle.law_licences.specs.Views.{shown_to}
 use Rattle.download.proofs.paging.apply_listed.Goals as goal
 
 pub apply-requires-clause-ready : goal.apply-requires-clause-ready
@@ -8,7 +8,7 @@ apply-requires-clause-ready g c = c.in_ok-page.ensures.ends.does.ready
 pub apply-requires-clause-listed : goal.apply-requires-clause-listed
 apply-requires-clause-listed g c =
     let h = c.in_ok-page.ensures.ends in
-    (shown_to (g.W.Session.now c.args.s.now).desk.tables h.listing, h.is)
+    (shown_to (g.W.Session.now c.args.s.now).site.tables h.listing, h.is)
 
 pub returns : goal.returns
 returns g c = record {
@@ -18,5 +18,5 @@ returns g c = record {
       let h = c.in_ok-page.ensures.ends in
       downloads a (now c.list.new.s) (now c.apply.new.s) c.in_ok-page.page c.apply.result h
       (g.met.W.Session.unshown c.apply.new.s)
-      (c.apply.ensures.ends (shown_to a.desk.tables h.listing) h.is);
+      (c.apply.ensures.ends (shown_to a.site.tables h.listing) h.is);
 }

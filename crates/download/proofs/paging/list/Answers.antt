@@ -31,7 +31,7 @@ returns g c = record {
       let heard = c.in_ok-ask.ensures.ends is_download refl in
       let a = g.W.Session.now c.args.s.now in
       lists a (g.W.Session.now c.ask.new.self) c.page_of.result heard
-      (page_at c.tables.result.now a.desk.tables c.last.result.now heard.reply c.page_of.result
+      (page_at c.tables.result.now a.site.tables c.last.result.now heard.reply c.page_of.result
       (c.tables.ensures ∙ c.ask.ensures.same.tables)
       (c.last.ensures (ListDir Root) heard.reply heard.ends) c.page_of.ensures);
 }

@@ -2,7 +2,7 @@ use Rattle.std.specs.Prelude.{refl}
 use Rattle.std.proofs.Common.{◌∙◌, sym}
 use Rattle.download.proofs.Fetched.{gets_bytes, gets_none}
 use Rattle.download.specs.Taking.{is_taking}
-use Rattle.licences.specs.Items.{is_resource}
+use Rattle.law_licences.specs.Items.{is_resource}
 use Rattle.local_store.specs.Rows.{item_of}
 use Rattle.download.proofs.taking.get_bytes_of.Goals as goal
 

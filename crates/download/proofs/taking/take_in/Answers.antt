@@ -4,18 +4,18 @@ use Rattle.std.proofs.lemmas.Result.{err_from_is_err_and}
 use Rattle.download.proofs.Fetched.{gets_shows_none, got_keeps}
 use Rattle.download.proofs.Taken.{may_take, still_found}
 use Rattle.download.specs.Taking.{GetsBytes, is_taking}
-use Rattle.licences.specs.Checks.{is_pending}
-use Rattle.licences.specs.Items.{is_resource}
+use Rattle.law_licences.specs.Checks.{is_pending}
+use Rattle.law_licences.specs.Items.{is_resource}
 use Rattle.local_store.specs.Rows.{item_of}
 use Rattle.local_store.specs.Tables.{row_at}
 use Rattle.local_store.specs.declared.change.Change.TheVariants.{Taken}
 use Rattle.local_store.specs.declared.tables.Tables.{Tables}
-use Rattle.session_steps.proofs.Behind.{ends_working}
-use Rattle.session_steps.proofs.Ending.{ends_then}
-use Rattle.session_steps.proofs.Recast.{does_knowing, gives_up_knowing}
-use Rattle.session_steps.specs.Parts.{Changes}
-use Rattle.session_steps.specs.Work.{knowing}
-use Rattle.session_steps.specs.declared.finding.Finding.TheVariants.{Other}
+use Rattle.session.proofs.Behind.{ends_working}
+use Rattle.session.proofs.Ending.{ends_then}
+use Rattle.session.proofs.Recast.{does_knowing, gives_up_knowing}
+use Rattle.session.specs.Parts.{Changes}
+use Rattle.session.specs.Work.{knowing}
+use Rattle.session.specs.declared.finding.Finding.TheVariants.{Other}
 use Rattle.download.proofs.taking.take_in.Goals as goal
 
 pub returns : goal.returns
@@ -34,8 +34,8 @@ returns g c = record {
       (g.met.W.Session.unshown c.args.s.now) (gets_shows_none id is) got)
       (ends_working (Changes (Taken id remote.0 remote.1)) is_taking _ _ c.make_shown.result
       (c.make_shown.ensures.ends (Some known) is_taking
-      (may_take id remote b.desk known asks
-      (still_found id (Other remote) a.desk b.desk keeps c.requires.found)
+      (may_take id remote b.site known asks
+      (still_found id (Other remote) a.site b.site keeps c.requires.got.found)
       (ap (λ (t : Tables). is_pending (row_at t id)) keeps.tables ∙ c.requires.unchanged))));
 }
 

@@ -1,10 +1,10 @@
 use Rattle.std.proofs.Common.{All, take, Some}
 use Rattle.download.specs.Asked.{AsksFor}
 use Rattle.download.specs.Taking.{TakesOne, is_taking}
-use Rattle.licences.specs.Views.{Shown}
-use Rattle.session_steps.specs.Doing.{Does}
-use Rattle.session_steps.specs.Parts.{ForEach}
-use Rattle.session_steps.specs.Work.{knowing}
+use Rattle.law_licences.specs.Views.{Shown}
+use Rattle.session.specs.Doing.{Does}
+use Rattle.session.specs.Parts.{ForEach}
+use Rattle.session.specs.Work.{knowing}
 use Rattle.download.proofs.taking.take_listed.Given as goal
 
 -- those before here are taken

@@ -2,22 +2,22 @@ use Rattle.std.specs.Prelude.{Some, refl}
 use Rattle.std.proofs.lemmas.Result.{err_from_is_err_and}
 use Rattle.download.proofs.Taken.{ends_one}
 use Rattle.download.specs.Taking.{is_taking}
-use Rattle.session_steps.proofs.Behind.{found_behind, sound_behind}
-use Rattle.session_steps.proofs.Recast.{does_knowing, finds_none, gives_up_knowing}
-use Rattle.session_steps.specs.Sessions.{Finds}
-use Rattle.session_steps.specs.Work.{knowing}
+use Rattle.session.proofs.Behind.{found_behind, sound_behind}
+use Rattle.session.proofs.Recast.{does_knowing, finds_none, gives_up_knowing}
+use Rattle.session.specs.Sessions.{FindsFile}
+use Rattle.session.specs.Work.{knowing}
 use Rattle.download.proofs.taking.take_one.Goals as goal
 
 pub read-requires-clause-ready : goal.read-requires-clause-ready
 read-requires-clause-ready g c = (c.in_ok-finding.ensures.ends is_taking refl).ready
 
-pub read-requires-clause-sound : goal.read-requires-clause-sound
-read-requires-clause-sound g c =
-    sound_behind c.args.id.now _ is_taking _ _ (c.in_ok-finding.ensures.ends is_taking refl)
-
-pub read-requires-clause-found : goal.read-requires-clause-found
-read-requires-clause-found g c =
-    found_behind c.args.id.now _ is_taking _ _ (c.in_ok-finding.ensures.ends is_taking refl)
+pub read-requires-clause-got : goal.read-requires-clause-got
+read-requires-clause-got g c =
+    let found = c.in_ok-finding.ensures.ends is_taking refl in
+    record {
+      found = found_behind c.args.id.now _ is_taking _ _ found;
+      sound = sound_behind c.args.id.now _ is_taking _ _ found;
+    }
 
 pub returns : goal.returns
 returns g c = record {
@@ -27,7 +27,7 @@ returns g c = record {
       let a = g.W.Session.now c.args.s.now in
       let b = g.W.Session.now c.find.new.self in
       ends_one id finding (knowing (Some known) a) (knowing (Some known) b) _ c.read.result
-      (does_knowing (Finds id finding) is_taking (Some known) a b
+      (does_knowing (FindsFile id finding) is_taking (Some known) a b
       (g.met.W.Session.unshown c.args.s.now) (finds_none id finding)
       (c.in_ok-finding.ensures.ends is_taking refl))
       (c.read.ensures.ends known asks);

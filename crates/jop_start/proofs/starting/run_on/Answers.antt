@@ -1,21 +1,29 @@
-use Rattle.jop_cli.specs.Outside.{did}
+use Rattle.std.proofs.Common.{ap, refl, subst}
+use Rattle.jop_outside.specs.Outside.{SinkNow}
+use Rattle.jop_start.specs.Starting.{StreamsNow}
+use Rattle.jop_status.specs.Reports.{Reports}
 use Rattle.jop_start.proofs.starting.run_on.Goals as goal
 
 pub returns : goal.returns
-returns g c = record {
-  runs = record {
-    first = record {
-      keeper = g.K.Keeper.state c.args.keeper.now;
-      target = g.T.Target.state c.args.target.now;
-    };
-    ran = did c.run-status.new.diary.events c.run-status.new.made.changes;
-    status = c.run-status.result;
-    last = record {
-      keeper = g.K.Keeper.state c.run-status.new.keeper;
-      target = g.T.Target.state c.run-status.new.target;
-    };
-    does = c.run-status.ensures.does;
-    reports = c.run-status.ensures.err;
-    exit_is = c.exit.ensures;
-  };
-}
+returns g c =
+    let is = c.streams.view_is in
+    record {
+      runs = record {
+        first = _;
+        fresh = record { unwritten = c.new-diary.ensures; unchanged = c.new-made.ensures };
+        begins = record {
+          input = ap (λ (s : StreamsNow). s.input) is;
+          out = ap (λ (s : StreamsNow). s.out) is;
+          clock = ap (λ (s : StreamsNow). s.clock) is;
+          entropy = ap (λ (s : StreamsNow). s.entropy) is;
+        };
+        status = c.run-status.result;
+        last = _;
+        ends = record { input = refl; out = refl; clock = refl; entropy = refl };
+        does = c.run-status.ensures.does;
+        reports = subst (λ (err : SinkNow). Reports err c.run-status.result
+            (g.E.Sink.state c.run-status.new.err)) (ap (λ (s : StreamsNow). s.err) is)
+            c.run-status.ensures.err;
+        exit_is = c.exit.ensures;
+      };
+    }

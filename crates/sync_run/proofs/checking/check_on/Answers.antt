@@ -1,28 +1,11 @@
-use Rattle.std.proofs.Common.{subst}
-use Rattle.lease.specs.Calls.{IsLeaseEvent}
-use Rattle.sync_run.specs.Checks.{AddsCheck, CheckAnswers}
-use Rattle.sync_run.proofs.Whole.{names_added, obeys_added}
+use Rattle.sync_run.proofs.Leases.{Laws, keeps_check}
 use Rattle.sync_run.proofs.checking.check_on.Goals as goal
 
-pub returns-clause-obeys : goal.returns-clause-obeys
-returns-clause-obeys g c = λ added is.
-    obeys_added (IsLeaseEvent c.args.client.now) (CheckAnswers c.args.client.now) _ _ _ added _
-    c.make_session.ensures.session is
-
-pub returns-clause-apart : goal.returns-clause-apart
-returns-clause-apart g c = λ added is.
-    let obeys = obeys_added (IsLeaseEvent c.args.client.now) (CheckAnswers c.args.client.now) _ _ _
-    added _ c.make_session.ensures.session is in
-    c.held_apart.ensures.joined _ _ obeys.locks.keeps
-
-pub returns-clause-exclusive : goal.returns-clause-exclusive
-returns-clause-exclusive g c = λ added is.
-    let obeys = obeys_added (IsLeaseEvent c.args.client.now) (CheckAnswers c.args.client.now) _ _ _
-    added _ c.make_session.ensures.session is in
-    c.exclusive.ensures.joined _ _ obeys.locks.keeps obeys.work
-
-pub returns-clause-busy : goal.returns-clause-busy
-returns-clause-busy g c = λ added lock now is busy.
-    let session = subst (AddsCheck _ _ _) busy c.make_session.ensures.session in
-    names_added (IsLeaseEvent c.args.client.now) _ _ _ _ added lock now session.whole
-    c.blocked.ensures.named session.because is
+pub returns-clause-keeps : goal.returns-clause-keeps
+returns-clause-keeps g c =
+    let laws : Laws = record {
+      apart = c.held_apart.ensures.joined;
+      exclusive = c.exclusive.ensures.joined;
+      named = c.blocked.ensures.named;
+    } in
+    keeps_check _ _ _ _ laws c.make_session.ensures.session

@@ -1,5 +1,5 @@
 use Rattle.std.proofs.lemmas.Result.{err_from_is_err_and}
-use Rattle.session_steps.proofs.Wider.{gives_up_within}
+use Rattle.session.proofs.Wider.{gives_up_within}
 use Rattle.upload.specs.Uploading.{is_upload}
 use Rattle.sync_session.proofs.Exchanged.{ends_sends, leaves_nothing, upload_within}
 use Rattle.sync_session.specs.Working.{is_exchange}

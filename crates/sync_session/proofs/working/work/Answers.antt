@@ -17,16 +17,20 @@ returns-then-needs_key-clause-ends g c =
     ∙ (sym c.needs_key.ensures ∙ c.if-needs_key.true))
     c.active_key.ensures
 
-pub exchange-requires-clause-readable : goal.exchange-requires-clause-readable
-exchange-requires-clause-readable g c =
-    can_put (g.W.Session.now c.open_session.new.s).desk.tables
-    (ap needs_key (sym c.tables.ensures) ∙ (sym c.needs_key.ensures ∙ c.if-needs_key.false))
-
-pub exchange-requires-clause-first : goal.exchange-requires-clause-first
-exchange-requires-clause-first g c =
+pub exchange-requires : goal.exchange-requires
+exchange-requires g c =
     let now = g.W.Session.now in
-    unput_opened (now c.args.s.now) (now c.open_session.new.s) c.requires.first
-    c.in_ok-open_session.ensures.opens
+    let b = now c.open_session.new.s in
+    record {
+      can = record {
+        ready = c.in_ok-open_session.ensures.opens.ready;
+        readable =
+            can_put b.site.tables
+            (ap needs_key (sym c.tables.ensures)
+            ∙ (sym c.needs_key.ensures ∙ c.if-needs_key.false));
+        first = unput_opened (now c.args.s.now) b c.requires.starts.first c.in_ok-open_session.ensures.opens;
+      };
+    }
 
 pub returns-in_err-exchange-clause-ends : goal.returns-in_err-exchange-clause-ends
 returns-in_err-exchange-clause-ends g c =
@@ -43,7 +47,7 @@ returns-in_err-exchange-clause-merges g c =
     let b = now c.open_session.new.s in
     let done = c.in_ok-open_session.ensures in
     merges_behind a b (now c.exchange.new.s)
-    (opened a b c.requires.sync done.opens done.lawful done.told done.merges)
+    (opened a b c.requires.starts.sync done.opens done.lawful done.told done.merges)
     (went_stopped b _ _ c.in_err-exchange.ensures.ends)
 
 pub returns-in_err-exchange-clause-lawful : goal.returns-in_err-exchange-clause-lawful
@@ -53,12 +57,12 @@ returns-in_err-exchange-clause-lawful g c =
     let b = now c.open_session.new.s in
     let done = c.in_ok-open_session.ensures in
     lawful_behind a b (now c.exchange.new.s)
-    (opened a b c.requires.sync done.opens done.lawful done.told done.merges)
+    (opened a b c.requires.starts.sync done.opens done.lawful done.told done.merges)
     (went_stopped b _ _ c.in_err-exchange.ensures.ends)
 
 pub returns-clause-ends : goal.returns-clause-ends
 returns-clause-ends g c =
-    works_done _ (g.W.Session.now c.open_session.new.s) _ c.requires.first
+    works_done _ (g.W.Session.now c.open_session.new.s) _ c.requires.starts.first
     c.in_ok-open_session.ensures.opens c.in_ok-exchange.ensures.ends
 
 pub returns-clause-merges : goal.returns-clause-merges
@@ -68,7 +72,7 @@ returns-clause-merges g c =
     let b = now c.open_session.new.s in
     let done = c.in_ok-open_session.ensures in
     merges_behind a b (now c.exchange.new.s)
-    (opened a b c.requires.sync done.opens done.lawful done.told done.merges)
+    (opened a b c.requires.starts.sync done.opens done.lawful done.told done.merges)
     c.in_ok-exchange.ensures.ends.0.went
 
 pub returns-clause-lawful : goal.returns-clause-lawful
@@ -78,5 +82,5 @@ returns-clause-lawful g c =
     let b = now c.open_session.new.s in
     let done = c.in_ok-open_session.ensures in
     lawful_behind a b (now c.exchange.new.s)
-    (opened a b c.requires.sync done.opens done.lawful done.told done.merges)
+    (opened a b c.requires.starts.sync done.opens done.lawful done.told done.merges)
     c.in_ok-exchange.ensures.ends.0.went

@@ -1,5 +1,5 @@
 use Rattle.jop_target.specs.declared.call.Call.TheVariants.{Delete}
-use Rattle.session_steps.proofs.Behind.{hears_as}
+use Rattle.session.proofs.Behind.{hears_as}
 use Rattle.upload.proofs.Deleted.{gone_by}
 use Rattle.upload.specs.Deleting.{DeletesFile, is_deletion}
 use Rattle.upload.proofs.deleting.delete.Goals as goal

@@ -1,6 +1,6 @@
 use Rattle.std.proofs.Common.{rules}
-use Rattle.session_steps.proofs.Behind.{lease_behind, place_behind, ready_behind}
-use Rattle.session_steps.proofs.Recast.{ends_nowhere}
+use Rattle.session.proofs.Behind.{lease_behind, place_behind, ready_behind}
+use Rattle.session.proofs.Recast.{ends_nowhere}
 use Rattle.upload.proofs.Deleted.{none_behind}
 use Rattle.upload.specs.Deleting.{Deletes, is_deletion}
 use Rattle.upload.proofs.deleting.delete_all.Goals as goal

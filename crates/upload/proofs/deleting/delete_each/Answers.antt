@@ -1,9 +1,9 @@
 use Rattle.std.specs.Prelude.{◌+◌, drop}
 use Rattle.std.proofs.Common.{◌∙◌, arith, sym}
 use Rattle.std.proofs.lemmas.Result.{err_from_is_err_and}
-use Rattle.session_steps.proofs.Ending.{does_nothing, gives_up_behind}
-use Rattle.session_steps.proofs.Repeating.{does_all, does_here, here_and_left}
-use Rattle.session_steps.specs.Parts.{ForEach}
+use Rattle.session.proofs.Ending.{does_nothing, gives_up_behind}
+use Rattle.session.proofs.Repeating.{does_all, does_here, here_and_left}
+use Rattle.session.specs.Parts.{ForEach}
 use Rattle.upload.proofs.Deleted.{all_of_them, rest_behind}
 use Rattle.upload.specs.Deleting.{DeletesOne, is_deletion}
 use Rattle.upload.proofs.deleting.delete_each.Goals as goal

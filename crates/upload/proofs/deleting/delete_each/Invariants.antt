@@ -1,6 +1,6 @@
 use Rattle.std.proofs.Common.{◌≡◌, take, drop}
-use Rattle.session_steps.specs.Doing.{Does}
-use Rattle.session_steps.specs.Parts.{ForEach}
+use Rattle.session.specs.Doing.{Does}
+use Rattle.session.specs.Parts.{ForEach}
 use Rattle.upload.specs.Deleting.{DeletesOne, is_deletion}
 use Rattle.upload.proofs.deleting.delete_each.Given as goal
 
@@ -9,7 +9,7 @@ abbrev pub invariant-loop-index : goal.invariant-loop-index
 invariant-loop-index g l =
     let now = g.W.Session.now l.s in
     record {
-      left : now.desk.tables.deletions ≡ drop l.index l.deletions;
+      left : now.site.tables.deletions ≡ drop l.index l.deletions;
       does : Does (ForEach DeletesOne (take l.index l.deletions)) is_deletion
           (g.W.Session.now l.fn.s) now;
     }

@@ -1,5 +1,5 @@
 use Rattle.std.proofs.lemmas.Result.{err_from_is_err_and}
-use Rattle.session_steps.proofs.Ending.{does_nothing, does_starves}
+use Rattle.session.proofs.Ending.{does_nothing, does_starves}
 use Rattle.upload.specs.Deleting.{is_deletion}
 use Rattle.upload.proofs.deleting.delete_listed.Goals as goal
 

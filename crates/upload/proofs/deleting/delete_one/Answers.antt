@@ -1,8 +1,8 @@
 use Rattle.std.proofs.lemmas.Result.{err_from_is_err_and}
 use Rattle.jop_base.specs.declared.path.Path.TheVariants.{Item}
 use Rattle.local_store.specs.declared.change.Change.TheVariants.{Dropped}
-use Rattle.session_steps.proofs.Ending.{ends_then, gives_up_behind}
-use Rattle.session_steps.specs.Parts.{Changes, Then}
+use Rattle.session.proofs.Ending.{ends_then, gives_up_behind}
+use Rattle.session.specs.Parts.{Changes, Then}
 use Rattle.upload.proofs.Deleted.{may_drop, stands, still_there}
 use Rattle.upload.specs.Deleting.{DeletesBytes, DeletesFile, is_deletion}
 use Rattle.upload.proofs.deleting.delete_one.Goals as goal
@@ -12,7 +12,7 @@ delete-requires-clause-may g c = λ shown.
     let d = c.args.deletion.now in
     record {
       deletion = d;
-      at = stands (g.W.Session.now c.args.s.now).desk d c.requires.first.0 c.requires.first.1;
+      at = stands (g.W.Session.now c.args.s.now).site d c.requires.first.0 c.requires.first.1;
     }
 
 pub delete_bytes-requires-clause-at : goal.delete_bytes-requires-clause-at
@@ -20,7 +20,7 @@ delete_bytes-requires-clause-at g c =
     let d = c.args.deletion.now in
     let now = g.W.Session.now in
     still_there d (now c.args.s.now) (now c.delete.new.s)
-    (stands (now c.args.s.now).desk d c.requires.first.0 c.requires.first.1)
+    (stands (now c.args.s.now).site d c.requires.first.0 c.requires.first.1)
     c.in_ok-delete.ensures.ends
 
 pub make-requires-clause-may : goal.make-requires-clause-may
@@ -28,7 +28,7 @@ make-requires-clause-may g c =
     let d = c.args.deletion.now in
     let now = g.W.Session.now in
     may_drop d (now c.args.s.now) (now c.delete.new.s) (now c.delete_bytes.new.s)
-    (stands (now c.args.s.now).desk d c.requires.first.0 c.requires.first.1)
+    (stands (now c.args.s.now).site d c.requires.first.0 c.requires.first.1)
     c.in_ok-delete.ensures.ends c.in_ok-delete_bytes.ensures.ends
 
 pub returns : goal.returns

@@ -2,12 +2,12 @@ use Rattle.std.specs.Prelude.{Some, length, refl}
 use Rattle.std.proofs.Common.{subst, sym}
 use Rattle.std.proofs.lemmas.Result.{err_from_is_err_and}
 use Rattle.jop_target.specs.declared.call.Call.TheVariants.{PutBlob}
-use Rattle.session_steps.proofs.Behind.{hears_as}
-use Rattle.session_steps.proofs.Ending.{does_nothing}
-use Rattle.session_steps.specs.Doing.{Does, Ends}
-use Rattle.session_steps.specs.Sessions.{MayAsk}
-use Rattle.session_steps.specs.Work.{IsAtWork, WorkNow, view_of}
-use Rattle.table_keeper.specs.Keepers.{IsBlobOfKept}
+use Rattle.session.proofs.Behind.{hears_as}
+use Rattle.session.proofs.Ending.{does_nothing}
+use Rattle.session.specs.Doing.{Does, Ends}
+use Rattle.session.specs.Sessions.{MayAsk}
+use Rattle.session.specs.Work.{IsAtWork, WorkNow, view_of}
+use Rattle.keeper.specs.Keepers.{IsBlobOfKept}
 use Rattle.upload.proofs.Loaded.{bytes_put, puts_nothing}
 use Rattle.upload.specs.Uploading.{PutsKept, blobs_of, is_upload}
 use Rattle.upload.proofs.loading.put_bytes.Goals as goal
@@ -25,7 +25,7 @@ pub put_bytes-requires-clause-kept : goal.put_bytes-requires-clause-kept
 put_bytes-requires-clause-kept g c =
     let loaded = c.in_ok-loaded.ensures.ends is_upload in
     let told = rw c.in-Some.is at loaded.1 in
-    subst (λ (w : WorkNow). IsBlobOfKept w.desk.keeper.kept c.args.id.now
+    subst (λ (w : WorkNow). IsBlobOfKept w.site.keeper.kept c.args.id.now
     (Some c.in-Some.bytes)) (sym loaded.0) told
 
 pub returns-in-Some : goal.returns-in-Some
@@ -33,14 +33,14 @@ returns-in-Some g c = record {
   ends =
       let now = g.W.Session.now in
       let id = c.args.id.now in
-      let kept = (now c.args.s.now).desk.keeper.kept in
+      let kept = (now c.args.s.now).site.keeper.kept in
       let loaded = c.in_ok-loaded.ensures.ends is_upload in
       let told = rw c.in-Some.is at loaded.1 in
       subst (λ (w : WorkNow). Ends (PutsKept (blobs_of kept) id) is_upload w c.put_bytes.result
       (now c.put_bytes.new.self)) loaded.0
       (hears_as _ (PutsKept (blobs_of kept) id) is_upload (now c.load.new.self) _ _
       (λ reply answer shown ds it.
-      bytes_put kept id _ reply told answer (view_of shown (now c.load.new.self).desk) ds it)
+      bytes_put kept id _ reply told answer (view_of shown (now c.load.new.self).site) ds it)
       (c.put_bytes.ensures.ends is_upload refl));
 }
 
@@ -48,7 +48,7 @@ pub returns-in-None : goal.returns-in-None
 returns-in-None g c = record {
   ends =
       let now = g.W.Session.now in
-      let kept = (now c.args.s.now).desk.keeper.kept in
+      let kept = (now c.args.s.now).site.keeper.kept in
       let loaded = c.in_ok-loaded.ensures.ends is_upload in
       let told = rw c.in-None.is at loaded.1 in
       subst (λ (w : WorkNow). Does (PutsKept (blobs_of kept) c.args.id.now) is_upload

@@ -2,14 +2,14 @@ use Rattle.std.specs.Prelude.{List, ℕ}
 use Rattle.std.proofs.Common.{◌∙◌, ap, subst, sym}
 use Rattle.std.proofs.lemmas.Result.{err_from_is_err_and}
 use Rattle.item_text.specs.Grammar.{written}
-use Rattle.licences.specs.Puts.{MayUpload}
+use Rattle.law_licences.specs.Puts.{MayUpload}
 use Rattle.local_store.specs.Rows.{item_of}
 use Rattle.local_store.specs.declared.change.Change.TheVariants.{Uploaded}
 use Rattle.local_store.specs.declared.tables.Tables.{Tables}
-use Rattle.session_steps.proofs.Ending.{ends_then, gives_up_behind}
-use Rattle.session_steps.specs.Doing.{Ends}
-use Rattle.session_steps.specs.Parts.{Changes, Then}
-use Rattle.session_steps.specs.Work.{view_of}
+use Rattle.session.proofs.Ending.{ends_then, gives_up_behind}
+use Rattle.session.specs.Doing.{Ends}
+use Rattle.session.specs.Parts.{Changes, Then}
+use Rattle.session.specs.Work.{view_of}
 use Rattle.upload.proofs.Licensed.{may_upload, still_found}
 use Rattle.upload.proofs.Loaded.{last_new, tables_new}
 use Rattle.upload.specs.Uploading.{PutsIfNew, PutsText, blobs_of, is_new_resource, is_upload}
@@ -21,12 +21,12 @@ put_text-requires-clause-found g c =
     let row = c.args.row.now in
     let a = now c.args.s.now in
     let b = now c.put_if_new.new.s in
-    let blobs = blobs_of a.desk.keeper.kept in
-    still_found row _ a.desk b.desk
+    let blobs = blobs_of a.site.keeper.kept in
+    still_found row _ a.site b.site
     (tables_new blobs row.id (is_new_resource row) is_upload a b c.in_ok-put_if_new.ensures.ends)
     (last_new row.id blobs row.id (is_new_resource row) is_upload a b
     c.in_ok-put_if_new.ensures.ends)
-    c.requires.found
+    c.requires.seen.found
 
 pub put_text-requires-clause-readable : goal.put_text-requires-clause-readable
 put_text-requires-clause-readable g c =
@@ -34,15 +34,15 @@ put_text-requires-clause-readable g c =
     let row = c.args.row.now in
     let a = now c.args.s.now in
     ap (λ (t : Tables). t.info.e2ee.value)
-    (tables_new (blobs_of a.desk.keeper.kept) row.id (is_new_resource row) is_upload a
+    (tables_new (blobs_of a.site.keeper.kept) row.id (is_new_resource row) is_upload a
     (now c.put_if_new.new.s) c.in_ok-put_if_new.ensures.ends)
-    ∙ c.requires.readable
+    ∙ c.requires.seen.readable
 
 pub make-requires-clause-may : goal.make-requires-clause-may
 make-requires-clause-may g c = λ shown.
     let now = g.W.Session.now in
     let row = c.args.row.now in
-    subst (λ (text : List ℕ). MayUpload (view_of shown (now c.put_text.new.s).desk) row.id text)
+    subst (λ (text : List ℕ). MayUpload (view_of shown (now c.put_text.new.s).site) row.id text)
     (sym c.in_ok-text.ensures.text)
     (may_upload row.id (written (item_of row.content)) is_upload (now c.put_if_new.new.s)
     (now c.put_text.new.s) shown c.in_ok-text.ensures.ends)
@@ -53,7 +53,7 @@ returns g c = record {
       let now = g.W.Session.now in
       let row = c.args.row.now in
       let text = written (item_of row.content) in
-      let blobs = blobs_of (now c.args.s.now).desk.keeper.kept in
+      let blobs = blobs_of (now c.args.s.now).site.keeper.kept in
       ends_then (PutsIfNew blobs row.id (is_new_resource row))
       (Then (PutsText row.id text) (Changes (Uploaded row.id text))) is_upload _
       (now c.put_if_new.new.s) _ _ c.in_ok-put_if_new.ensures.ends
@@ -72,7 +72,7 @@ returns-in_err-text g c = record {
       let p = err_from_is_err_and c.from_residual-in_err-text.result
       c.from_residual-in_err-text.ensures.1 in
       rw (p.1, p.2) (gives_up_behind
-      (PutsIfNew (blobs_of (now c.args.s.now).desk.keeper.kept) row.id (is_new_resource row))
+      (PutsIfNew (blobs_of (now c.args.s.now).site.keeper.kept) row.id (is_new_resource row))
       is_upload _ (now c.put_if_new.new.s) _ _ c.in_ok-put_if_new.ensures.ends
       c.in_err-text.ensures.ends);
 }

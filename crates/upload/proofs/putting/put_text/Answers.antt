@@ -6,17 +6,17 @@ use Rattle.item_text.specs.Valid.{IsItem}
 use Rattle.item_text.specs.declared.item.Item.{Item}
 use Rattle.jop_base.specs.declared.path.Path.TheVariants as paths
 use Rattle.jop_target.specs.declared.call.Call.TheVariants.{Put}
-use Rattle.session_steps.proofs.Ending.{does_as, does_nothing, does_starves}
-use Rattle.session_steps.specs.Doing.{Does}
-use Rattle.session_steps.specs.Parts.{Hears}
-use Rattle.session_steps.specs.Work.{view_of}
+use Rattle.session.proofs.Ending.{does_as, does_nothing, does_starves}
+use Rattle.session.specs.Doing.{Does}
+use Rattle.session.specs.Parts.{Hears}
+use Rattle.session.specs.Work.{view_of}
 use Rattle.upload.proofs.Licensed.{may_put, text_put, valid_item}
 use Rattle.upload.specs.Uploading.{PutsText, is_upload}
 use Rattle.upload.proofs.putting.put_text.Goals as goal
 
 pub write_item-requires : goal.write_item-requires
 write_item-requires g c =
-    let d = (g.W.Session.now c.args.s.now).desk in
+    let d = (g.W.Session.now c.args.s.now).site in
     subst IsItem (sym c.item.ensures)
     (valid_item d.tables c.args.row.now c.requires.ready.tidy.sound c.requires.found.at)
 
@@ -33,7 +33,7 @@ returns-in_err-copy-clause-ends g c =
 
 pub ask-requires-clause-may : goal.ask-requires-clause-may
 ask-requires-clause-may g c = λ shown.
-    may_put c.args.row.now (g.W.Session.now c.args.s.now).desk _ shown c.requires.found
+    may_put c.args.row.now (g.W.Session.now c.args.s.now).site _ shown c.requires.found
     c.requires.readable
     (c.in_ok-copy.ensures ∙ (c.in_ok-text.ensures.written
     ∙ ap (λ (item : Item). written item) c.item.ensures))
@@ -58,5 +58,5 @@ returns-clause-ends g c =
     (c.in_ok-copy.ensures ∙ (c.in_ok-text.ensures.written
     ∙ ap (λ (item : Item). written item) c.item.ensures))
     (does_as (Hears (Put (paths.Item id) _) heard.reply) (PutsText id _) is_upload old _
-    (λ shown ds it. text_put id _ heard.reply heard.answer (view_of shown old.desk) ds it)
+    (λ shown ds it. text_put id _ heard.reply heard.answer (view_of shown old.site) ds it)
     heard.does)

@@ -2,11 +2,11 @@ use Rattle.std.specs.Prelude.{◌+◌, List, ℕ, drop, take, Option, refl}
 use Rattle.std.proofs.Common.{◌∙◌, ap, arith, subst}
 use Rattle.std.proofs.lemmas.List.{drop_all}
 use Rattle.std.proofs.lemmas.Result.{err_from_is_err_and}
-use Rattle.table_keeper.specs.declared.blob.Blob.{Blob}
-use Rattle.session_steps.proofs.Ending.{does_nothing, gives_up_behind}
-use Rattle.session_steps.proofs.Repeating.{does_all, does_here, here_and_left}
-use Rattle.session_steps.specs.Doing.{Does}
-use Rattle.session_steps.specs.Parts.{ForEach}
+use Rattle.keeper.specs.declared.blob.Blob.{Blob}
+use Rattle.session.proofs.Ending.{does_nothing, gives_up_behind}
+use Rattle.session.proofs.Repeating.{does_all, does_here, here_and_left}
+use Rattle.session.specs.Doing.{Does}
+use Rattle.session.specs.Parts.{ForEach}
 use Rattle.sync_info.specs.declared.info.Info.{Info}
 use Rattle.upload.proofs.Left.{can_put, left_on, same_blobs, settled, tended, unput_on}
 use Rattle.upload.specs.Settled.{AreLeft}
@@ -17,8 +17,8 @@ pub loop-index-init : goal.loop-index-init
 unfolding ForEach
 loop-index-init g c = record {
   info = refl;
-  unput = c.requires.unput;
-  left = c.requires.left;
+  unput = c.requires.uploadable.unput;
+  left = c.requires.uploadable.left;
   does = does_nothing is_upload _ c.requires.ready;
 }
 
@@ -28,8 +28,8 @@ upload_one-requires-clause-ready g c = c.loop-index.invariant.does.ready
 pub upload_one-requires-clause-readable : goal.upload_one-requires-clause-readable
 upload_one-requires-clause-readable g c =
     ap (λ (info : Info). info.e2ee.value) c.loop-index.invariant.info
-    ∙ can_put (g.W.Session.now c.args.s.now).desk.tables c.args.ids.now c.loop-index.index (omega arith)
-    c.requires.readable
+    ∙ can_put (g.W.Session.now c.args.s.now).site.tables c.args.ids.now c.loop-index.index (omega arith)
+    c.requires.uploadable.readable
 
 pub loop-index-preserved : goal.loop-index-preserved
 loop-index-preserved g c =
@@ -42,14 +42,14 @@ loop-index-preserved g c =
     let a = now c.args.s.now in
     let b = now c.loop-index.s in
     let n = now c.upload_one.new.s in
-    let blobs = blobs_of a.desk.keeper.kept in
-    let t = tended (blobs_of b.desk.keeper.kept) is_upload id b n
+    let blobs = blobs_of a.site.keeper.kept in
+    let t = tended (blobs_of b.site.keeper.kept) is_upload id b n
     before.does.ready.tidy.sound.rows_ordered done.ends in
     record {
       info = t.tended.tends.keeps.info ∙ before.info;
-      unput = unput_on id b.desk n.desk t before.unput;
-      left = left_on b.desk n.desk id (drop (i + 1) ids) t
-          (subst (λ (rest : List (List ℕ)). AreLeft b.desk rest)
+      unput = unput_on id b.site n.site t before.unput;
+      left = left_on b.site n.site id (drop (i + 1) ids) t
+          (subst (λ (rest : List (List ℕ)). AreLeft b.site rest)
           (here_and_left ids i id (omega arith) c.index-ids-index.is) before.left);
       does = does_here (UploadsOne blobs) is_upload ids i id a b n (omega arith)
           c.index-ids-index.is before.does
@@ -66,11 +66,11 @@ returns-in_err-upload_one-clause-ends g c =
 
 pub returns-clause-settled : goal.returns-clause-settled
 returns-clause-settled g c =
-    let now = (g.W.Session.now c.loop-index.s).desk in
+    let now = (g.W.Session.now c.loop-index.s).site in
     settled now (subst (λ (rest : List (List ℕ)). AreLeft now rest)
     (drop_all c.loop-index.index c.args.ids.now (omega arith)) c.loop-index.invariant.left)
 
 pub returns-clause-ends : goal.returns-clause-ends
 returns-clause-ends g c =
-    does_all (UploadsOne (blobs_of (g.W.Session.now c.args.s.now).desk.keeper.kept)) is_upload
+    does_all (UploadsOne (blobs_of (g.W.Session.now c.args.s.now).site.keeper.kept)) is_upload
     c.args.ids.now c.loop-index.index _ _ (omega arith) c.loop-index.invariant.does

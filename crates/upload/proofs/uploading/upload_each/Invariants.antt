@@ -1,6 +1,6 @@
 use Rattle.std.proofs.Common.{◌≡◌, take, drop}
-use Rattle.session_steps.specs.Doing.{Does}
-use Rattle.session_steps.specs.Parts.{ForEach}
+use Rattle.session.specs.Doing.{Does}
+use Rattle.session.specs.Parts.{ForEach}
 use Rattle.upload.specs.Conditions.{AreUnput}
 use Rattle.upload.specs.Settled.{AreLeft}
 use Rattle.upload.specs.Uploading.{UploadsOne, blobs_of, is_upload}
@@ -12,9 +12,9 @@ invariant-loop-index g l =
     let then = g.W.Session.now l.fn.s in
     let now = g.W.Session.now l.s in
     record {
-      info : now.desk.tables.info ≡ then.desk.tables.info;
-      unput : AreUnput now.desk;
-      left : AreLeft now.desk (drop l.index l.ids);
-      does : Does (ForEach (UploadsOne (blobs_of then.desk.keeper.kept)) (take l.index l.ids))
+      info : now.site.tables.info ≡ then.site.tables.info;
+      unput : AreUnput now.site;
+      left : AreLeft now.site (drop l.index l.ids);
+      does : Does (ForEach (UploadsOne (blobs_of then.site.keeper.kept)) (take l.index l.ids))
           is_upload then now;
     }

@@ -1,8 +1,8 @@
 use Rattle.std.proofs.Common.{◌∙◌, ap}
 use Rattle.std.proofs.lemmas.Result.{err_from_is_err_and}
 use Rattle.local_store.specs.declared.tables.Tables.{Tables}
-use Rattle.session_steps.proofs.Behind.{sound_behind}
-use Rattle.table_keeper.specs.Keepers.{KeeperNow}
+use Rattle.session.proofs.Behind.{sound_behind}
+use Rattle.keeper.specs.Keepers.{KeeperNow}
 use Rattle.upload.proofs.Licensed.{found_row, unput_row}
 use Rattle.upload.proofs.Uploaded.{ends_row}
 use Rattle.upload.specs.Uploading.{blobs_of, is_upload}
@@ -12,23 +12,18 @@ use Rattle.upload.proofs.uploading.upload_row.Goals as goal
 pub settle-requires-clause-ready : goal.settle-requires-clause-ready
 settle-requires-clause-ready g c = (c.in_ok-finding.ensures.ends is_upload refl).ready
 
-pub settle-requires-clause-found : goal.settle-requires-clause-found
-settle-requires-clause-found g c =
-    found_row c.args.row.now _ is_upload _ _ c.find.ensures.same.tables c.requires.at
-    c.requires.pending (c.in_ok-finding.ensures.ends is_upload refl)
-
-pub settle-requires-clause-sound : goal.settle-requires-clause-sound
-settle-requires-clause-sound g c =
-    sound_behind c.args.row.now.id _ is_upload _ _ (c.in_ok-finding.ensures.ends is_upload refl)
-
-pub settle-requires-clause-readable : goal.settle-requires-clause-readable
-settle-requires-clause-readable g c =
-    ap (λ (t : Tables). t.info.e2ee.value) c.find.ensures.same.tables ∙ c.requires.readable
-
-pub settle-requires-clause-unput : goal.settle-requires-clause-unput
-settle-requires-clause-unput g c = λ none.
-    unput_row c.args.row.now.id _ is_upload _ _ (c.in_ok-finding.ensures.ends is_upload refl)
-    (c.requires.unput none)
+pub settle-requires-clause-seen : goal.settle-requires-clause-seen
+settle-requires-clause-seen g c =
+    let row = c.args.row.now in
+    let can = c.requires.uploadable in
+    let found = c.in_ok-finding.ensures.ends is_upload refl in
+    record {
+      found = found_row row _ is_upload _ _ c.find.ensures.same.tables can.at can.pending found;
+      sound = sound_behind row.id _ is_upload _ _ found;
+      readable =
+          ap (λ (t : Tables). t.info.e2ee.value) c.find.ensures.same.tables ∙ can.readable;
+      unput = λ none. unput_row row.id _ is_upload _ _ found (can.unput none);
+    }
 
 pub returns : goal.returns
 returns g c = record {
@@ -36,9 +31,9 @@ returns g c = record {
       let now = g.W.Session.now in
       let a = now c.args.s.now in
       let b = now c.find.new.self in
-      ends_row (blobs_of a.desk.keeper.kept) (blobs_of b.desk.keeper.kept) c.args.row.now
+      ends_row (blobs_of a.site.keeper.kept) (blobs_of b.site.keeper.kept) c.args.row.now
       c.in_ok-finding.finding a b _ c.settle.result
-      (ap (λ (k : KeeperNow). blobs_of k.kept) c.find.ensures.same.keeper) c.requires.at
+      (ap (λ (k : KeeperNow). blobs_of k.kept) c.find.ensures.same.keeper) c.requires.uploadable.at
       (c.in_ok-finding.ensures.ends is_upload refl) c.settle.ensures.ends;
 }
 

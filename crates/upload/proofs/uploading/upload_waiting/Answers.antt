@@ -2,31 +2,28 @@ use Rattle.std.specs.Prelude.{List, ℕ}
 use Rattle.std.proofs.Common.{◌∙◌, ap, subst, sym}
 use Rattle.std.proofs.lemmas.Result.{err_from_is_err_and}
 use Rattle.local_store.specs.declared.tables.Tables.{Tables}
-use Rattle.session_steps.proofs.Ending.{does_nothing, does_starves}
+use Rattle.session.proofs.Ending.{does_nothing, does_starves}
 use Rattle.upload.proofs.Left.{ends_all, left_first}
-use Rattle.upload.specs.Conditions.{CanPut}
-use Rattle.upload.specs.Settled.{AreLeft}
+use Rattle.upload.specs.Settled.{AreUploadable}
 use Rattle.upload.specs.Uploading.{is_upload, pending_ids}
 use Rattle.upload.proofs.uploading.upload_waiting.Goals as goal
 
 pub returns-in_err-ids-clause-ends : goal.returns-in_err-ids-clause-ends
 returns-in_err-ids-clause-ends g c =
     let p = err_from_is_err_and c.from_residual.result c.from_residual.ensures.1 in
-    rw (p.1, p.2) (does_starves (does_nothing is_upload _ c.requires.ready))
+    rw (p.1, p.2) (does_starves (does_nothing is_upload _ c.requires.can.ready))
 
-pub upload_each-requires-clause-readable : goal.upload_each-requires-clause-readable
-upload_each-requires-clause-readable g c =
-    subst (λ (ids : List (List ℕ)). CanPut (g.W.Session.now c.args.s.now).desk.tables ids)
+pub upload_each-requires-clause-uploadable : goal.upload_each-requires-clause-uploadable
+upload_each-requires-clause-uploadable g c =
+    let d = (g.W.Session.now c.args.s.now).site in
+    subst (λ (ids : List (List ℕ)). AreUploadable ids d)
     (sym (c.as_slice.ensures ∙ (c.in_ok-ids.ensures
     ∙ ap (λ (t : Tables). pending_ids t) c.tables.ensures)))
-    c.requires.readable
-
-pub upload_each-requires-clause-left : goal.upload_each-requires-clause-left
-upload_each-requires-clause-left g c =
-    subst (λ (ids : List (List ℕ)). AreLeft (g.W.Session.now c.args.s.now).desk ids)
-    (sym (c.as_slice.ensures ∙ (c.in_ok-ids.ensures
-    ∙ ap (λ (t : Tables). pending_ids t) c.tables.ensures)))
-    (left_first (g.W.Session.now c.args.s.now).desk)
+    (record {
+      readable = c.requires.can.readable;
+      unput = c.requires.can.first;
+      left = left_first d;
+    })
 
 pub returns-clause-ends : goal.returns-clause-ends
 returns-clause-ends g c =

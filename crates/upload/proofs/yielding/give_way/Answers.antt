@@ -1,23 +1,23 @@
 use Rattle.std.specs.Prelude.{◌≡◌, refl}
 use Rattle.std.proofs.Common.{subst, sym}
-use Rattle.licences.specs.Licences.{MayChange}
-use Rattle.licences.specs.Views.{Working, stage_after}
+use Rattle.law_licences.specs.Licences.{MayChange}
+use Rattle.law_licences.specs.Views.{Working, stage_after}
 use Rattle.local_store.specs.Sound.{IsAllowed}
 use Rattle.local_store.specs.declared.change.Change.{Change}
-use Rattle.session_steps.specs.Doing.{Ends}
-use Rattle.session_steps.specs.Parts.{Changes}
-use Rattle.session_steps.specs.Work.{view_of}
+use Rattle.session.specs.Doing.{Ends}
+use Rattle.session.specs.Parts.{Changes}
+use Rattle.session.specs.Work.{view_of}
 use Rattle.upload.specs.Uploading.{is_upload}
 use Rattle.upload.proofs.yielding.give_way.Goals as goal
 
 pub make-requires-clause-allowed : goal.make-requires-clause-allowed
 make-requires-clause-allowed g c =
-    subst IsAllowed (sym c.conflict_change.ensures) c.requires.sound
+    subst IsAllowed (sym c.conflict_change.ensures) c.requires.may.sound
 
 pub make-requires-clause-may : goal.make-requires-clause-may
 make-requires-clause-may g c = λ shown.
-    subst (λ (change : Change). MayChange (view_of shown (g.W.Session.now c.args.s.now).desk) change)
-    (sym c.conflict_change.ensures) (c.requires.may shown)
+    subst (λ (change : Change). MayChange (view_of shown (g.W.Session.now c.args.s.now).site) change)
+    (sym c.conflict_change.ensures) (c.requires.may.may shown)
 
 pub make-requires-clause-more : goal.make-requires-clause-more
 make-requires-clause-more g c =

@@ -1,12 +1,16 @@
 use Rattle.std.specs.Prelude.{None}
-use Rattle.session_steps.proofs.Ending.{ends_then}
+use Rattle.session.proofs.Ending.{ends_then}
 use Rattle.upload.proofs.Folders.{may_go}
 use Rattle.upload.specs.Uploading.{Clears, Yields, is_upload}
 use Rattle.upload.proofs.yielding.let_go.Goals as goal
 
 pub give_way-requires-clause-may : goal.give_way-requires-clause-may
-give_way-requires-clause-may g c = λ shown.
-    may_go c.args.row.now (g.W.Session.now c.clear.new.s).desk shown c.in_ok-clear.ensures.found
+give_way-requires-clause-may g c = record {
+  sound = tt;
+  may = λ shown.
+      may_go c.args.row.now (g.W.Session.now c.clear.new.s).site shown
+      c.in_ok-clear.ensures.found;
+}
 
 pub returns : goal.returns
 returns g c = record {

@@ -1,5 +1,0 @@
-use Rattle.base_tests.proofs.jobs.finished.Given as goal
-
--- jobs can still be given to it
-abbrev pub invariant-loop-number : goal.invariant-loop-number
-invariant-loop-number g l = g.S.Spawner.ready l.spawner

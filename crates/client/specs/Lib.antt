@@ -1,0 +1,4 @@
+pub mod Sites
+pub mod Drawing
+pub mod Outside
+pub mod Owning

@@ -1,0 +1,65 @@
+ghost use Rattle.std.specs.Prelude.{◌≡◌, OnErr, OnOk, length, option_map};
+ghost use Rattle.client.specs.Sites.{KeepsOr, NotesOr, AddsOr};
+ghost use Rattle.keeper.specs.Keepers.{HasCause, changed};
+ghost use Rattle.local_store.specs.Sound.{IsAllowed};
+ghost use Rattle.std.specs.Prelude.{◌++◌, ◌∷◌, [], ◌≤◌};
+ghost use Rattle.jop_target.specs.declared.event.Event.TheVariants.{Made};
+
+use jop_base::let_go;
+use jop_target::Diary;
+use keeper::{Keeper, KeeperErr};
+use local_store::{Change, Changes};
+use std::alloc::Global;
+
+/// Makes a change: keeps it, and writes it down in the diary by its number and in the list of changes.
+/// A change that is refused is written down nowhere.
+pub fn commit<K: Keeper>(
+    alloc: Global,
+    keeper: &mut K,
+    diary: &mut Diary,
+    made: &mut Changes,
+    change: Change,
+) -> Result<(), KeeperErr>
+    requires { IsAllowed change }
+    ensures kept { KeepsOr change (K.state keeper.old).kept result (K.state keeper.new).kept }
+    ensures trail { NotesOr made.old.changes diary.old.events result diary.new.events }
+    ensures made { AddsOr change made.old.changes result made.new.changes }
+    ensures cause { HasCause (K.state keeper.old).faults result (K.state keeper.new).faults }
+{
+    match keep(alloc, keeper, diary, made, &change) {
+        Ok(()) => Ok(note(diary, made, change)),
+        Err(error) => {
+            let_go(change);
+            Err(error)
+        }
+    }
+}
+
+/// Keeps a change, where there is room to write it down.
+fn keep<K: Keeper>(
+    alloc: Global,
+    keeper: &mut K,
+    diary: &mut Diary,
+    made: &mut Changes,
+    change: &Change,
+) -> Result<(), KeeperErr>
+    requires { IsAllowed change.now }
+    ensures kept { KeepsOr change.now (K.state keeper.old).kept result (K.state keeper.new).kept }
+    ensures cause { HasCause (K.state keeper.old).faults result (K.state keeper.new).faults }
+    ensures same { (diary.new.events ≡ diary.old.events) × (made.new.changes ≡ made.old.changes) }
+    ensures room { OnOk result ((1 ≤ diary.new.room) × (1 ≤ made.new.room)) }
+{
+    diary.reserve()?;
+    made.reserve()?;
+    keeper.commit(alloc, change)
+}
+
+/// Writes down a change that was kept.
+fn note(diary: &mut Diary, made: &mut Changes, change: Change)
+    requires { (1 ≤ diary.old.room) × (1 ≤ made.old.room) }
+    ensures trail { diary.new.events ≡ diary.old.events ++ Made (length made.old.changes) ∷ [] }
+    ensures made { made.new.changes ≡ made.old.changes ++ change ∷ [] }
+{
+    let _ = diary.made(made.len() as u64);
+    let _ = made.push(change);
+}

@@ -1,3 +1,0 @@
-pub mod Exclusive
-pub mod Learnt
-pub mod Stories

@@ -1,5 +1,0 @@
-use Rattle.std.proofs.Common.{append_assoc}
-use Rattle.exit_status.proofs.status_line.write_version.Goals as goal
-
-pub returns : goal.returns
-returns g c = simp append_assoc c.write_pieces.ensures

@@ -1,0 +1,43 @@
+-- What single words mean.
+use Rattle.std.specs.Prelude.{ℕ, List, [], ◌∷◌, length, codes, drop, Bool, ◌&&◌, if◌then◌else◌}
+use Rattle.std.specs.Prelude.{Option, Some, None, nat_eq, bytes_eq, option_map}
+use Rattle.std.specs.List.{list_all, starts_with}
+use Rattle.dav_address.specs.Addresses.{address_of}
+use Rattle.jop_base.specs.Id.{is_digit}
+use Rattle.jop_words.specs.declared.target_name.TargetKind.{TargetKind}
+use Rattle.jop_words.specs.declared.target_name.TargetKind.TheVariants.{Mem, Dir, Dav}
+use Rattle.jop_words.specs.declared.target_name.TargetName.{TargetName}
+
+-- whether a word is an id
+abbrev pub is_id : List ℕ → Bool
+is_id word = nat_eq (length word) 32 && list_all is_digit word
+
+-- the id that a word is
+abbrev pub id_of : List ℕ → Option (List ℕ)
+id_of word = if is_id word then Some word else None
+
+-- a folder, unless its path is empty
+abbrev pub folder_of : List ℕ → Option TargetKind
+folder_of [] = None
+folder_of (c ∷ cs) = Some (Dir (c ∷ cs))
+
+-- the server that a URL names
+abbrev pub server_of : List ℕ → Option TargetKind
+server_of url = option_map (λ address. Dav address) (address_of url)
+
+-- `mem:`, `dir:` and a path that isn't empty, or `dav:` and the URL of a server
+unfoldable pub kind_of : List ℕ → Option TargetKind
+kind_of word =
+    if bytes_eq word (codes "mem:") then Some Mem
+    else if starts_with nat_eq word (codes "dir:") then folder_of (drop 4 word)
+    else if starts_with nat_eq word (codes "dav:") then server_of (drop 4 word)
+    else None
+
+-- a target and the word that names it
+abbrev pub named : List ℕ → Option TargetKind → Option TargetName
+named word None = None
+named word (Some kind) = Some (record { text = word; kind = kind })
+
+-- the target that a word names
+abbrev pub target_of : List ℕ → Option TargetName
+target_of word = named word (kind_of word)

@@ -1,0 +1,81 @@
+ghost use Rattle.std.specs.Prelude.{◌≡◌, None, Some, IfOk};
+ghost use Rattle.jop_words.specs.Commands.{command_of, with_profile};
+ghost use Rattle.jop_words.specs.Verbs.{IsFit, verb_of};
+
+use crate::verb::{Verb, read_verb};
+use crate::words::Words;
+use jop_base::{Copied, Text};
+use std::alloc::{AllocError, Global};
+
+/// What the words on the command line mean.
+#[derive(Debug, Drop)]
+pub struct Command {
+    /// The file that keeps the tables, if the words name one.
+    pub profile: Option<Text>,
+    pub verb: Verb,
+}
+
+/// Why words are no command.
+#[derive(Clone, Copy, Debug, PartialEq, Eq)]
+pub enum WordsErr {
+    Usage,
+    NoMemory,
+}
+
+impl From<AllocError> for WordsErr {
+    ghost use Rattle.std.specs.Prelude.{◌≡◌};
+    ghost use Rattle.jop_words.specs.declared.command.WordsErr.TheVariants.{NoMemory};
+
+    ghost from_gives = { λ _ e. e ≡ NoMemory };
+
+    fn from(_error: AllocError) -> WordsErr {
+        WordsErr::NoMemory
+    }
+}
+
+/// What the words mean. `Usage` exactly when they mean nothing. Accepted are, each word at its place:
+///
+/// - `help`; `tidy`; `check TARGET CLIENT`; `sync TARGET`; `upgrade TARGET`;
+/// - `add BOOK TITLE`; `attach NAME MIME`; `cat ID`; `conflicts`; `conflicts --clear N`; `edit ID`;
+///   `edit ID --title TITLE`; `ls`; `ls BOOK`; `mkbook TITLE`; `mkbook TITLE --in BOOK`; `rm ID`;
+///   `tag ID TITLE`.
+///
+/// TARGET is `mem:`, `dir:PATH` with a path that isn't empty, or `dav:URL` with a URL that names a
+/// server. BOOK, CLIENT and ID are ids. TITLE, NAME and MIME have no line feed or carriage return, and
+/// MIME has no blanks at its ends. N is 1 to 20 decimal digits, below 2^64. `--profile PATH` may stand
+/// before each.
+pub fn read_words(alloc: Global, words: &Words) -> Result<Command, WordsErr>
+    ensures ok { IfOk result (λ command. command_of words.now.list ≡ Some command) }
+    ensures fit { IfOk result (λ command. IsFit command.verb) }
+    ensures usage { result ≡ Err WordsErr.Usage → command_of words.now.list ≡ None }
+{
+    match read_command(alloc, words.list.as_slice())? {
+        Some(command) => Ok(command),
+        None => Err(WordsErr::Usage),
+    }
+}
+
+fn read_command(alloc: Global, words: &[Text]) -> Result<Option<Command>, AllocError>
+    ensures { IfOk result (λ command. command ≡ command_of words.now) }
+{
+    match words {
+        [option, path, words @ ..] if option.as_str() == "--profile" => {
+            read_with(alloc, Some(path.copy(alloc)?), words)
+        }
+        words => read_with(alloc, None, words),
+    }
+}
+
+/// The command of this profile that words mean.
+fn read_with(
+    alloc: Global,
+    profile: Option<Text>,
+    words: &[Text],
+) -> Result<Option<Command>, AllocError>
+    ensures { IfOk result (λ command. command ≡ with_profile profile (verb_of words.now)) }
+{
+    match read_verb(alloc, words)? {
+        Some(verb) => Ok(Some(Command { profile, verb })),
+        None => Ok(None),
+    }
+}

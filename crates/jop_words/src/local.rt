@@ -1,0 +1,280 @@
+ghost use Rattle.std.specs.Prelude.{◌≡◌, ◌∷◌, [], IfOk};
+ghost use Rattle.item_text.specs.Lines.{has};
+ghost use Rattle.jop_words.specs.Local.{add_words, attach_words, both, cat_words};
+ghost use Rattle.jop_words.specs.Local.{conflicts_words, count_in, edit_to, edit_words};
+ghost use Rattle.jop_words.specs.Local.{in_parent, is_line, line_in, local_words, ls_words};
+ghost use Rattle.jop_words.specs.Local.{mime_in, mkbook_words, rm_words, tag_words};
+ghost use Rattle.jop_words.specs.Words.{id_of};
+ghost use Rattle.local_commands.specs.declared.local_command.LocalCommand.TheVariants as commands;
+
+use crate::words::read_id;
+use item_text::trimmed;
+use jop_base::{Copied, Text, read_decimal};
+use local_commands::LocalCommand;
+use std::alloc::{AllocError, Global};
+
+/// A row for each command on the tables: its first word, and who reads the others.
+pub(crate) fn read(
+    alloc: Global,
+    word: &Text,
+    words: &[Text],
+) -> Result<Option<LocalCommand>, AllocError>
+    ensures { IfOk result (λ command. command ≡ local_words word.now words.now) }
+{
+    match word.as_str() {
+        "add" => read_add(alloc, words),
+        "attach" => read_attach(alloc, words),
+        "cat" => Ok(read_cat(words)),
+        "conflicts" => Ok(read_conflicts(words)),
+        "edit" => read_edit(alloc, words),
+        "ls" => Ok(read_ls(words)),
+        "mkbook" => read_mkbook(alloc, words),
+        "rm" => Ok(read_rm(words)),
+        "tag" => read_tag(alloc, words),
+        _ => Ok(None),
+    }
+}
+
+// ---- single words
+
+fn has(word: &Text, byte: u8) -> bool
+    ensures { result ≡ has byte word.now }
+{
+    word.as_slice().iter().any(|other| *other == byte)
+}
+
+fn is_line(word: &Text) -> bool
+    ensures { result ≡ is_line word.now }
+{
+    !has(word, b'\n') && !has(word, b'\r')
+}
+
+/// A title or a name.
+fn read_line(alloc: Global, word: &Text) -> Result<Option<Text>, AllocError>
+    ensures { IfOk result (λ line. line ≡ line_in word.now) }
+{
+    if !is_line(word) {
+        return Ok(None);
+    }
+    let line = word.copy(alloc)?;
+    Ok(Some(line))
+}
+
+/// A type of content.
+fn read_mime(alloc: Global, word: &Text) -> Result<Option<Text>, AllocError>
+    ensures { IfOk result (λ mime. mime ≡ mime_in word.now) }
+{
+    if !is_line(word) || trimmed(word.as_str()) != word.as_str() {
+        return Ok(None);
+    }
+    let mime = word.copy(alloc)?;
+    Ok(Some(mime))
+}
+
+/// The number of a conflict note.
+fn read_count(word: &Text) -> Option<u64>
+    ensures { result ≡ count_in word.now }
+{
+    let digits = word.as_slice();
+    if digits.len() > 20 {
+        return None;
+    }
+    read_decimal(digits)
+}
+
+// ---- the words of each command
+
+fn read_add(alloc: Global, words: &[Text]) -> Result<Option<LocalCommand>, AllocError>
+    ensures { IfOk result (λ command. command ≡ add_words words.now) }
+{
+    match words {
+        [book, title] => read_add_to(alloc, book, title),
+        _ => Ok(None),
+    }
+}
+
+fn read_add_to(alloc: Global, book: &Text, title: &Text) -> Result<Option<LocalCommand>, AllocError>
+    ensures { IfOk result
+        (λ command. command ≡ both commands.Add (id_of book.now) (line_in title.now)) }
+{
+    let Some(book) = read_id(book) else {
+        return Ok(None);
+    };
+    let Some(title) = read_line(alloc, title)? else {
+        return Ok(None);
+    };
+    Ok(Some(LocalCommand::Add { book, title }))
+}
+
+fn read_attach(alloc: Global, words: &[Text]) -> Result<Option<LocalCommand>, AllocError>
+    ensures { IfOk result (λ command. command ≡ attach_words words.now) }
+{
+    match words {
+        [name, mime] => read_attach_as(alloc, name, mime),
+        _ => Ok(None),
+    }
+}
+
+fn read_attach_as(
+    alloc: Global,
+    name: &Text,
+    mime: &Text,
+) -> Result<Option<LocalCommand>, AllocError>
+    ensures { IfOk result
+        (λ command. command ≡ both commands.Attach (line_in name.now) (mime_in mime.now)) }
+{
+    let Some(name) = read_line(alloc, name)? else {
+        return Ok(None);
+    };
+    let Some(mime) = read_mime(alloc, mime)? else {
+        return Ok(None);
+    };
+    Ok(Some(LocalCommand::Attach { name, mime }))
+}
+
+fn read_cat(words: &[Text]) -> Option<LocalCommand>
+    ensures { result ≡ cat_words words.now }
+{
+    match words {
+        [id] => Some(LocalCommand::Cat { id: read_id(id)? }),
+        _ => None,
+    }
+}
+
+fn read_conflicts(words: &[Text]) -> Option<LocalCommand>
+    ensures { result ≡ conflicts_words words.now }
+{
+    match words {
+        [] => Some(LocalCommand::Conflicts),
+        [option, number] if option.as_str() == "--clear" => Some(LocalCommand::Clear {
+            number: read_count(number)?,
+        }),
+        _ => None,
+    }
+}
+
+fn read_edit(alloc: Global, words: &[Text]) -> Result<Option<LocalCommand>, AllocError>
+    ensures { IfOk result (λ command. command ≡ edit_words words.now) }
+{
+    match words {
+        [id] => Ok(read_edit_body(id)),
+        [id, option, title] if option.as_str() == "--title" => read_edit_to(alloc, id, title),
+        _ => Ok(None),
+    }
+}
+
+fn read_edit_body(id: &Text) -> Option<LocalCommand>
+    ensures { result ≡ edit_words (id.now ∷ []) }
+{
+    Some(LocalCommand::Edit {
+        id: read_id(id)?,
+        title: None,
+    })
+}
+
+fn read_edit_to(alloc: Global, id: &Text, title: &Text) -> Result<Option<LocalCommand>, AllocError>
+    ensures { IfOk result
+        (λ command. command ≡ both edit_to (id_of id.now) (line_in title.now)) }
+{
+    let Some(id) = read_id(id) else {
+        return Ok(None);
+    };
+    let Some(title) = read_line(alloc, title)? else {
+        return Ok(None);
+    };
+    Ok(Some(LocalCommand::Edit {
+        id,
+        title: Some(title),
+    }))
+}
+
+fn read_ls(words: &[Text]) -> Option<LocalCommand>
+    ensures { result ≡ ls_words words.now }
+{
+    match words {
+        [] => Some(LocalCommand::Ls { book: None }),
+        [book] => Some(LocalCommand::Ls {
+            book: Some(read_id(book)?),
+        }),
+        _ => None,
+    }
+}
+
+fn read_mkbook(alloc: Global, words: &[Text]) -> Result<Option<LocalCommand>, AllocError>
+    ensures { IfOk result (λ command. command ≡ mkbook_words words.now) }
+{
+    match words {
+        [title] => read_mkbook_top(alloc, title),
+        [title, option, parent] if option.as_str() == "--in" => {
+            read_mkbook_in(alloc, title, parent)
+        }
+        _ => Ok(None),
+    }
+}
+
+fn read_mkbook_top(alloc: Global, title: &Text) -> Result<Option<LocalCommand>, AllocError>
+    ensures { IfOk result (λ command. command ≡ mkbook_words (title.now ∷ [])) }
+{
+    let Some(title) = read_line(alloc, title)? else {
+        return Ok(None);
+    };
+    Ok(Some(LocalCommand::Mkbook {
+        title,
+        parent: None,
+    }))
+}
+
+fn read_mkbook_in(
+    alloc: Global,
+    title: &Text,
+    parent: &Text,
+) -> Result<Option<LocalCommand>, AllocError>
+    ensures { IfOk result
+        (λ command. command ≡ both in_parent (line_in title.now) (id_of parent.now)) }
+{
+    let Some(title) = read_line(alloc, title)? else {
+        return Ok(None);
+    };
+    let Some(parent) = read_id(parent) else {
+        return Ok(None);
+    };
+    Ok(Some(LocalCommand::Mkbook {
+        title,
+        parent: Some(parent),
+    }))
+}
+
+fn read_rm(words: &[Text]) -> Option<LocalCommand>
+    ensures { result ≡ rm_words words.now }
+{
+    match words {
+        [id] => Some(LocalCommand::Rm { id: read_id(id)? }),
+        _ => None,
+    }
+}
+
+fn read_tag(alloc: Global, words: &[Text]) -> Result<Option<LocalCommand>, AllocError>
+    ensures { IfOk result (λ command. command ≡ tag_words words.now) }
+{
+    match words {
+        [note, title] => read_tag_with(alloc, note, title),
+        _ => Ok(None),
+    }
+}
+
+fn read_tag_with(
+    alloc: Global,
+    note: &Text,
+    title: &Text,
+) -> Result<Option<LocalCommand>, AllocError>
+    ensures { IfOk result
+        (λ command. command ≡ both commands.Tag (id_of note.now) (line_in title.now)) }
+{
+    let Some(note) = read_id(note) else {
+        return Ok(None);
+    };
+    let Some(title) = read_line(alloc, title)? else {
+        return Ok(None);
+    };
+    Ok(Some(LocalCommand::Tag { note, title }))
+}

@@ -1,0 +1,146 @@
+ghost use Rattle.std.specs.Prelude.{◌≡◌, IfOk, option_map};
+ghost use Rattle.jop_words.specs.Local.{local_words};
+ghost use Rattle.jop_words.specs.Verbs.{check_for, check_words, help_words, sync_of, sync_words};
+ghost use Rattle.jop_words.specs.Verbs.{tidy_words, upgrade_of, upgrade_words, verb_of};
+ghost use Rattle.jop_words.specs.Words.{id_of, target_of};
+ghost use Rattle.jop_words.specs.declared.verb.Verb.TheVariants as verbs;
+
+use crate::local;
+use crate::target_name::TargetName;
+use crate::words::{read_id, read_target};
+use jop_base::{ClientId, Text};
+use local_commands::LocalCommand;
+use std::alloc::{AllocError, Global};
+
+/// What a command does.
+#[derive(Debug, Drop)]
+pub enum Verb {
+    /// Takes a sync lock on the target for the client, and releases it.
+    Check {
+        target: TargetName,
+        client: ClientId,
+    },
+    /// Prints how the program is called.
+    Help,
+    /// Works on this machine's own tables.
+    Local(LocalCommand),
+    /// Brings the tables and the target together, for the client that the tables name.
+    Sync {
+        target: TargetName,
+    },
+    /// Reads the text of an item from the input and prints its canonical text.
+    Tidy,
+    /// Brings the target to the supported version.
+    Upgrade {
+        target: TargetName,
+    },
+}
+
+/// A row for each command: its first word, and who reads the others.
+pub(crate) fn read_verb(alloc: Global, words: &[Text]) -> Result<Option<Verb>, AllocError>
+    ensures { IfOk result (λ verb. verb ≡ verb_of words.now) }
+{
+    let Some((word, words)) = words.split_first() else {
+        return Ok(None);
+    };
+    match word.as_str() {
+        "check" => read_check(alloc, words),
+        "help" => Ok(read_help(words)),
+        "sync" => read_sync(alloc, words),
+        "tidy" => Ok(read_tidy(words)),
+        "upgrade" => read_upgrade(alloc, words),
+        _ => read_local(alloc, word, words),
+    }
+}
+
+fn read_local(alloc: Global, word: &Text, words: &[Text]) -> Result<Option<Verb>, AllocError>
+    ensures { IfOk result
+        (λ verb. verb ≡ option_map verbs.Local (local_words word.now words.now)) }
+{
+    match local::read(alloc, word, words)? {
+        Some(command) => Ok(Some(Verb::Local(command))),
+        None => Ok(None),
+    }
+}
+
+/// A target and a client.
+fn read_check(alloc: Global, words: &[Text]) -> Result<Option<Verb>, AllocError>
+    ensures { IfOk result (λ verb. verb ≡ check_words words.now) }
+{
+    match words {
+        [target, client] => read_check_of(alloc, target, client),
+        _ => Ok(None),
+    }
+}
+
+fn read_check_of(alloc: Global, target: &Text, client: &Text) -> Result<Option<Verb>, AllocError>
+    ensures { IfOk result (λ verb. verb ≡ check_for (target_of target.now) (id_of client.now)) }
+{
+    let Some(client) = read_id(client) else {
+        return Ok(None);
+    };
+    let Some(target) = read_target(alloc, target)? else {
+        return Ok(None);
+    };
+    Ok(Some(Verb::Check { target, client }))
+}
+
+/// `help` has no words behind it.
+fn read_help(words: &[Text]) -> Option<Verb>
+    ensures { result ≡ help_words words.now }
+{
+    if words.is_empty() {
+        Some(Verb::Help)
+    } else {
+        None
+    }
+}
+
+/// A target, to sync with.
+fn read_sync(alloc: Global, words: &[Text]) -> Result<Option<Verb>, AllocError>
+    ensures { IfOk result (λ verb. verb ≡ sync_words words.now) }
+{
+    match words {
+        [target] => read_sync_with(alloc, target),
+        _ => Ok(None),
+    }
+}
+
+fn read_sync_with(alloc: Global, target: &Text) -> Result<Option<Verb>, AllocError>
+    ensures { IfOk result (λ verb. verb ≡ sync_of (target_of target.now)) }
+{
+    match read_target(alloc, target)? {
+        Some(target) => Ok(Some(Verb::Sync { target })),
+        None => Ok(None),
+    }
+}
+
+/// `tidy` has no words behind it.
+fn read_tidy(words: &[Text]) -> Option<Verb>
+    ensures { result ≡ tidy_words words.now }
+{
+    if words.is_empty() {
+        Some(Verb::Tidy)
+    } else {
+        None
+    }
+}
+
+/// A target, to upgrade.
+fn read_upgrade(alloc: Global, words: &[Text]) -> Result<Option<Verb>, AllocError>
+    ensures { IfOk result (λ verb. verb ≡ upgrade_words words.now) }
+{
+    match words {
+        [target] => read_upgrade_of(alloc, target),
+        _ => Ok(None),
+    }
+}
+
+fn read_upgrade_of(alloc: Global, target: &Text) -> Result<Option<Verb>, AllocError>
+    ensures { IfOk result (λ verb. verb ≡ upgrade_of (target_of target.now)) }
+{
+    match read_target(alloc, target)? {
+        Some(target) => Ok(Some(Verb::Upgrade { target })),
+        None => Ok(None),
+    }
+}

@@ -1,0 +1,68 @@
+ghost use Rattle.std.specs.Prelude.{◌≡◌, IfOk};
+ghost use Rattle.jop_words.specs.Words.{folder_of, id_of, kind_of, server_of, target_of};
+
+use crate::target_name::{TargetKind, TargetName};
+use dav_address::read_address;
+use jop_base::{Copied, Id, Seq, Text};
+use std::alloc::{AllocError, Global};
+
+/// The words behind the program's name on its command line.
+#[derive(Debug, Drop)]
+pub struct Words {
+    pub list: Seq<Text>,
+}
+
+/// The id that a word is.
+#[tactic(auto, using(crate::proofs::Ids::id_of_id, crate::proofs::Ids::id_of_other))]
+pub(crate) fn read_id(word: &Text) -> Option<Id>
+    ensures { result ≡ id_of word.now }
+{
+    Id::read(word.as_slice())
+}
+
+/// The target that a word names, if it names one.
+pub(crate) fn read_target(alloc: Global, word: &Text) -> Result<Option<TargetName>, AllocError>
+    ensures { IfOk result (λ target. target ≡ target_of word.now) }
+{
+    let Some(kind) = read_kind(alloc, word.as_str())? else {
+        return Ok(None);
+    };
+    let text = word.copy(alloc)?;
+    Ok(Some(TargetName { text, kind }))
+}
+
+/// `mem:`, `dir:` and a path that isn't empty, or `dav:` and the URL of a server.
+#[tactic(auto, unfolding(crate::specs::Words::kind_of))]
+fn read_kind(alloc: Global, word: &str) -> Result<Option<TargetKind>, AllocError>
+    ensures { IfOk result (λ kind. kind ≡ kind_of word.now) }
+{
+    if word == "mem:" {
+        return Ok(Some(TargetKind::Mem));
+    }
+    if let Some(path) = word.strip_prefix("dir:") {
+        return read_folder(alloc, path);
+    }
+    match word.strip_prefix("dav:") {
+        Some(url) => read_server(alloc, url),
+        None => Ok(None),
+    }
+}
+
+fn read_folder(alloc: Global, path: &str) -> Result<Option<TargetKind>, AllocError>
+    ensures { IfOk result (λ kind. kind ≡ folder_of path.now) }
+{
+    if path.is_empty() {
+        return Ok(None);
+    }
+    let path = Text::of(alloc, path)?;
+    Ok(Some(TargetKind::Dir(path)))
+}
+
+fn read_server(alloc: Global, url: &str) -> Result<Option<TargetKind>, AllocError>
+    ensures { IfOk result (λ kind. kind ≡ server_of url.now) }
+{
+    match read_address(alloc, url)? {
+        Some(address) => Ok(Some(TargetKind::Dav(address))),
+        None => Ok(None),
+    }
+}

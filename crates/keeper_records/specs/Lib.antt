@@ -1,0 +1,4 @@
+pub mod Writes
+pub mod Making
+pub mod Stores
+pub mod Memory

@@ -1,5 +1,0 @@
-use Rattle.kept.proofs.Told.{notebook_fair, notebook_lost}
-use Rattle.kept.proofs.laws.notebooks_are_not_kept.Goals as goal
-
-pub returns : goal.returns
-returns c = record { fair = notebook_fair; lost = notebook_lost }

@@ -1,5 +1,0 @@
-use Rattle.kept.proofs.Accounts.{is_kept}
-use Rattle.kept.proofs.laws.notes_are_kept.Goals as goal
-
-pub returns : goal.returns
-returns c = is_kept

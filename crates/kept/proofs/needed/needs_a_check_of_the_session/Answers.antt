@@ -1,5 +1,0 @@
-use Rattle.kept.proofs.Told.{old_check}
-use Rattle.kept.proofs.needed.needs_a_check_of_the_session.Goals as goal
-
-pub returns : goal.returns
-returns c = old_check

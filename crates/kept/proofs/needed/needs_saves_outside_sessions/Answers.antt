@@ -1,5 +1,0 @@
-use Rattle.kept.proofs.Told.{save_within}
-use Rattle.kept.proofs.needed.needs_saves_outside_sessions.Goals as goal
-
-pub returns : goal.returns
-returns c = save_within

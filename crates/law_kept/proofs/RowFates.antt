@@ -1,0 +1,156 @@
+-- What a row stands for keeps its fate, whatever its client does.
+use Rattle.std.proofs.Common.{◌≡◌, ◌∙◌, refl, ap, sym, ℕ, List, Bool, true, false, Option, Some, None}
+use Rattle.std.specs.Prelude.{is_some, bytes_eq, ◌&&◌}
+use Rattle.std.proofs.lemmas.Bool.{false≢true, true≢false, and_parts}
+use Rattle.item_text.specs.declared.item.Item.{Item}
+use Rattle.local_store.specs.declared.content.Content.{Content}
+use Rattle.local_store.specs.declared.content.Content.TheVariants.{Plain}
+use Rattle.jop_base.proofs.KeyedLaws.{same_text}
+use Rattle.law_kept.specs.Acts.{ItemChange, Saved, Removed, Uploaded, Dropped, Taken, Conflict, Moved, Gone, Opened, Cleared, Act, Begins, Gets, Puts, Deletes, Changes, Ends, Elsewhere, Version, History}
+use Rattle.law_kept.specs.Licences.{is_waiting, is_idle, is_sealed_row, is_copied_from, has_written, has_read_item, may_change, may_act}
+use Rattle.law_kept.specs.Own.{Row, Unchecked, Read, ReadNothing, Wrote, Session, Out, In, Own, row_sent, met, row_unsealed, row_changed, own_after}
+use Rattle.law_kept.specs.Standing.{Standing, version_put, file_after, stood_changed, stands_after}
+use Rattle.law_kept.proofs.FileFates.{FileFate, RowStandsFor, RowHolds, ReadHolds, CheckHolds}
+
+-- ---- rows
+
+-- each fate by the file lasts
+abbrev pub Keeps : History → Option Version → Option Version → Type 0
+Keeps h old new = (item : Item) → FileFate h old item → FileFate h new item
+
+pub row_keeps : (h : History) (old new : Option Version) (row : Option Row) (stood : Option Item)
+    → Keeps h old new → RowHolds h old row stood → RowHolds h new row stood
+row_keeps h old new None stood keeps r = tt
+row_keeps h old new (Some row) stood keeps r = record {
+  item = r.item;
+  stands = r.stands;
+  idle = λ e. keeps r.item (r.idle e);
+  due = r.due;
+}
+
+-- what a check got, if it was a text of the item
+pub record GotItem (h : History) (file : Option Version) (got : Option Item) : Type 0 where
+  pub item : Item
+  pub stands : got ≡ Some item
+  pub fate : FileFate h file item
+
+read_item : (reads : List ℕ → Option Item) (h : History) (file : Option Version) (got : Option Item)
+    (crossed : Bool) (found bytes : List ℕ)
+    → ReadHolds reads h file got crossed found → bytes_eq found bytes ≡ true
+    → is_some (reads bytes) ≡ true → GotItem h file got
+read_item reads h file None crossed found bytes read is some =
+    let none = read.readable refl in
+    let same = same_text found bytes is in
+    let still : reads bytes ≡ None = cc in
+    absurd (false≢true (sym (ap is_some still) ∙ some))
+read_item reads h file (Some item) crossed found bytes read is some =
+    record { item = item; stands = refl; fate = read.safe item refl }
+
+pub got_item : (reads : List ℕ → Option Item) (h : History) (file : Option Version) (s : Standing)
+    (session : Session) (bytes : List ℕ)
+    → has_read_item reads session bytes ≡ true → CheckHolds reads h file s session
+    → GotItem h file s.got
+got_item reads h file s Out bytes may check = absurd (false≢true may)
+got_item reads h file s (In Unchecked) bytes may check = absurd (false≢true may)
+got_item reads h file s (In ReadNothing) bytes may check = absurd (false≢true may)
+got_item reads h file s (In (Wrote written)) bytes may check = absurd (false≢true may)
+got_item reads h file s (In (Read found)) bytes may check =
+    let both = and_parts (bytes_eq found bytes) (is_some (reads bytes)) may in
+    read_item reads h file s.got s.crossed found bytes check both.0 both.1
+
+-- the row that was taken stands for what was got
+row_taken : (h : History) (file : Option Version) (bytes : List ℕ) (content : Content)
+    (got : Option Item)
+    → GotItem h file got
+    → RowStandsFor h file (record { content = content; base = Some bytes; pending = false }) got
+row_taken h file bytes content got g =
+    record
+    { item = g.item; stands = g.stands; idle = λ e. g.fate; due = λ e. absurd (false≢true e) }
+
+row_met : (h : History) (file : Option Version) (remote : List ℕ × Content) (row : Option Row)
+    (got : Option Item) → GotItem h file got → RowHolds h file (met remote row) got
+row_met h file remote None got g = tt
+row_met h file remote (Some row) got g = row_taken h file remote.0 remote.1 got g
+
+row_uploaded : (h : History) (file : Option Version) (bytes : List ℕ) (row : Option Row)
+    (stood : Option Item) → ((item : Item) → stood ≡ Some item → FileFate h file item)
+    → RowHolds h file row stood → RowHolds h file (row_sent bytes row) stood
+row_uploaded h file bytes None stood fate r = tt
+row_uploaded h file bytes (Some row) stood fate r = record {
+  item = r.item;
+  stands = r.stands;
+  idle = λ e. fate r.item r.stands;
+  due = λ e. absurd (false≢true e);
+}
+
+row_opened : (h : History) (file : Option Version) (item : Item) (row : Option Row)
+    (stood : Option Item) → is_sealed_row row ≡ true → RowHolds h file row stood
+    → RowHolds h file (row_unsealed item row) stood
+row_opened h file item None stood sealed r = tt
+row_opened h file item (Some row) stood sealed r = record {
+  item = r.item;
+  stands = r.stands;
+  idle = r.idle;
+  due = λ e. let plain : row.content ≡ Plain r.item =
+      r.due e in absurd (false≢true (rw plain at sealed));
+}
+
+-- a check that heard of its put
+wrote_fate : (reads : List ℕ → Option Item) (h : History) (file : Option Version) (s : Standing)
+    (session : Session) (bytes : List ℕ)
+    → has_written session bytes ≡ true → CheckHolds reads h file s session
+    → (item : Item) → s.row ≡ Some item → FileFate h file item
+wrote_fate reads h file s Out bytes may check = absurd (false≢true may)
+wrote_fate reads h file s (In Unchecked) bytes may check = absurd (false≢true may)
+wrote_fate reads h file s (In (Read found)) bytes may check = absurd (false≢true may)
+wrote_fate reads h file s (In ReadNothing) bytes may check = absurd (false≢true may)
+wrote_fate reads h file s (In (Wrote written)) bytes may check = check
+
+-- a conflict comes of what was read
+pub conflict_read : (reads : List ℕ → Option Item) (o : Own) (remote : List ℕ × Content)
+    (copied : Option ℕ) → may_change reads o (Conflict (Some remote) copied) ≡ true
+    → has_read_item reads o.session remote.0 ≡ true
+conflict_read reads o remote copied may =
+    let read = has_read_item reads o.session remote.0 in
+    let is = is_copied_from o.row remote.1 copied in
+    (and_parts read is (and_parts (is_waiting o.row) (read && is) may).1).0
+
+row_after_change : (reads : List ℕ → Option Item) (h : History) (file : Option Version) (o : Own)
+    (s : Standing) (change : ItemChange)
+    → may_change reads o change ≡ true → RowHolds h file o.row s.row
+    → CheckHolds reads h file s o.session
+    → RowHolds h file (row_changed o.row change) (stood_changed s change)
+row_after_change reads h file o s (Saved item) may r c =
+    record { item = item; stands = refl; idle = λ e. absurd (true≢false e); due = λ e. refl }
+row_after_change reads h file o s Removed may r c = tt
+row_after_change reads h file o s (Uploaded bytes) may r c =
+    row_uploaded h file bytes o.row s.row (wrote_fate reads h file s o.session bytes may c) r
+row_after_change reads h file o s Dropped may r c = r
+row_after_change reads h file o s (Taken bytes content) may r c =
+    let both = and_parts (is_idle o.row) (has_read_item reads o.session bytes) may in
+    row_taken h file bytes content s.got (got_item reads h file s o.session bytes both.1 c)
+row_after_change reads h file o s (Conflict (Some remote) copied) may r c =
+    row_met h file remote o.row s.got
+    (got_item reads h file s o.session remote.0 (conflict_read reads o remote copied may) c)
+row_after_change reads h file o s (Conflict None copied) may r c = tt
+row_after_change reads h file o s (Moved number) may r c = tt
+row_after_change reads h file o s Gone may r c = tt
+row_after_change reads h file o s (Opened item) may r c = row_opened h file item o.row s.row may r
+row_after_change reads h file o s (Cleared number) may r c = r
+
+pub row_own : (reads : List ℕ → Option Item) (h : History) (file : Option Version) (o : Own)
+    (s : Standing) (x : Act)
+    → may_act reads o x ≡ true → Keeps h file (file_after s.row file x)
+    → RowHolds h file o.row s.row → CheckHolds reads h file s o.session
+    → RowHolds h (file_after s.row file x) (own_after o x).row (stands_after file s x).row
+row_own reads h file o s (Changes change) may keeps r c =
+    row_after_change reads h file o s change may r c
+row_own reads h file o s (Puts bytes true heard) may keeps r c =
+    row_keeps h file (Some (version_put s.row bytes)) o.row s.row keeps r
+row_own reads h file o s (Puts bytes false heard) may keeps r c = r
+row_own reads h file o s (Deletes true) may keeps r c = row_keeps h file None o.row s.row keeps r
+row_own reads h file o s (Deletes false) may keeps r c = r
+row_own reads h file o s Begins may keeps r c = r
+row_own reads h file o s (Gets answer) may keeps r c = r
+row_own reads h file o s Ends may keeps r c = r
+row_own reads h file o s Elsewhere may keeps r c = r

@@ -1,0 +1,17 @@
+pub mod Acts
+pub mod Fair
+pub mod Fates
+pub mod Gap
+pub mod Honest
+pub mod Licences
+pub mod Own
+pub mod Refusals
+pub mod Standing
+pub mod Stories
+pub mod Telling
+pub mod ToldStories
+pub mod FairTables
+pub mod Holding
+pub mod Known
+pub mod TableStories
+pub mod Trails

@@ -1,0 +1,11 @@
+use Rattle.law_licences.proofs.Obeying.{upload, deletion, conflict, loss, reading}
+use Rattle.law_licences.proofs.stories.can_obey.Goals as goal
+
+pub returns : goal.returns
+returns c = record {
+  upload = upload;
+  deletion = deletion;
+  conflict = conflict;
+  loss = loss;
+  page = reading;
+}

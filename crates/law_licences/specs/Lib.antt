@@ -1,0 +1,17 @@
+pub mod Deeds
+pub mod Items
+pub mod Copies
+pub mod Views
+pub mod Trails
+pub mod Checks
+pub mod Puts
+pub mod Deletions
+pub mod Pages
+pub mod Conflicts
+pub mod Leaving
+pub mod Infos
+pub mod Licences
+pub mod Settling
+pub mod Stories
+pub mod Breaches
+pub mod Laws

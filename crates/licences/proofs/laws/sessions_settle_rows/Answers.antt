@@ -1,6 +1,0 @@
-use Rattle.licences.proofs.Settled.{pending-view_from}
-use Rattle.licences.proofs.Settling.{settling-view_from}
-use Rattle.licences.proofs.laws.sessions_settle_rows.Goals as goal
-
-pub returns : goal.returns
-returns c = record { calm = pending-view_from; settled = settling-view_from }

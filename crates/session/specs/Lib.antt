@@ -1,0 +1,11 @@
+pub mod Work
+pub mod Steps
+pub mod Findings
+pub mod Reported
+pub mod Parts
+pub mod Saving
+pub mod Agreeing
+pub mod Making
+pub mod Doing
+pub mod Asking
+pub mod Sessions

@@ -1,0 +1,63 @@
+use Rattle.std.specs.Prelude.{refl}
+use Rattle.std.proofs.Common.{subst, sym}
+use Rattle.std.proofs.lemmas.Result.{err_from_is_err_and}
+use Rattle.jop_base.specs.declared.path.Path.TheVariants.{Info as InfoFile}
+use Rattle.jop_target.specs.declared.call.Call.TheVariants.{Get}
+use Rattle.session_opening.proofs.Gets.{absent_refuses, absent_stops, takes, told_refuses}
+use Rattle.session_opening.specs.Opening.{is_reading}
+use Rattle.session.specs.Asking.{IsAnswer}
+use Rattle.target_upgrade.specs.Reading.{Gives}
+use Rattle.session_opening.proofs.reading.read_supported.Goals as goal
+
+pub last-requires : goal.last-requires
+last-requires g c =
+    let h = c.in_ok-ask.ensures.ends is_reading refl in
+    (Get InfoFile, h.reply, h.ends)
+
+pub told-requires : goal.told-requires
+told-requires g c =
+    let h = c.in_ok-ask.ensures.ends is_reading refl in
+    subst (IsAnswer (Get InfoFile)) (sym (c.last.ensures (Get InfoFile) h.reply h.ends)) h.answer
+
+pub returns-in_err-ask : goal.returns-in_err-ask
+returns-in_err-ask g c = record {
+  reads = let p = err_from_is_err_and c.from_residual.result c.from_residual.ensures.1 in
+      rw (p.1, p.2) (c.in_err-ask.ensures.ends is_reading refl);
+}
+
+pub returns-in_err-info : goal.returns-in_err-info
+returns-in_err-info g c = record {
+  reads = let p = err_from_is_err_and c.from_residual-in_err-info.result
+      c.from_residual-in_err-info.ensures.1 in
+      let h = c.in_ok-ask.ensures.ends is_reading refl in
+      rw (p.1, p.2) (told_refuses _ _ c.last.result.now _ h
+      (c.last.ensures (Get InfoFile) h.reply h.ends) c.in_err-info.ensures);
+}
+
+pub returns-in_err-read_old-in-None : goal.returns-in_err-read_old-in-None
+returns-in_err-read_old-in-None g c = record {
+  reads = let p = err_from_is_err_and c.from_residual-in_err-read_old-in-None.result
+      c.from_residual-in_err-read_old-in-None.ensures.1 in
+      rw (p.1, p.2) (absent_stops _ (g.W.Session.now c.ask.new.self) _ _
+      (c.in_ok-ask.ensures.ends is_reading refl) c.in_err-read_old-in-None.ensures.reads);
+}
+
+pub read_old-requires : goal.read_old-requires
+read_old-requires g c = record { ready = (c.in_ok-ask.ensures.ends is_reading refl).does.ready }
+
+pub returns-in_ok-read_old-in-None : goal.returns-in_ok-read_old-in-None
+returns-in_ok-read_old-in-None g c = record {
+  reads = let h = c.in_ok-ask.ensures.ends is_reading refl in
+      absent_refuses _ (g.W.Session.now c.ask.new.self) _ c.last.result.now _ h
+      (c.last.ensures (Get InfoFile) h.reply h.ends) (rw c.in-None.is at c.in_ok-info.ensures)
+      c.in_ok-read_old-in-None.ensures.reads;
+}
+
+pub returns-in-Some : goal.returns-in-Some
+returns-in-Some g c = record {
+  reads = let h = c.in_ok-ask.ensures.ends is_reading refl in
+      let tells = rw c.in-Some.is at c.in_ok-info.ensures in
+      takes c.in-Some.info c.supported.result _ _ h c.requires.sync tells.0
+      (subst (Gives c.in-Some.info) (c.last.ensures (Get InfoFile) h.reply h.ends) tells.1)
+      c.supported.ensures;
+}

@@ -1,0 +1,28 @@
+ghost use Rattle.std.specs.Prelude.{◌≡◌, OnOk};
+ghost use Rattle.jop_base.specs.declared.lock_name.LockKind.TheVariants.{Sync};
+ghost use Rattle.session_opening.specs.Opening.{IsLawful, KnowsVersion, MergesBetween, OpensOr};
+ghost use Rattle.session.specs.Work.{IsAtWork};
+
+use crate::joining::join_info;
+use crate::reading::read_supported;
+use crate::refusal::OpenErr;
+use session::Session;
+use std::alloc::Global;
+
+/// Opens a session under a sync lease: reads the target's info, which is of the supported version,
+/// and makes one of it and the client's own, on the target and here. If there is no `info.json`,
+/// the version is 1 if `.sync/version.txt` is there in any form, and else 0.
+pub fn open_session<W: Session>(alloc: Global, s: &mut W) -> Result<(), OpenErr>
+    requires ready { IsAtWork (W.now s.old) }
+    requires sync { (W.now s.old).lease.kind ≡ Sync }
+    requires lawful { IsLawful (W.now s.old).lease (W.now s.old).site }
+
+    ensures opens { OpensOr (W.now s.old) result (W.now s.new) }
+    ensures lawful { IsLawful (W.now s.new).lease (W.now s.new).site }
+    ensures told { OnOk result (KnowsVersion (W.now s.new).lease (W.now s.new).site) }
+    ensures merges { MergesBetween (W.now s.old).site (W.now s.new).site }
+{
+    let remote = read_supported(alloc, s)?;
+    join_info(alloc, s, &remote)?;
+    Ok(())
+}

@@ -1,0 +1,72 @@
+ghost use Rattle.std.specs.Prelude.{◌≡◌};
+ghost use Rattle.jop_base.specs.declared.lock_name.LockKind.TheVariants.{Sync};
+ghost use Rattle.jop_base.specs.declared.path.Path.TheVariants.{Info as InfoFile};
+ghost use Rattle.jop_target.specs.declared.call.Call.TheVariants.{Get};
+ghost use Rattle.session_opening.specs.Opening.{IsTakenInfo, ReadsOldOr, ReadsOr, TellsInfo};
+ghost use Rattle.session.specs.Asking.{IsAnswer};
+ghost use Rattle.session.specs.Work.{IsAtWork};
+
+use crate::refusal::OpenErr;
+use conflicts::StepErr;
+use jop_base::Path;
+use jop_target::{Call, Reply};
+use session::Session;
+use std::alloc::Global;
+use sync_info::{Info, InfoErr, read_info};
+use target_upgrade::SUPPORTED;
+
+/// The info that `info.json` holds, if it is there.
+fn told(alloc: Global, reply: &Reply) -> Result<Option<Info>, OpenErr>
+    requires { IsAnswer (Get InfoFile) reply.now }
+    ensures { TellsInfo reply.now result }
+{
+    match reply {
+        Reply::Absent { now: _ } => Ok(None),
+        Reply::Got { now: _, content } => match read_info(alloc, content.as_slice()) {
+            Ok(info) => Ok(Some(info)),
+            Err(InfoErr::Bad(_)) => Err(OpenErr::BadInfo),
+            Err(InfoErr::NoMemory) => Err(OpenErr::Step(StepErr::NoMemory)),
+        },
+        _ => Err(OpenErr::BadInfo),
+    }
+}
+
+/// The info, if its version is the supported one.
+fn supported(info: Info) -> Result<Info, OpenErr>
+    ensures { IsTakenInfo info result }
+{
+    if info.version < SUPPORTED {
+        return Err(OpenErr::Older(info.version));
+    }
+    if info.version > SUPPORTED {
+        return Err(OpenErr::Newer(info.version));
+    }
+    Ok(info)
+}
+
+/// The version of a target without an info: 1 if `.sync/version.txt` is there in any form, and else 0.
+fn read_old<W: Session>(alloc: Global, s: &mut W) -> Result<u64, StepErr>
+    requires ready { IsAtWork (W.now s.old) }
+
+    ensures reads { ReadsOldOr (W.now s.old) result (W.now s.new) }
+{
+    s.ask(alloc, Call::Get(Path::OldVersion))?;
+    match s.last() {
+        Reply::Absent { now: _ } => Ok(0),
+        _ => Ok(1),
+    }
+}
+
+/// Reads the target's info, which is one of the supported version.
+pub(crate) fn read_supported<W: Session>(alloc: Global, s: &mut W) -> Result<Info, OpenErr>
+    requires ready { IsAtWork (W.now s.old) }
+    requires sync { (W.now s.old).lease.kind ≡ Sync }
+
+    ensures reads { ReadsOr (W.now s.old) result (W.now s.new) }
+{
+    s.ask(alloc, Call::Get(Path::Info))?;
+    match told(alloc, s.last())? {
+        Some(info) => supported(info),
+        None => Err(OpenErr::Older(read_old(alloc, s)?)),
+    }
+}

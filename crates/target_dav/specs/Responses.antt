@@ -1,0 +1,43 @@
+-- How the response to a call is waited for.
+use Rattle.std.specs.Prelude.{ℕ, ◌≡◌, ◌⊎◌, List, length, nat_eq, Result, Ok, Err}
+use Rattle.dav_link.specs.Awaiting.{MessageNow}
+use Rattle.dav_link.specs.Links.{LinkNow, IsAtEnd}
+use Rattle.dav_link.specs.Receiving.{HasReadBytes, HasBroken, HasStarved}
+use Rattle.dav_link.specs.declared.error.LinkErr.{LinkErr}
+use Rattle.dav_link.specs.declared.error.LinkErr.TheVariants.{Fault, NoMemory}
+use Rattle.dav_wire.specs.ResponseReading.{ResponseReadsAs, IsMissing}
+use Rattle.dav_wire.specs.declared.response_reader.ReadResponse.TheVariants.{Whole, More, Bad}
+use Rattle.jop_target.specs.declared.call.Call.{Call}
+use Rattle.target_dav.specs.declared.receiving.Received.{Received}
+
+-- how the response to a call is read in the bytes that came so far
+abbrev pub response_now : Call → MessageNow
+response_now call =
+    record { misses = IsMissing call; more = λ bytes. ResponseReadsAs call bytes More }
+
+-- why there is none though the link didn't fail: the bytes are no response to the call, or the link
+-- ended before a whole one
+abbrev pub IsNoResponse : Call → List ℕ → LinkNow → Type 0
+IsNoResponse call bytes new =
+    ResponseReadsAs call bytes Bad ⊎ (ResponseReadsAs call bytes More × IsAtEnd new.left)
+
+pub record HasNoResponse (call : Call) (old new : LinkNow) : Type 0 where
+  pub bytes : List ℕ
+  pub read : HasReadBytes old bytes new
+  pub stays : new.faults ≡ old.faults
+  pub none : IsNoResponse call bytes new
+
+-- the bytes that were read begin with the response
+pub record HasResponse (call : Call) (old : LinkNow) (received : Received) (new : LinkNow)
+    : Type 0 where
+  pub bytes : List ℕ
+  pub read : HasReadBytes old bytes new
+  pub stays : new.faults ≡ old.faults
+  pub used : ℕ
+  pub response : ResponseReadsAs call bytes (Whole received.reply received.blob used)
+  pub alone : received.alone ≡ nat_eq used (length bytes)
+
+abbrev pub Receives : Call → LinkNow → Result Received LinkErr → LinkNow → Type 0
+Receives call old (Ok received) new = HasResponse call old received new
+Receives call old (Err Fault) new = HasBroken old new ⊎ HasNoResponse call old new
+Receives call old (Err NoMemory) new = HasStarved old new

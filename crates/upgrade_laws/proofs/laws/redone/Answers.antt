@@ -1,8 +1,0 @@
-use Rattle.upgrade_laws.proofs.Upgrades.{joined, redone}
-use Rattle.upgrade_laws.proofs.laws.redone.Goals as goal
-
-pub returns-clause-redone : goal.returns-clause-redone
-returns-clause-redone c = redone
-
-pub returns-clause-joined : goal.returns-clause-joined
-returns-clause-joined c = joined

@@ -1,5 +1,0 @@
-use Rattle.lease.proofs.WholeSessions.{begun_stands}
-use Rattle.worked_rows.proofs.exclusive.go_for_an_upgrade.Goals as goal
-
-pub acquire-requires : goal.acquire-requires
-acquire-requires c = begun_stands _ _ _ c.in_ok-begin.ensures.ok
