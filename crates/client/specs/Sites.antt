@@ -1,5 +1,6 @@
 -- A client at work, and what a change does to it.
 use Rattle.std.specs.Prelude.{ℕ, ◌≡◌, ◌⊎◌, List, [], ◌∷◌, ◌++◌, length, option_map, Option, Result, Ok, Err}
+use Rattle.std.specs.declared.alloc.AllocError.{AllocError}
 use Rattle.jop_target.specs.Trail.{LineNow}
 use Rattle.jop_target.specs.declared.event.Event.{Event}
 use Rattle.jop_target.specs.declared.event.Event.TheVariants.{Made}
@@ -36,6 +37,17 @@ pub record Place : Type 0 where
   pub tables : ℕ
   pub diary : ℕ
   pub made : ℕ
+
+-- ---- a mark of a session
+
+-- one more event is written down
+abbrev pub written_down : Event → SiteNow → SiteNow
+written_down event d = record d { line = record d.line { trail = d.line.trail ++ event ∷ [] } }
+
+-- it is written down, and nothing else is changed; out of memory nothing is
+abbrev pub WritesDown : Event → SiteNow → Result (Unit {0}) AllocError → SiteNow → Type 0
+WritesDown event old (Ok done) new = new ≡ written_down event old
+WritesDown event old (Err e) new = new ≡ old
 
 -- ---- a change, by each of its parts
 

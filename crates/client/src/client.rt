@@ -1,5 +1,8 @@
-ghost use Rattle.std.specs.Prelude.{◌≡◌, IfOk, OnErr, OnOk};
-ghost use Rattle.client.specs.Sites.{Commits, IsSameButKeeper, IsSameSite, IsTidy, IsUnmade, KeepsBytes, Place, SiteNow};
+ghost use Rattle.std.specs.Prelude.{◌≡◌, IfOk, IsOk, OnErr, OnOk, true};
+ghost use Rattle.client.specs.Sites.{Commits, IsSameButKeeper, IsSameSite, IsTidy, IsUnmade, KeepsBytes};
+ghost use Rattle.client.specs.Sites.{Place, SiteNow, WritesDown};
+ghost use Rattle.jop_target.specs.Running.{is_running};
+ghost use Rattle.jop_target.specs.declared.event.Event.TheVariants.{Began, Ended};
 ghost use Rattle.keeper.specs.Keepers.{HasCause, IsBlobOfKept};
 ghost use Rattle.local_store.specs.Sound.{IsAllowed};
 
@@ -7,7 +10,7 @@ use jop_base::{Bytes, Id};
 use jop_target::Line;
 use keeper::KeeperErr;
 use local_store::{Change, Tables};
-use std::alloc::Global;
+use std::alloc::{AllocError, Global};
 
 /// A client at work: a line to a target, and tables with their keeper.
 pub trait Client: Line {
@@ -19,6 +22,17 @@ pub trait Client: Line {
 
     fn tables(&self) -> &Tables
         ensures { result.now ≡ (site self.now).tables };
+
+    /// A session begins.
+    fn begin(&mut self) -> Result<(), AllocError>
+        ensures writes { WritesDown Began (site self.old) result (site self.new) }
+        ensures stays { place self.new ≡ place self.old };
+
+    /// The session ends. There is room for that, if one goes on.
+    fn end(&mut self) -> Result<(), AllocError>
+        ensures writes { WritesDown Ended (site self.old) result (site self.new) }
+        ensures ends { is_running (site self.old).line.trail ≡ true → IsOk result }
+        ensures stays { place self.new ≡ place self.old };
 
     /// Makes a change: keeps it, makes it in the tables, and writes it down in the diary by its number and in the list
     /// of changes. Room is made first. After every answer but `NoMemory` tables and keeper agree.

@@ -90,6 +90,14 @@ impl<'a, T: Target, K: Keeper> Client for Site<'a, T, K> {
         self.tables
     }
 
+    fn begin(&mut self) -> Result<(), AllocError> {
+        self.diary.begin()
+    }
+
+    fn end(&mut self) -> Result<(), AllocError> {
+        self.diary.end()
+    }
+
     fn commit(&mut self, alloc: Global, change: Change) -> Result<(), KeeperErr> {
         commit(
             alloc,

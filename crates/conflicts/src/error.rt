@@ -1,3 +1,4 @@
+use crate::refusal::Refusal;
 use keeper::KeeperErr;
 use lease::Seen;
 use std::alloc::AllocError;
@@ -11,8 +12,8 @@ pub enum StepErr {
     TargetFault,
     /// The keeper failed.
     KeeperFault,
-    /// The target shows no item, and the client has a base of so many.
-    FailSafe(u64),
+    /// It is refused, though nothing has failed.
+    Refused(Refusal),
     NoMemory,
 }
 

@@ -27,13 +27,7 @@ impl Tally {
             Change::Gone(_) => Tally::Gone,
             Change::Conflict(_, _, copies) => if_copied(*copies),
             Change::Moved(_) => Tally::Copied,
-            Change::Named(_) => Tally::Other,
-            Change::Saved(_, _) => Tally::Other,
-            Change::Removed(_) => Tally::Other,
-            Change::Opened(_, _) => Tally::Other,
-            Change::Cleared(_) => Tally::Other,
-            Change::InfoIs(_) => Tally::Other,
-            Change::ContextIs(_) => Tally::Other,
+            _ => Tally::Other,
         }
     }
 }

@@ -4,7 +4,8 @@ use Rattle.std.proofs.Common.{sym, subst, get_or}
 use Rattle.std.proofs.lemmas.Bool.{or_right}
 use Rattle.std.proofs.lemmas.List.Elements.{All-contains_itself, All-from_get_or, All-get_or}
 use Rattle.conflicts.specs.declared.error.StepErr.{StepErr}
-use Rattle.conflicts.specs.declared.error.StepErr.TheVariants.{Lost, TargetFault, KeeperFault, FailSafe, NoMemory}
+use Rattle.conflicts.specs.declared.error.StepErr.TheVariants.{NoMemory, Refused}
+use Rattle.conflicts.specs.declared.refusal.Refusal.TheVariants.{FailSafe}
 use Rattle.delta.specs.declared.page.Page.{Page}
 use Rattle.client.specs.Sites.{SiteNow}
 use Rattle.download.specs.Asked.{AsksFor, AsksForAll, EndsShown}
@@ -25,9 +26,10 @@ use Rattle.local_store.specs.declared.change.Change.TheVariants.{ContextIs}
 use Rattle.local_store.specs.declared.tables.Tables.{Tables}
 use Rattle.session.proofs.Ending.{does_as, does_starves, gives_up_behind}
 use Rattle.session.proofs.Joins.{does_then}
-use Rattle.session.proofs.Recast.{does_forgetting, does_listing, ends_at_placed, ends_placed, gives_up_forgetting, gives_up_placed}
+use Rattle.session.proofs.Recast.{does_forgetting, does_listing, ends_at_placed, gives_up_forgetting}
+use Rattle.session.proofs.Refusing.{not_refused, refuses_placed, went_refused}
 use Rattle.session.proofs.Wider.{IsWithin, does_within}
-use Rattle.session.specs.Doing.{Does, EndsAt, GivesNothing, Went}
+use Rattle.session.specs.Doing.{Does, EndsAt, Went}
 use Rattle.session.specs.Making.{MayMakeBy}
 use Rattle.session.specs.Parts.{ForEach, Hears, Then}
 use Rattle.session.specs.Sessions.{HasHeard}
@@ -110,14 +112,6 @@ page_at t own reply heard result same is h =
     subst (λ (x : Reply). PageOf own x result) is
     (subst (λ (x : Tables). PageOf x reply result) same h)
 
-pub refuses : (old new : WorkNow) (e : StepErr) → GivesNothing is_download old e new
-    → RefusesDownload old e new
-refuses old new (Lost seen) h = h
-refuses old new TargetFault h = h
-refuses old new KeeperFault h = h
-refuses old new (FailSafe count) h = absurd h
-refuses old new NoMemory h = h
-
 pub lists : (a b : WorkNow) (result : Result Page StepErr)
     → (h : HasHeard (ListDir Root) is_download a b) → PageOf a.site.tables h.reply result
     → Lists a result b
@@ -135,12 +129,11 @@ lists a b result h page =
         safe = is.1;
         does = does_listing listing is_download a b h;
       }
-      by (Err (FailSafe count)) listing is h =
-          record { listing = listing; listed = h; rows = is }
+      by (Err (Refused (FailSafe count))) listing is h =
+          does_as (Hears (ListDir Root) (Listed listing)) (RefusesDownload (FailSafe count))
+          is_download a b (λ shown ds it. record { listing = listing; rows = is; listed = it }) h
       by (Err NoMemory) listing is h = does_starves h
-      by (Err (Lost seen)) listing is h = absurd is
-      by (Err TargetFault) listing is h = absurd is
-      by (Err KeeperFault) listing is h = absurd is
+      by (Err e) listing is h = absurd is
 
 -- ---- the whole
 
@@ -162,24 +155,17 @@ downloads a b c page (Ok value) h none k =
     (knowing known b) (knowing known c) h.does k))
 downloads a b c page (Err e) h none k =
     let known = Some (shown_to a.site.tables h.listing) in
-    refuses a c e
+    not_refused RefusesDownload is_download a c e
     (gives_up_forgetting is_download known a c e
     (gives_up_behind (Hears (ListDir Root) (Listed h.listing)) is_download a (knowing known b)
     (knowing known c) e h.does k))
 
 -- ---- what stands behind it
 
-went_refused : (a b : WorkNow) (e : StepErr) → RefusesDownload a e b → Went is_download a b
-went_refused a b (Lost seen) h = h.0.went
-went_refused a b TargetFault h = h.0.went
-went_refused a b KeeperFault h = h.stops.went
-went_refused a b (FailSafe count) h = h.listed.went
-went_refused a b NoMemory h = h.went
-
 went_download : {R : Type 0} (a b : WorkNow) (result : Result R StepErr)
     → EndsDownload a result b → Went is_download a b
 went_download a b (Ok value) h = h.went
-went_download a b (Err e) h = went_refused a b e h
+went_download a b (Err e) h = went_refused RefusesDownload is_download a b e h
 
 pub ready_download : {R : Type 0} (a b : WorkNow) (result : Result R StepErr)
     → EndsDownload a result b → OnOk result (IsAtWork b)
@@ -195,25 +181,9 @@ pub place_download : {R : Type 0} (a b : WorkNow) (result : Result R StepErr)
 place_download a b result h = (went_download a b result h).place
 
 -- whatever the references are
-refused_nowhere : (a b : WorkNow) (e : StepErr) → RefusesDownload a e b
-    → RefusesDownload (placed nowhere a) e (placed nowhere b)
-refused_nowhere a b (Lost seen) h =
-    gives_up_placed is_download nowhere nowhere a b (Lost seen) refl h
-refused_nowhere a b TargetFault h =
-    gives_up_placed is_download nowhere nowhere a b TargetFault refl h
-refused_nowhere a b KeeperFault h =
-    gives_up_placed is_download nowhere nowhere a b KeeperFault refl h
-refused_nowhere a b (FailSafe count) h = record {
-  listing = h.listing;
-  listed = ends_placed {R = Unit {0}} (Hears (ListDir Root) (Listed h.listing)) is_download nowhere
-      nowhere a b (Ok tt) refl h.listed;
-  rows = h.rows;
-}
-refused_nowhere a b NoMemory h =
-    gives_up_placed is_download nowhere nowhere a b NoMemory refl h
-
 pub download_nowhere : {R : Type 0} (a b : WorkNow) (result : Result R StepErr)
     → EndsDownload a result b → EndsDownload (placed nowhere a) result (placed nowhere b)
 download_nowhere a b (Ok value) h =
     ends_at_placed Finished Downloads is_download nowhere nowhere a b (Ok value) refl h
-download_nowhere a b (Err e) h = refused_nowhere a b e h
+download_nowhere a b (Err e) h =
+    refuses_placed RefusesDownload is_download nowhere nowhere a b e refl h

@@ -1,7 +1,9 @@
 -- What a download has found so far.
 use Rattle.std.specs.Prelude.{ℕ, ◌≡◌, List, All, Contains, Some, None, Result, Ok, Err}
 use Rattle.conflicts.specs.declared.error.StepErr.{StepErr}
-use Rattle.conflicts.specs.declared.error.StepErr.TheVariants.{Lost, TargetFault, KeeperFault, FailSafe, NoMemory}
+use Rattle.conflicts.specs.declared.error.StepErr.TheVariants.{NoMemory, Refused}
+use Rattle.conflicts.specs.declared.refusal.Refusal.{Refusal}
+use Rattle.conflicts.specs.declared.refusal.Refusal.TheVariants.{FailSafe}
 use Rattle.delta.specs.declared.page.Page.{Page}
 use Rattle.download.specs.Asked.{EndsShown}
 use Rattle.download.specs.Downloading.{Applies, Downloads, is_download}
@@ -10,10 +12,11 @@ use Rattle.jop_target.specs.declared.call.Call.TheVariants.{List as ListDir}
 use Rattle.jop_target.specs.declared.reply.Listing.{Listing}
 use Rattle.jop_target.specs.declared.reply.Reply.{Reply}
 use Rattle.jop_target.specs.declared.reply.Reply.TheVariants.{Listed}
+use Rattle.law_licences.specs.Deeds.{Deed}
 use Rattle.law_licences.specs.Pages.{IsPage, emptied_by}
-use Rattle.law_licences.specs.Views.{Finished, Shown, shown_to}
+use Rattle.law_licences.specs.Views.{Finished, Shown, View, shown_to}
 use Rattle.local_store.specs.declared.tables.Tables.{Tables}
-use Rattle.session.specs.Doing.{Does, EndsAt, Finishes, GivesNothing}
+use Rattle.session.specs.Doing.{Does, EndsAt, Finishes, RefusesOr}
 use Rattle.session.specs.Parts.{Hears, Part}
 use Rattle.session.specs.Work.{WorkNow, knowing}
 
@@ -53,7 +56,7 @@ EndsPage page old result new =
 abbrev pub PageIn : Tables → Listing → Result Page StepErr → Type 0
 PageIn t listing (Ok page) =
     IsPage (shown_to t listing) page × (emptied_by (shown_to t listing) ≡ None)
-PageIn t listing (Err (FailSafe count)) = emptied_by (shown_to t listing) ≡ Some count
+PageIn t listing (Err (Refused (FailSafe count))) = emptied_by (shown_to t listing) ≡ Some count
 PageIn t listing (Err NoMemory) = Unit {0}
 PageIn t listing (Err e) = ⊥
 
@@ -71,26 +74,23 @@ pub record HasListed (old : WorkNow) (page : Page) (new : WorkNow) : Type 0 wher
 
 -- ---- the whole
 
--- the root was listed and shows no item, while so many rows have a base
-pub record IsEmptied (old : WorkNow) (count : ℕ) (new : WorkNow) : Type 0 where
+-- the root is listed and shows no item, while so many rows have a base
+pub record FindsEmptied (count : ℕ) (v : View) (ds : List Deed) : Type 0 where
   pub listing : Listing
-  pub listed : Does (Hears (ListDir Root) (Listed listing)) is_download old new
-  pub rows : emptied_by (shown_to old.site.tables listing) ≡ Some count
+  pub rows : emptied_by (shown_to v.tables listing) ≡ Some count
+  pub listed : Hears (ListDir Root) (Listed listing) v ds
 
--- why a download gives nothing, by each error
-abbrev pub RefusesDownload : WorkNow → StepErr → WorkNow → Type 0
-RefusesDownload old (Lost seen) new = GivesNothing is_download old (Lost seen) new
-RefusesDownload old TargetFault new = GivesNothing is_download old TargetFault new
-RefusesDownload old KeeperFault new = GivesNothing is_download old KeeperFault new
-RefusesDownload old (FailSafe count) new = IsEmptied old count new
-RefusesDownload old NoMemory new = GivesNothing is_download old NoMemory new
+-- what is read of a target from which nothing is taken
+abbrev pub RefusesDownload : Refusal → Part
+RefusesDownload (FailSafe count) v ds = FindsEmptied count v ds
+RefusesDownload why v ds = ⊥
 
 -- each answer of the listing, by its cause
 abbrev pub Lists : WorkNow → Result Page StepErr → WorkNow → Type 0
 Lists old (Ok page) new = HasListed old page new
-Lists old (Err e) new = RefusesDownload old e new
+Lists old (Err e) new = RefusesOr RefusesDownload is_download old e new
 
 -- the page was applied, which is the session's last part, or it gave nothing
 abbrev pub EndsDownload : {R : Type 0} → WorkNow → Result R StepErr → WorkNow → Type 0
 EndsDownload old (Ok value) new = Finishes Downloads is_download old new
-EndsDownload old (Err e) new = RefusesDownload old e new
+EndsDownload old (Err e) new = RefusesOr RefusesDownload is_download old e new

@@ -10,7 +10,7 @@ ghost use Rattle.session.specs.Work.{IsAtWork, IsReady, work};
 use crate::leaving::leave;
 use crate::taking::take_listed;
 use client::Client;
-use conflicts::{StepErr, SyncReport};
+use conflicts::{Refusal, StepErr, SyncReport};
 use delta::{Page, delta_of, fail_safe};
 use jop_base::{Context, Copied, Dir, Id, Seq};
 use jop_target::{Call, Listing, Reply};
@@ -38,7 +38,7 @@ fn page_in(alloc: Global, tables: &Tables, listing: &Listing) -> Result<Page, St
 {
     let synced = synced_ids(alloc, tables)?;
     if let Some(count) = fail_safe(listing, None, &synced) {
-        return Err(StepErr::FailSafe(count));
+        return Err(StepErr::Refused(Refusal::FailSafe(count)));
     }
     let page = delta_of(alloc, listing, None, &tables.context, &synced)?;
     Ok(page)

@@ -25,7 +25,7 @@ use Rattle.sync_run.specs.Checks.{AddsCheck}
 use Rattle.sync_run.specs.Leases.{blocked_in, is_done}
 use Rattle.sync_run.specs.Sessions.{IsMarkOr}
 use Rattle.sync_run.specs.declared.session_err.SessionErr.{SessionErr}
-use Rattle.sync_run.specs.declared.session_err.SessionErr.TheVariants.{Busy, LeaseLost, TargetNewer, BadInfo, TargetFault, NoMemory}
+use Rattle.sync_run.specs.declared.session_err.SessionErr.TheVariants.{Busy, LeaseLost, Refused, TargetFault, NoMemory}
 
 -- the session, whose calls came to this before it ended
 ended : (target : TargetName) (client : List ℕ) (before after : OutsideNow) (middle : List Event)
@@ -57,9 +57,7 @@ explained_refusal target client before after (LeaseLost seen) fresh adds uses =
     ended target client before after adds.whole.middle
     (λ kind client events. (at : Phase) × HasMissed kind client at events seen) fresh
     adds.whole.trail (Asked Sync, adds.because)
-explained_refusal target client before after (TargetNewer version) fresh adds uses =
-    absurd adds.because
-explained_refusal target client before after BadInfo fresh adds uses = absurd adds.because
+explained_refusal target client before after (Refused why) fresh adds uses = absurd adds.because
 explained_refusal target client before after TargetFault fresh adds uses =
     let failed = failed_session (IsLeaseEvent client) client before.line.trail after.line.trail
     adds.whole adds.because in

@@ -1,4 +1,5 @@
 mod Checked
+mod Constants
 mod Heard
 mod Licensed
 mod Local

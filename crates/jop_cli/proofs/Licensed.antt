@@ -21,7 +21,7 @@ use Rattle.sync_run.specs.Checks.{AddsCheck, CheckAnswers}
 use Rattle.sync_run.specs.Sessions.{AddsSession}
 use Rattle.sync_run.specs.Upgrades.{AddsUpgrade, UpgradeAnswers}
 use Rattle.sync_run.specs.declared.session_err.SessionErr.{SessionErr}
-use Rattle.sync_run.specs.declared.session_err.SessionErr.TheVariants.{Busy, LeaseLost, TargetNewer, BadInfo, TargetFault, NoMemory}
+use Rattle.sync_run.specs.declared.session_err.SessionErr.TheVariants.{Busy, LeaseLost, Refused, TargetFault, NoMemory}
 use Rattle.target_upgrade.specs.Answers.{IsCall, leaves_items}
 
 -- ---- a session that touches no item
@@ -123,9 +123,7 @@ session_licensed P free Because client old new (Err (Busy lock now)) adds =
     whole_licensed P free client old new adds.whole
 session_licensed P free Because client old new (Err (LeaseLost seen)) adds =
     whole_licensed P free client old new adds.whole
-session_licensed P free Because client old new (Err (TargetNewer version)) adds =
-    whole_licensed P free client old new adds.whole
-session_licensed P free Because client old new (Err BadInfo) adds =
+session_licensed P free Because client old new (Err (Refused why)) adds =
     whole_licensed P free client old new adds.whole
 session_licensed P free Because client old new (Err TargetFault) adds =
     whole_licensed P free client old new adds.whole

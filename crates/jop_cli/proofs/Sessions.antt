@@ -19,13 +19,12 @@ use Rattle.lease.specs.WholeSession.{AddsWhole}
 use Rattle.lease.specs.declared.lock.Lock.{Lock}
 use Rattle.sync_run.specs.Leases.{KeepsLease, blocked_in, is_done}
 use Rattle.sync_run.specs.declared.session_err.SessionErr.{SessionErr}
-use Rattle.sync_run.specs.declared.session_err.SessionErr.TheVariants.{Busy, LeaseLost, TargetNewer, BadInfo, TargetFault, NoMemory}
+use Rattle.sync_run.specs.declared.session_err.SessionErr.TheVariants.{Busy, LeaseLost, Refused, TargetFault, NoMemory}
 
 pub early_session : (error : SessionErr) → is_early (session_status error) ≡ true
 early_session (Busy lock now) = refl
 early_session (LeaseLost seen) = refl
-early_session (TargetNewer version) = refl
-early_session BadInfo = refl
+early_session (Refused why) = refl
 early_session TargetFault = refl
 early_session NoMemory = refl
 
@@ -48,8 +47,7 @@ refused_lease : (T : Type 0) (kind : LockKind) (client : List ℕ) (error : Sess
     KeepsLease kind client (lock_named (session_status error)) (went_well (session_status error)) events
 refused_lease T kind client (Busy lock now) events h = h
 refused_lease T kind client (LeaseLost seen) events h = h
-refused_lease T kind client (TargetNewer version) events h = h
-refused_lease T kind client BadInfo events h = h
+refused_lease T kind client (Refused why) events h = h
 refused_lease T kind client TargetFault events h = h
 refused_lease T kind client NoMemory events h = h
 

@@ -1,30 +1,35 @@
 -- Why a sync's session ended so.
-use Rattle.std.proofs.Common.{◌≡◌, ◌∙◌, refl, sym, ap, subst, ℕ, List, [], ◌∷◌, ◌++◌, append_assoc}
-use Rattle.std.proofs.Common.{Option, Some, None, Result, Err}
+use Rattle.std.proofs.Common.{◌≡◌, ◌∙◌, sym, ap, subst, inl, inr, ℕ, List, [], ◌∷◌, ◌++◌, append_assoc}
+use Rattle.std.proofs.Common.{Option, Result, Err}
 use Rattle.std.proofs.lemmas.List.{append_cancel_right}
-use Rattle.conflicts.specs.declared.report.SyncReport.{SyncReport}
 use Rattle.conflicts.specs.Reports.{new_report}
+use Rattle.conflicts.specs.declared.refusal.Refusal.{Refusal}
+use Rattle.conflicts.specs.declared.refusal.Refusal.TheVariants.{TargetOlder, TargetNewer, BadInfo, FailSafe, NoKey}
+use Rattle.conflicts.specs.declared.report.SyncReport.{SyncReport}
 use Rattle.client.specs.Sites.{SiteNow, IsSameSite}
-use Rattle.jop_base.specs.declared.dir.Dir.TheVariants.{Root}
+use Rattle.download.specs.Reading.{RefusesDownload}
 use Rattle.jop_base.specs.declared.lock_name.LockKind.TheVariants.{Sync}
-use Rattle.jop_target.specs.declared.call.Call.TheVariants.{List as ListDir}
 use Rattle.jop_target.specs.declared.event.Event.TheVariants.{Began, Ended}
-use Rattle.jop_target.specs.declared.reply.Reply.TheVariants.{Listed}
 use Rattle.lease.specs.Phase.{Held}
 use Rattle.lease.specs.Standing.{IsSameBut, StandsIn}
 use Rattle.lease.specs.declared.lease.Lease.{Lease}
-use Rattle.law_licences.specs.Deeds.{Deed, Asks}
+use Rattle.law_licences.proofs.Joins.{view_from-append}
+use Rattle.law_licences.specs.Deeds.{Deed}
 use Rattle.law_licences.specs.Trails.{session_calls}
-use Rattle.law_licences.specs.Views.{Heard}
-use Rattle.keeper.specs.Keepers.{IsOfKept, KeeperNow}
-use Rattle.session.specs.Parts.{but_locks}
-use Rattle.session.specs.Work.{IsReady, view_of, work}
+use Rattle.law_licences.specs.Views.{Heard, View, view_from}
+use Rattle.local_store.specs.declared.tables.Tables.{Tables}
+use Rattle.keeper.specs.Keepers.{IsOfKept, Kept, KeeperNow}
+use Rattle.session.proofs.Behind.{behind}
+use Rattle.session.specs.Parts.{Part, Then}
+use Rattle.session.specs.Work.{IsReady, work}
+use Rattle.session_opening.specs.Opening.{Opens, RefusesTarget}
+use Rattle.sync_session.specs.Keys.{RefusesKeys}
 use Rattle.sync_session.specs.Syncing.{HasLeft as HasLeftSync, IsWholeSync}
-use Rattle.sync_session.specs.Working.{is_sync}
+use Rattle.sync_session.specs.Working.{RefusesOpened, RefusesSync, Sends, is_sync}
 use Rattle.sync_session.specs.declared.sync_err.SyncErr.{SyncErr}
-use Rattle.sync_session.specs.declared.sync_err.SyncErr.TheVariants.{TargetOlder, TargetNewer, BadInfo, FailSafe, NoKey}
-use Rattle.jop_cli.proofs.Heard.{found, found_bad, last_heard}
-use Rattle.jop_cli.specs.Causes.{HasFound, HasGotBad, HasLeft, HasListedNone, LacksKey}
+use Rattle.sync_session.specs.declared.sync_err.SyncErr.TheVariants.{Refused}
+use Rattle.jop_cli.proofs.Heard.{found, found_bad}
+use Rattle.jop_cli.specs.Causes.{HasLeft, WasRefused}
 
 -- ---- the trail
 
@@ -61,32 +66,66 @@ left_as Had client worked old new h ready same had = record {
   ends = h.ends;
 }
 
--- ---- each cause
+-- ---- why it was refused
 
-pub older : (client : List ℕ) (old new : SiteNow) (version : ℕ) →
-    HasLeftSync client (Err (TargetOlder version)) old new →
-    HasLeft (HasFound version) Sync client new.line.trail
-older client old new version h =
-    let does = h.works.1 in
-    left_as (HasFound version) client (Err (TargetOlder version)) old new h does.ready does.went.same
-    (found version is_sync (work h.held h.lease new_report) h.late does.went
-    (view_of None h.held) (does.part None))
+-- What is seen behind this part has the cause of this refusal, if the tables are those that are kept, as far as that is
+-- told.
+abbrev Shows : KeeperNow → Refusal → Part → Type 0
+Shows keeper why P =
+    (v : View) (ds : List Deed) → P v ds → IsOfKept keeper.kept (view_from v ds).tables →
+    WasRefused keeper why (view_from v ds).calls
 
-pub newer : (client : List ℕ) (old new : SiteNow) (version : ℕ) →
-    HasLeftSync client (Err (TargetNewer version)) old new →
-    HasLeft (HasFound version) Sync client new.line.trail
-newer client old new version h =
-    let does = h.works.1 in
-    left_as (HasFound version) client (Err (TargetNewer version)) old new h does.ready does.went.same
-    (found version is_sync (work h.held h.lease new_report) h.late does.went
-    (view_of None h.held) (does.part None))
+shows_behind : (keeper : KeeperNow) (why : Refusal) (P Q : Part) → Shows keeper why Q →
+    Shows keeper why (Then P Q)
+shows_behind keeper why P Q shows v ds h told =
+    let w = view_from v h.first in
+    let same : view_from v ds ≡ view_from w h.second =
+    ap (λ (x : List Deed). view_from v x) h.both ∙ view_from-append v h.first h.second in
+    subst (λ (u : View). WasRefused keeper why u.calls) (sym same)
+    (shows w h.second h.behind (subst (λ (u : View). IsOfKept keeper.kept u.tables) same told))
 
-pub bad_info : (client : List ℕ) (old new : SiteNow) → HasLeftSync client (Err BadInfo) old new →
-    HasLeft HasGotBad Sync client new.line.trail
-bad_info client old new h =
-    left_as HasGotBad client (Err BadInfo) old new h h.works.ready h.works.went.same
-    (found_bad is_sync (work h.held h.lease new_report) h.late h.works.went (view_of None h.held)
-    (h.works.part None))
+-- for its target
+by_target : (keeper : KeeperNow) (why : Refusal) → Shows keeper why (RefusesTarget why)
+by_target keeper (TargetOlder version) v ds h told = (h.0, found version v ds h.1)
+by_target keeper (TargetNewer version) v ds h told = (h.0, found version v ds h.1)
+by_target keeper BadInfo v ds h told = found_bad v ds h
+by_target keeper why v ds h told = absurd h
+
+-- for its keys
+by_keys : (keeper : KeeperNow) (why : Refusal) (t : Tables) (calls : List Heard) →
+    RefusesKeys why t → IsOfKept keeper.kept t → WasRefused keeper why calls
+by_keys keeper (NoKey key) t calls h told =
+    record { tables = t; told = told; needs = h.0; active = h.1 }
+by_keys keeper why t calls h told = absurd h
+
+-- for what it listed
+by_listing : (keeper : KeeperNow) (why : Refusal) → Shows keeper why (RefusesDownload why)
+unfolding view_from
+by_listing keeper (FailSafe count) v ds h told = record {
+  listing = h.listing;
+  last = (v.calls, ap (λ (x : List Deed). (view_from v x).calls) h.listed);
+  tables = v.tables;
+  told = subst (λ (t : Tables). IsOfKept keeper.kept t)
+      (ap (λ (x : List Deed). (view_from v x).tables) h.listed) told;
+  rows = h.rows;
+}
+by_listing keeper why v ds h told = absurd h
+
+by_opened : (keeper : KeeperNow) (kept : Option Kept) (why : Refusal) →
+    Shows keeper why (RefusesOpened kept why)
+unfolding view_from
+by_opened keeper kept why v ds (inl h) told =
+    by_keys keeper why v.tables (view_from v ds).calls h.0
+    (subst (λ (t : Tables). IsOfKept keeper.kept t)
+    (ap (λ (x : List Deed). (view_from v x).tables) h.1) told)
+by_opened keeper kept why v ds (inr h) told =
+    shows_behind keeper why (Sends kept) (RefusesDownload why) (by_listing keeper why) v ds h told
+
+by_any : (keeper : KeeperNow) (kept : Option Kept) (why : Refusal) →
+    Shows keeper why (RefusesSync kept why)
+by_any keeper kept why v ds (inl h) told = by_target keeper why v ds h told
+by_any keeper kept why v ds (inr h) told =
+    shows_behind keeper why Opens (RefusesOpened kept why) (by_opened keeper kept why) v ds h told
 
 -- the tables of a session that is left are those that are kept, if that is told
 told_still : (late new : SiteNow) → IsSameSite late new → IsOfKept late.keeper.kept late.tables →
@@ -94,41 +133,14 @@ told_still : (late new : SiteNow) → IsSameSite late new → IsOfKept late.keep
 told_still late new same told =
     subst (λ (k : KeeperNow). IsOfKept k.kept late.tables) (sym same.keeper) told
 
-pub emptied : (client : List ℕ) (old new : SiteNow) (count : ℕ) →
-    HasLeftSync client (Err (FailSafe count)) old new →
-    HasLeft (HasListedNone new.keeper count) Sync client new.line.trail
-emptied client old new count h =
-    let empty = h.works in
-    let does = empty.listed in
-    let opened = does.part None in
-    let sent = opened.behind in
-    let listed = Asks (ListDir Root) (Some (Listed empty.listing)) in
-    let ends : but_locks does.went.deeds ≡ (opened.first ++ sent.first) ++ listed ∷ [] =
-    opened.both
-    ∙ (ap (λ (ds : List Deed). opened.first ++ ds)
-    (sent.both ∙ ap (λ (ds : List Deed). sent.first ++ ds) sent.behind)
-    ∙ sym (append_assoc opened.first sent.first (listed ∷ []))) in
-    left_as (HasListedNone new.keeper count) client (Err (FailSafe count)) old new h does.ready
+pub refused : (client : List ℕ) (old new : SiteNow) (why : Refusal) →
+    HasLeftSync client (Err (Refused why)) old new →
+    HasLeft (WasRefused new.keeper why) Sync client new.line.trail
+refused client old new why h =
+    let does = h.works in
+    let kept = h.held.keeper.kept in
+    left_as (WasRefused new.keeper why) client (Err (Refused why)) old new h does.ready
     does.went.same
-    (record {
-      listing = empty.listing;
-      last = last_heard is_sync (work h.held h.lease new_report) h.late does.went
-          (opened.first ++ sent.first) (ListDir Root) (Listed empty.listing) ends refl;
-      tables = h.late.site.tables;
-      told = told_still h.late.site new h.left does.told.tidy.told;
-      rows = empty.rows;
-    })
-
-pub keyless : (client : List ℕ) (old new : SiteNow) (key : Option (List ℕ)) →
-    HasLeftSync client (Err (NoKey key)) old new →
-    HasLeft (λ calls. LacksKey new.keeper key) Sync client new.line.trail
-keyless client old new key h =
-    let does = h.works.opened in
-    left_as (λ calls. LacksKey new.keeper key) client (Err (NoKey key)) old new h does.ready
-    does.went.same
-    (record {
-      tables = h.late.site.tables;
-      told = told_still h.late.site new h.left does.told.tidy.told;
-      needs = h.works.needs;
-      active = h.works.active;
-    })
+    (behind (λ t cs u us. IsOfKept new.keeper.kept u → WasRefused new.keeper why us)
+    (RefusesSync kept why) is_sync (work h.held h.lease new_report) h.late
+    (by_any new.keeper kept why) does (told_still h.late.site new h.left does.told.tidy.told))

@@ -22,7 +22,7 @@ use Rattle.keeper.specs.Keepers as keepers
 use Rattle.local_store.specs.Tables.{row_at}
 use Rattle.keeper.specs.declared.blob.Blob.{Blob}
 use Rattle.local_store.specs.declared.change.Change.{Change}
-use Rattle.local_store.specs.declared.change.Change.TheVariants.{Conflict, ContextIs, Dropped, Gone, InfoIs, Moved, Taken, Uploaded}
+use Rattle.local_store.specs.declared.change.Change.TheVariants.{Named, Uploaded, Conflict, Moved, Opened}
 use Rattle.local_store.specs.declared.content.Content.{Content}
 use Rattle.local_store.specs.declared.row.Row.{Row}
 use Rattle.local_store.specs.declared.tables.Tables.{Tables}
@@ -213,15 +213,12 @@ conflicted_name t id (Some remote) false (Some r) = refl
 
 -- no change of a session names another client
 keeps_name : (v : View) (c : Change) (t : Tables) → MayChange v c → (after t c).client ≡ t.client
+keeps_name v (Named client) t may = absurd may
 keeps_name v (Uploaded id bytes) t may = uploaded_name t id bytes (row_at t id)
-keeps_name v (Dropped id) t may = refl
-keeps_name v (Taken id bytes content) t may = refl
 keeps_name v (Conflict id remote copies) t may = conflicted_name t id remote copies (row_at t id)
 keeps_name v (Moved id) t may = conflicted_name t id None true (row_at t id)
-keeps_name v (Gone id) t may = refl
-keeps_name v (InfoIs info) t may = refl
-keeps_name v (ContextIs context) t may = refl
-keeps_name v c t may = absurd may
+keeps_name v (Opened id item) t may = absurd may
+keeps_name v c t may = refl
 
 no_changes : (n : ℕ) (ds : List Deed) → events_of n ds ≡ [] → changes_in ds ≡ []
 unfolding events_of changes_in

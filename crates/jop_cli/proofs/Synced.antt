@@ -11,9 +11,9 @@ use Rattle.jop_cli.proofs.OwnLicences.{licensed_behind}
 use Rattle.jop_cli.proofs.Owned.{comes_unowned, owned}
 use Rattle.jop_cli.proofs.Runs.{Comes, IsToldAs, unfailed_session, uses_behind}
 use Rattle.jop_cli.proofs.Sessions.{any_done, failed_session}
-use Rattle.jop_cli.proofs.SyncCauses.{bad_info, emptied, keyless, late_trail, newer, older}
+use Rattle.jop_cli.proofs.SyncCauses.{late_trail, refused}
 use Rattle.jop_cli.proofs.SyncSides.{added, keeps_acts, licensed_kept, names_after}
-use Rattle.jop_cli.specs.Causes.{HasEnded, HasFound, HasGotBad, HasLeft, HasListedNone, IsExplained, LacksKey}
+use Rattle.jop_cli.specs.Causes.{HasEnded, HasLeft, IsExplained, WasRefused}
 use Rattle.jop_cli.specs.Commands.Sessions.{IsUncalled, lock_named, went_well}
 use Rattle.jop_cli.specs.Commands.Sync.{sync_outcome, sync_status}
 use Rattle.jop_cli.specs.Run.{IsFresh, UsesTarget}
@@ -40,18 +40,14 @@ use Rattle.sync_run.specs.Sessions.{IsMarkOr}
 use Rattle.sync_session.specs.Syncing.{AddsFrom, IsWholeSync, blocked_by}
 use Rattle.sync_session.specs.Working.{is_sync}
 use Rattle.sync_session.specs.declared.sync_err.SyncErr.{SyncErr}
-use Rattle.sync_session.specs.declared.sync_err.SyncErr.TheVariants.{Busy, LeaseLost, TargetOlder, TargetNewer, BadInfo, FailSafe, NoKey, TargetFault, KeeperFault, NoMemory}
+use Rattle.sync_session.specs.declared.sync_err.SyncErr.TheVariants.{Busy, LeaseLost, Refused, TargetFault, KeeperFault, NoMemory}
 
 -- ---- statuses
 
 pub early_sync : (error : SyncErr) → is_early (sync_status error) ≡ true
 early_sync (Busy lock now) = refl
 early_sync (LeaseLost seen) = refl
-early_sync (TargetOlder version) = refl
-early_sync (TargetNewer version) = refl
-early_sync BadInfo = refl
-early_sync (FailSafe count) = refl
-early_sync (NoKey key) = refl
+early_sync (Refused why) = refl
 early_sync TargetFault = refl
 early_sync KeeperFault = refl
 early_sync NoMemory = refl
@@ -61,11 +57,7 @@ refused_lease : (client : List ℕ) (error : SyncErr) (events : List Event) →
     KeepsLease kinds.Sync client (lock_named (sync_status error)) (went_well (sync_status error)) events
 refused_lease client (Busy lock now) events h = h
 refused_lease client (LeaseLost seen) events h = h
-refused_lease client (TargetOlder version) events h = h
-refused_lease client (TargetNewer version) events h = h
-refused_lease client BadInfo events h = h
-refused_lease client (FailSafe count) events h = h
-refused_lease client (NoKey key) events h = h
+refused_lease client (Refused why) events h = h
 refused_lease client TargetFault events h = h
 refused_lease client KeeperFault events h = h
 refused_lease client NoMemory events h = h
@@ -151,27 +143,11 @@ explained_refusal target client before named after t late error h later uncalled
           h.whole.trail
           (subst (λ (es : List Event). (at : Phase) × HasMissed kinds.Sync client at es seen)
           (late_trail client old new (Err (LeaseLost seen)) h) h.answers)
-      by (TargetOlder version) h = (
-        h.answers.works.0,
-        left_behind (TargetOlder version) h (HasFound version)
-            (older client _ h.last version h.answers),
-      )
-      by (TargetNewer version) h = (
-        h.answers.works.0,
-        left_behind (TargetNewer version) h (HasFound version)
-            (newer client _ h.last version h.answers),
-      )
-      by BadInfo h = left_behind BadInfo h HasGotBad (bad_info client _ h.last h.answers)
-      by (FailSafe count) h =
-          left_behind (FailSafe count) h (HasListedNone after.keeper count)
-          (subst (λ (k : KeeperNow). HasLeft (HasListedNone k count) kinds.Sync client h.last.line.trail)
-          (last_keeper client old new (Err (FailSafe count)) h)
-          (emptied client _ h.last count h.answers))
-      by (NoKey key) h =
-          left_behind (NoKey key) h (λ calls. LacksKey after.keeper key)
-          (subst (λ (k : KeeperNow). HasLeft (λ calls. LacksKey k key) kinds.Sync client
-          h.last.line.trail) (last_keeper client old new (Err (NoKey key)) h)
-          (keyless client _ h.last key h.answers))
+      by (Refused why) h =
+          left_behind (Refused why) h (WasRefused after.keeper why)
+          (subst (λ (k : KeeperNow). HasLeft (WasRefused k why) kinds.Sync client h.last.line.trail)
+          (last_keeper client old new (Err (Refused why)) h)
+          (refused client _ h.last why h.answers))
       by TargetFault h =
           let failed = failed_session (IsStep is_sync client) client named.line.trail
           after.line.trail h.whole

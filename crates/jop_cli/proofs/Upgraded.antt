@@ -5,13 +5,13 @@ use Rattle.client.specs.Owning.{NamesClient, Owns}
 use Rattle.client.specs.declared.own_err.OwnErr.{OwnErr}
 use Rattle.jop_base.specs.declared.lock_name.LockKind.{LockKind}
 use Rattle.jop_base.specs.declared.lock_name.LockKind.TheVariants.{Exclusive}
-use Rattle.jop_cli.proofs.Heard.{bad_left, newer_left}
+use Rattle.jop_cli.proofs.Heard.{upgrade_refused}
 use Rattle.jop_cli.proofs.Licensed.{upgrade_licensed}
 use Rattle.jop_cli.proofs.OwnLicences.{licensed_as_named}
 use Rattle.jop_cli.proofs.Owned.{comes_unowned, owned}
 use Rattle.jop_cli.proofs.Runs.{Comes, unfailed_session, uses_behind}
 use Rattle.jop_cli.proofs.Sessions.{failed_session, told_lease}
-use Rattle.jop_cli.specs.Causes.{HasEnded, HasFound, HasGotBad, HasLeft, IsExplained}
+use Rattle.jop_cli.specs.Causes.{HasEnded, HasLeft, IsExplained, WasRefused}
 use Rattle.jop_cli.specs.Commands.Sessions.{IsUncalled, outcome_by}
 use Rattle.jop_cli.specs.Commands.Upgrade.{version_line}
 use Rattle.jop_cli.specs.Run.{IsFresh, UsesTarget}
@@ -29,7 +29,7 @@ use Rattle.lease.specs.Phase.{Asked, Phase, Renewing}
 use Rattle.sync_run.specs.Sessions.{IsMarkOr}
 use Rattle.sync_run.specs.Upgrades.{AddsUpgrade}
 use Rattle.sync_run.specs.declared.session_err.SessionErr.{SessionErr}
-use Rattle.sync_run.specs.declared.session_err.SessionErr.TheVariants.{Busy, LeaseLost, TargetNewer, BadInfo, TargetFault, NoMemory}
+use Rattle.sync_run.specs.declared.session_err.SessionErr.TheVariants.{Busy, LeaseLost, Refused, TargetFault, NoMemory}
 use Rattle.target_upgrade.specs.Answers.{IsCall}
 
 -- the session, whose calls came to this before it ended
@@ -68,14 +68,9 @@ explained_refusal target client before named after (LeaseLost seen) uncalled nam
       | inl missed ↦ (Asked Exclusive, missed)
       | inr lapsed ↦ (Renewing Exclusive lapsed.0, lapsed.1)
     ])
-explained_refusal target client before named after (TargetNewer version) uncalled names adds uses = (
-  adds.because.was.newer,
-  ended target client named after adds.whole.middle (HasLeft (HasFound version)) uncalled names
-      adds.whole.trail (newer_left client _ version adds.because),
-)
-explained_refusal target client before named after BadInfo uncalled names adds uses =
-    ended target client named after adds.whole.middle (HasLeft HasGotBad) uncalled names
-    adds.whole.trail (bad_left client _ adds.because)
+explained_refusal target client before named after (Refused why) uncalled names adds uses =
+    ended target client named after adds.whole.middle (HasLeft (WasRefused after.keeper why))
+    uncalled names adds.whole.trail (upgrade_refused after.keeper client _ why adds.because)
 explained_refusal target client before named after TargetFault uncalled names adds uses =
     let failed = failed_session IsCall client named.line.trail after.line.trail adds.whole
     adds.because in

@@ -1,6 +1,8 @@
 -- Why a run ends so: the cause of each status.
 use Rattle.std.specs.Prelude.{ℕ, ◌+◌, ◌<◌, ◌≡◌, ◌⊎◌, List, [], ◌∷◌, ◌++◌, true, false, Option, Some, None, Err}
 use Rattle.client.specs.Outside.{OutsideNow}
+use Rattle.conflicts.specs.declared.refusal.Refusal.{Refusal}
+use Rattle.conflicts.specs.declared.refusal.Refusal.TheVariants.{TargetOlder, TargetNewer, BadInfo, FailSafe, NoKey}
 use Rattle.jop_status.specs.Statuses.{is_refusal}
 use Rattle.jop_status.specs.declared.status.Status.{Status}
 use Rattle.jop_status.specs.declared.status.Status.TheVariants as statuses
@@ -142,6 +144,14 @@ pub record LacksKey (keeper : KeeperNow) (key : Option (List ℕ)) : Type 0 wher
   pub needs : needs_key tables ≡ true
   pub active : IsActiveKey tables.info.active.value key
 
+-- A row for each refusal of a session: what its calls had come to, and the tables that are kept.
+abbrev pub WasRefused : KeeperNow → Refusal → List Heard → Type 0
+WasRefused keeper (TargetOlder version) calls = (version < SUPPORTED) × HasFound version calls
+WasRefused keeper (TargetNewer version) calls = (SUPPORTED < version) × HasFound version calls
+WasRefused keeper BadInfo calls = HasGotBad calls
+WasRefused keeper (FailSafe count) calls = HasListedNone keeper count calls
+WasRefused keeper (NoKey key) calls = LacksKey keeper key
+
 -- It held its lease, and its calls but those about locks, the last one first, had come to this; then
 -- its lock was deleted, which is the last call.
 pub record HasLeft (Had : List Heard → Type 0) (kind : LockKind) (client : List ℕ)
@@ -157,16 +167,6 @@ pub record HasLeft (Had : List Heard → Type 0) (kind : LockKind) (client : Lis
 abbrev pub HasLeftBehind : Option Verb → KeeperNow → List Event → (List Heard → Type 0) → Type 0
 HasLeftBehind verb keeper trail Had = HasEnded verb keeper trail (HasLeft Had)
 
--- the target was found to have this version, which is older than the supported one
-abbrev pub HasReadOlder : Option Verb → KeeperNow → List Event → ℕ → Type 0
-HasReadOlder verb keeper trail version =
-    (version < SUPPORTED) × HasLeftBehind verb keeper trail (HasFound version)
-
--- or newer than that
-abbrev pub HasReadNewer : Option Verb → KeeperNow → List Event → ℕ → Type 0
-HasReadNewer verb keeper trail version =
-    (SUPPORTED < version) × HasLeftBehind verb keeper trail (HasFound version)
-
 -- ---- each status
 
 -- A row for each status: its cause. Out of memory no call was answered `Failed`: a failed call is
@@ -178,14 +178,8 @@ IsExplained verb before (statuses.Busy lock now) after =
     WasBlocked verb after.keeper after.line.trail lock now
 IsExplained verb before (statuses.LeaseLost seen) after =
     HasLost verb after.keeper after.line.trail seen
-IsExplained verb before (statuses.TargetOlder version) after =
-    HasReadOlder verb after.keeper after.line.trail version
-IsExplained verb before (statuses.TargetNewer version) after =
-    HasReadNewer verb after.keeper after.line.trail version
-IsExplained verb before statuses.BadInfo after =
-    HasLeftBehind verb after.keeper after.line.trail HasGotBad
-IsExplained verb before (statuses.FailSafe count) after =
-    HasLeftBehind verb after.keeper after.line.trail (HasListedNone after.keeper count)
+IsExplained verb before (statuses.Refused why) after =
+    HasLeftBehind verb after.keeper after.line.trail (WasRefused after.keeper why)
 IsExplained verb before statuses.TargetFault after =
     HasFailed before.line.target after.line.trail after.line.target
 IsExplained verb before statuses.KeeperFault after =
@@ -206,8 +200,6 @@ IsExplained verb before (statuses.TimeEnd id) after =
 IsExplained verb before (statuses.TooLarge number) after =
     IsTooLong verb before.input number after.input
     ⊎ IsRefusedLocally verb before (TooLarge number) after
-IsExplained verb before (statuses.NoKey key) after =
-    HasLeftBehind verb after.keeper after.line.trail (λ calls. LacksKey after.keeper key)
 IsExplained verb before (statuses.BadItem bad) after =
     (verb ≡ Some verbs.Tidy) × IsFaulty before.input after.input bad
 IsExplained verb before statuses.NoMemory after = has_failed after.line.trail ≡ false

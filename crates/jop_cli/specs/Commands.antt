@@ -1,7 +1,7 @@
 -- The commands: a row of effects and a row of what it comes to for each.
 pub mod Sessions
 pub mod Check
-pub mod Help
+pub mod Constants
 pub mod Local
 pub mod Sync
 pub mod Tidy
@@ -19,7 +19,7 @@ use Rattle.jop_words.specs.Verbs.{uses_tables}
 use Rattle.jop_words.specs.declared.verb.Verb.{Verb}
 use Rattle.jop_words.specs.declared.verb.Verb.TheVariants as verbs
 use Rattle.jop_cli.specs.Commands.Check.{Checks}
-use Rattle.jop_cli.specs.Commands.Help.{Helps}
+use Rattle.jop_cli.specs.Commands.Constants.{PrintsConstant, constant_of}
 use Rattle.jop_cli.specs.Commands.Local.{DoesLocally}
 use Rattle.jop_cli.specs.Commands.Sessions.{Session}
 use Rattle.jop_cli.specs.Commands.Sync.{SyncsAsNamed}
@@ -60,10 +60,10 @@ uses_locally command = record {
   random = draws_ids (plan_of command).draws;
 }
 
+-- a row for each that uses something: one that prints a constant doesn't
 abbrev pub uses : Verb → Uses
 uses (verbs.Check target client) =
     record nothing { session = Some (record { kind = kinds.Sync; client = Some client }) }
-uses verbs.Help = nothing
 uses verbs.Tidy = record nothing { input = Some TIDY_LIMIT }
 uses (verbs.Local command) = uses_locally command
 uses (verbs.Sync target) = record nothing {
@@ -77,6 +77,7 @@ uses (verbs.Upgrade target) = record nothing {
   tables = uses_tables (verbs.Upgrade target);
   random = true;
 }
+uses verb = nothing
 
 -- what words that mean no command use, and those of a command
 abbrev pub used : Option Verb → Uses
@@ -88,8 +89,8 @@ used (Some verb) = uses verb
 -- the outcome, before anything is printed
 abbrev pub ComesTo : Verb → OutsideNow → Outcome → OutsideNow → Type 0
 ComesTo (verbs.Check target client) before outcome after = Checks client before outcome after
-ComesTo verbs.Help before outcome after = Helps before outcome after
 ComesTo verbs.Tidy before outcome after = Tidies before outcome after
 ComesTo (verbs.Local command) before outcome after = DoesLocally command before outcome after
 ComesTo (verbs.Sync target) before outcome after = SyncsAsNamed before outcome after
 ComesTo (verbs.Upgrade target) before outcome after = UpgradesAsNamed before outcome after
+ComesTo verb before outcome after = PrintsConstant (constant_of verb) before outcome after

@@ -5,11 +5,11 @@ ghost use Rattle.jop_status.specs.Reports.{Reports};
 ghost use Rattle.jop_words.specs.Commands.{meant};
 ghost use Rattle.jop_words.specs.Verbs.{IsFit};
 
-use crate::command::{check, local, sync, tidy, upgrade};
+use crate::command::{check, constant, local, sync, tidy, upgrade};
 use crate::world::World;
 use client::Around;
 use jop_outside::{Clock, Entropy, Sink, Source};
-use jop_status::{Piece, Status, USAGE_LINE, report};
+use jop_status::{Status, USAGE_LINE, report};
 use jop_target::{Diary, Target};
 use jop_words::{Verb, Words, WordsErr, read_words};
 use keeper::Keeper;
@@ -79,7 +79,7 @@ fn obey<W: World>(alloc: Global, world: &mut W, verb: Verb) -> Status
 {
     match verb {
         Verb::Check { target: _, client } => check::obey(alloc, world, &client),
-        Verb::Help => world.emit(&[Piece::Word(USAGE_LINE)]),
+        Verb::Help => constant::obey(world, USAGE_LINE),
         Verb::Local(command) => local::obey(alloc, world, command),
         Verb::Sync { target: _ } => sync::obey(alloc, world),
         Verb::Tidy => tidy::obey(alloc, world),

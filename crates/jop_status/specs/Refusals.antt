@@ -18,8 +18,7 @@ own_status own_errors.NoMemory = statuses.NoMemory
 abbrev pub session_status : SessionErr → Status
 session_status (session_errors.Busy lock now) = statuses.Busy lock now
 session_status (session_errors.LeaseLost seen) = statuses.LeaseLost seen
-session_status (session_errors.TargetNewer version) = statuses.TargetNewer version
-session_status session_errors.BadInfo = statuses.BadInfo
+session_status (session_errors.Refused why) = statuses.Refused why
 session_status session_errors.TargetFault = statuses.TargetFault
 session_status session_errors.NoMemory = statuses.NoMemory
 

@@ -1,6 +1,7 @@
 -- How a run ends: a row for each status, with its exit number and its line on standard error.
 use Rattle.std.specs.Prelude.{ℕ, List, [], ◌∷◌, ◌++◌, codes, Bool, true, false, Some, None}
 use Rattle.std.specs.Fmt.{decimal}
+use Rattle.conflicts.specs.declared.refusal.Refusal.TheVariants as refusals
 use Rattle.jop_base.specs.LockNames.{file_name}
 use Rattle.item_text.specs.declared.bad_item.BadWhy.{BadWhy}
 use Rattle.item_text.specs.declared.bad_item.BadWhy.TheVariants.{NotText, NoColon, NoType, TypeValue}
@@ -41,12 +42,12 @@ row_of statuses.Usage = row 2 usage_line
 row_of (statuses.Busy lock now) =
     row 3 (line_of (codes "busy " ++ (file_name lock.name ++ (codes " " ++ decimal lock.stamp))))
 row_of (statuses.LeaseLost seen) = row 4 (line_of (codes "lease lost"))
-row_of (statuses.TargetOlder version) =
+row_of (statuses.Refused (refusals.TargetOlder version)) =
     row 5 (line_of (version_text version (codes " is older than ")))
-row_of (statuses.TargetNewer version) =
+row_of (statuses.Refused (refusals.TargetNewer version)) =
     row 6 (line_of (version_text version (codes " is newer than ")))
-row_of statuses.BadInfo = row 7 (line_of (codes "info.json is not readable"))
-row_of (statuses.FailSafe count) =
+row_of (statuses.Refused refusals.BadInfo) = row 7 (line_of (codes "info.json is not readable"))
+row_of (statuses.Refused (refusals.FailSafe count)) =
     row 8 (line_of (codes "no items on the target, " ++ (decimal count ++ codes " kept here")))
 row_of statuses.TargetFault = row 9 (line_of (codes "target fault"))
 row_of statuses.KeeperFault = row 10 (line_of (codes "keeper fault"))
@@ -58,8 +59,8 @@ row_of (statuses.NotFound id) = row 15 (line_of (codes "not found " ++ id))
 row_of (statuses.Sealed id) = row 16 (line_of (codes "sealed " ++ id))
 row_of (statuses.TimeEnd id) = row 17 (line_of (codes "time end " ++ id))
 row_of (statuses.TooLarge length) = row 18 (line_of (codes "too large " ++ decimal length))
-row_of (statuses.NoKey None) = row 20 (line_of (codes "no key"))
-row_of (statuses.NoKey (Some id)) = row 20 (line_of (codes "no key " ++ id))
+row_of (statuses.Refused (refusals.NoKey None)) = row 20 (line_of (codes "no key"))
+row_of (statuses.Refused (refusals.NoKey (Some id))) = row 20 (line_of (codes "no key " ++ id))
 row_of (statuses.BadItem bad) =
     row 21 (line_of (codes "bad item line " ++ (decimal bad.line ++ (codes " " ++ why_text bad.why))))
 row_of statuses.NoMemory = row 22 (line_of (codes "no memory"))

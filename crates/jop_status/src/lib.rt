@@ -13,5 +13,4 @@ mod status_line;
 
 pub use output::{emit, emit_three};
 pub use piece::{Piece, write_pieces};
-pub use status::Status;
-pub use status_line::{USAGE_LINE, report};
+pub use status::{Status, USAGE_LINE, report};

@@ -1,12 +1,25 @@
 ghost use Rattle.std.specs.Prelude.{◌≡◌};
+ghost use Rattle.jop_outside.specs.Writing.{WritesAll};
+ghost use Rattle.jop_status.specs.Reports.{Reports};
 ghost use Rattle.jop_status.specs.Statuses.{row_of};
+ghost use Rattle.jop_status.specs.declared.status.Status.TheVariants.{Refused};
 
+use crate::piece::{Piece, write_pieces};
+use crate::status_line::{
+    why_text, write_bad_item, write_busy, write_id, write_number, write_version, write_within,
+    write_word,
+};
 use client::OwnErr;
+use conflicts::Refusal;
 use item_text::BadItem;
 use jop_base::Id;
+use jop_outside::{Failed, Sink};
 use lease::{Lock, Seen};
 use local_commands::LocalErr;
 use sync_run::SessionErr;
+
+/// How the program is called: the line of `Usage`, and what `help` prints.
+pub const USAGE_LINE: &str = "usage: jop [--profile PATH] COMMAND\n";
 
 /// How a run of the program ended.
 #[derive(Clone, Copy, Debug, PartialEq, Eq)]
@@ -19,14 +32,8 @@ pub enum Status {
     Busy { lock: Lock, now: u64 },
     /// Its own lock wasn't shown in time, or was renewed too late.
     LeaseLost(Seen),
-    /// The target has this version, which is older than the supported one.
-    TargetOlder(u64),
-    /// The target has this version, which is newer than the supported one.
-    TargetNewer(u64),
-    /// `info.json` of the target is too large, or is no info.
-    BadInfo,
-    /// The target shows no item, and the tables have a base of so many.
-    FailSafe(u64),
+    /// Its session was refused, though nothing has failed.
+    Refused(Refusal),
     /// A call of the target failed.
     TargetFault,
     /// The tables couldn't be read or changed.
@@ -48,8 +55,6 @@ pub enum Status {
     /// The input is longer than its limit: so many bytes were read, one more than the limit. Or the
     /// text of the item is too long, and has so many bytes.
     TooLarge(u64),
-    /// Items are to be sealed with this key, which isn't known here; none if the info names none.
-    NoKey(Option<Id>),
     /// The input is no text of an item. This is the first reason.
     BadItem(BadItem),
     NoMemory,
@@ -71,10 +76,10 @@ impl Status {
             Status::Usage => 2,
             Status::Busy { lock: _, now: _ } => 3,
             Status::LeaseLost(_) => 4,
-            Status::TargetOlder(_) => 5,
-            Status::TargetNewer(_) => 6,
-            Status::BadInfo => 7,
-            Status::FailSafe(_) => 8,
+            Status::Refused(Refusal::TargetOlder(_)) => 5,
+            Status::Refused(Refusal::TargetNewer(_)) => 6,
+            Status::Refused(Refusal::BadInfo) => 7,
+            Status::Refused(Refusal::FailSafe(_)) => 8,
             Status::TargetFault => 9,
             Status::KeeperFault => 10,
             Status::SourceFault => 11,
@@ -85,13 +90,65 @@ impl Status {
             Status::Sealed(_) => 16,
             Status::TimeEnd(_) => 17,
             Status::TooLarge(_) => 18,
-            Status::NoKey(_) => 20,
+            Status::Refused(Refusal::NoKey(_)) => 20,
             Status::BadItem(_) => 21,
             Status::NoMemory => 22,
             Status::NoConflict(_) => 23,
             Status::NotEmpty(_) => 24,
             Status::NotText => 25,
         }
+    }
+}
+
+/// Writes the line of the status on standard error, or as much of it as is taken. A write that fails
+/// isn't told: the run has ended by then, and the status stays what it is.
+pub fn report<E: Sink>(err: &mut E, status: &Status)
+    ensures { Reports (E.state err.old) status.now (E.state err.new) }
+{
+    let _ = write_line(err, status);
+}
+
+/// A row for each status: its line, piece by piece.
+fn write_line<E: Sink>(err: &mut E, status: &Status) -> Result<(), Failed>
+    ensures { WritesAll (E.state err.old) (row_of status.now).line result (E.state err.new) }
+{
+    match status {
+        Status::Ok => Ok(()),
+        Status::Usage => write_pieces(err, &[Piece::Word(USAGE_LINE)]),
+        Status::Busy { lock, now: _ } => write_busy(err, lock.name, lock.stamp),
+        Status::LeaseLost(_) => write_word(err, "lease lost"),
+        Status::Refused(why) => write_refusal(err, why),
+        Status::TargetFault => write_word(err, "target fault"),
+        Status::KeeperFault => write_word(err, "keeper fault"),
+        Status::SourceFault => write_word(err, "input fault"),
+        Status::SinkFault => write_word(err, "output fault"),
+        Status::ClockFault => write_word(err, "clock fault"),
+        Status::EntropyFault => write_word(err, "random source fault"),
+        Status::NotFound(id) => write_id(err, "not found ", *id),
+        Status::Sealed(id) => write_id(err, "sealed ", *id),
+        Status::TimeEnd(id) => write_id(err, "time end ", *id),
+        Status::TooLarge(len) => write_number(err, "too large ", *len),
+        Status::BadItem(bad) => write_bad_item(err, bad.line, why_text(bad.why)),
+        Status::NoMemory => write_word(err, "no memory"),
+        Status::NoConflict(number) => write_number(err, "no conflict ", *number),
+        Status::NotEmpty(id) => write_id(err, "not empty ", *id),
+        Status::NotText => write_word(err, "input is not text"),
+    }
+}
+
+/// A row for each refusal of a session, likewise.
+fn write_refusal<E: Sink>(err: &mut E, why: &Refusal) -> Result<(), Failed>
+    ensures { WritesAll (E.state err.old) (row_of (Refused why.now)).line result (E.state err.new) }
+{
+    match why {
+        Refusal::TargetOlder(version) => write_version(err, *version, " is older than "),
+        Refusal::TargetNewer(version) => write_version(err, *version, " is newer than "),
+        Refusal::BadInfo => write_word(err, "info.json is not readable"),
+        Refusal::FailSafe(count) => {
+            write_within(err, "no items on the target, ", *count, " kept here")
+        }
+        Refusal::NoKey(None) => write_word(err, "no key"),
+        Refusal::NoKey(Some(id)) => write_id(err, "no key ", *id),
     }
 }
 
@@ -105,8 +162,7 @@ impl From<SessionErr> for Status {
         match error {
             SessionErr::Busy { lock, now } => Status::Busy { lock, now },
             SessionErr::LeaseLost(seen) => Status::LeaseLost(seen),
-            SessionErr::TargetNewer(version) => Status::TargetNewer(version),
-            SessionErr::BadInfo => Status::BadInfo,
+            SessionErr::Refused(why) => Status::Refused(why),
             SessionErr::TargetFault => Status::TargetFault,
             SessionErr::NoMemory => Status::NoMemory,
         }

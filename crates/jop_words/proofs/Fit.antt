@@ -9,14 +9,8 @@ use Rattle.item_text.specs.Lines.{has, trimmed}
 use Rattle.local_commands.specs.Plans.{IsWellFormed}
 use Rattle.local_commands.specs.declared.local_command.LocalCommand.{LocalCommand}
 use Rattle.local_commands.specs.declared.local_command.LocalCommand.TheVariants.{Add, Attach, Cat, Clear, Conflicts, Ls, Rm, Tag}
-use Rattle.jop_words.specs.Commands.{command_of, with_profile}
 use Rattle.jop_words.specs.Local.{add_words, attach_words, at_top, both, cat_words, conflicts_words, count_in, edit_to, edit_words, in_parent, is_line, keeps_title, line_in, local_words, ls_in, ls_words, mime_in, mkbook_words, rm_words, tag_words}
-use Rattle.jop_words.specs.Verbs.{IsFit, check_for, check_words, help_words, sync_of, sync_words, tidy_words, upgrade_of, upgrade_words, verb_of}
-use Rattle.jop_words.specs.Words.{id_of, target_of}
-use Rattle.jop_words.specs.declared.command.Command.{Command}
-use Rattle.jop_words.specs.declared.verb.Verb.{Verb}
-use Rattle.jop_words.specs.declared.verb.Verb.TheVariants as verbs
-use Rattle.jop_words.specs.declared.target_name.TargetName.{TargetName}
+use Rattle.jop_words.specs.Words.{id_of}
 
 -- ---- single words
 
@@ -153,7 +147,7 @@ either : (b : Bool) (first second : Option LocalCommand) (command : LocalCommand
 either true first second command one other is = one is
 either false first second command one other is = other is
 
-local_fit : (word : List ℕ) (words : List (List ℕ)) (command : LocalCommand) →
+pub local_fit : (word : List ℕ) (words : List (List ℕ)) (command : LocalCommand) →
     local_words word words ≡ Some command → IsWellFormed command
 local_fit word words command =
     either (bytes_eq word (codes "add")) _ _ command (add_fit words command)
@@ -166,89 +160,3 @@ local_fit word words command =
     (either (bytes_eq word (codes "rm")) _ _ command (rm_fit words command)
     (either (bytes_eq word (codes "tag")) _ _ command (tag_fit words command)
     (λ is. cc is)))))))))
-
--- ---- the words of a command
-
-check_fit : (words : List (List ℕ)) (verb : Verb) → check_words words ≡ Some verb → IsFit verb
-check_fit [] verb is = cc is
-check_fit (target ∷ []) verb is = cc is
-check_fit (target ∷ client ∷ []) verb is = by (target_of target) (id_of client) is where
-  by : (t : Option TargetName) (c : Option (List ℕ)) → check_for t c ≡ Some verb → IsFit verb
-  by None None is = cc is
-  by None (Some c) is = cc is
-  by (Some t) None is = cc is
-  by (Some t) (Some c) is = let same : verbs.Check t c ≡ verb = cc is in subst IsFit same tt
-check_fit (target ∷ client ∷ word ∷ words) verb is = cc is
-
-help_fit : (words : List (List ℕ)) (verb : Verb) → help_words words ≡ Some verb → IsFit verb
-help_fit [] verb is = let same : verbs.Help ≡ verb = cc is in subst IsFit same tt
-help_fit (word ∷ words) verb is = cc is
-
-sync_fit : (words : List (List ℕ)) (verb : Verb) → sync_words words ≡ Some verb → IsFit verb
-sync_fit [] verb is = cc is
-sync_fit (target ∷ []) verb is = by (target_of target) is where
-  by : (t : Option TargetName) → sync_of t ≡ Some verb → IsFit verb
-  by None is = cc is
-  by (Some t) is = let same : verbs.Sync t ≡ verb = cc is in subst IsFit same tt
-sync_fit (target ∷ word ∷ words) verb is = cc is
-
-tidy_fit : (words : List (List ℕ)) (verb : Verb) → tidy_words words ≡ Some verb → IsFit verb
-tidy_fit [] verb is = let same : verbs.Tidy ≡ verb = cc is in subst IsFit same tt
-tidy_fit (word ∷ words) verb is = cc is
-
-upgrade_fit : (words : List (List ℕ)) (verb : Verb) → upgrade_words words ≡ Some verb → IsFit verb
-upgrade_fit [] verb is = cc is
-upgrade_fit (target ∷ []) verb is = by (target_of target) is where
-  by : (t : Option TargetName) → upgrade_of t ≡ Some verb → IsFit verb
-  by None is = cc is
-  by (Some t) is = let same : verbs.Upgrade t ≡ verb = cc is in subst IsFit same tt
-upgrade_fit (target ∷ word ∷ words) verb is = cc is
-
-as_verb : (o : Option LocalCommand) (verb : Verb) →
-    ((command : LocalCommand) → o ≡ Some command → IsWellFormed command) →
-    option_map verbs.Local o ≡ Some verb → IsFit verb
-as_verb None verb fit is = cc is
-as_verb (Some command) verb fit is =
-    let same : verbs.Local command ≡ verb = cc is in subst IsFit same (fit command refl)
-
-verb_fit : (words : List (List ℕ)) (verb : Verb) → verb_of words ≡ Some verb → IsFit verb
-verb_fit [] verb is = cc is
-verb_fit (word ∷ words) verb is =
-    by (bytes_eq word (codes "check")) (bytes_eq word (codes "help")) (bytes_eq word (codes "sync"))
-    (bytes_eq word (codes "tidy")) (bytes_eq word (codes "upgrade")) is where
-      by : (a b c d e : Bool) →
-          (if a then check_words words
-          else if b then help_words words
-          else if c then sync_words words
-          else if d then tidy_words words
-          else if e then upgrade_words words
-          else option_map verbs.Local (local_words word words)) ≡ Some verb → IsFit verb
-      by true b c d e is = check_fit words verb is
-      by false true c d e is = help_fit words verb is
-      by false false true d e is = sync_fit words verb is
-      by false false false true e is = tidy_fit words verb is
-      by false false false false true is = upgrade_fit words verb is
-      by false false false false false is =
-          as_verb (local_words word words) verb (local_fit word words) is
-
-with_fit : (profile : Option (List ℕ)) (o : Option Verb) (command : Command) →
-    ((verb : Verb) → o ≡ Some verb → IsFit verb) → with_profile profile o ≡ Some command →
-    IsFit command.verb
-with_fit profile None command fit is = cc is
-with_fit profile (Some verb) command fit is =
-    let made : Command = record { profile = profile; verb = verb } in
-    let same : made ≡ command = cc is in
-    subst (λ (c : Command). IsFit c.verb) same (fit verb refl)
-
-pub command_fit : (words : List (List ℕ)) (command : Command) → command_of words ≡ Some command →
-    IsFit command.verb
-command_fit [] command is = with_fit None (verb_of []) command (verb_fit []) is
-command_fit (word ∷ []) command is =
-    with_fit None (verb_of (word ∷ [])) command (verb_fit (word ∷ [])) is
-command_fit (option ∷ path ∷ words) command is = by (bytes_eq option (codes "--profile")) is where
-  by : (b : Bool) →
-      (if b then with_profile (Some path) (verb_of words)
-      else with_profile None (verb_of (option ∷ path ∷ words))) ≡ Some command → IsFit command.verb
-  by true is = with_fit (Some path) (verb_of words) command (verb_fit words) is
-  by false is =
-      with_fit None (verb_of (option ∷ path ∷ words)) command (verb_fit (option ∷ path ∷ words)) is

@@ -10,6 +10,11 @@ use Rattle.jop_words.specs.declared.verb.Verb.TheVariants as verbs
 
 -- ---- the words behind the first one
 
+-- no words: the first one is all
+abbrev pub alone : Verb → List (List ℕ) → Option Verb
+alone verb [] = Some verb
+alone verb words = None
+
 abbrev pub check_for : Option TargetName → Option (List ℕ) → Option Verb
 check_for (Some target) (Some client) = Some (verbs.Check target client)
 check_for target client = None
@@ -19,11 +24,6 @@ abbrev pub check_words : List (List ℕ) → Option Verb
 check_words (target ∷ client ∷ []) = check_for (target_of target) (id_of client)
 check_words words = None
 
--- nothing behind `help`
-abbrev pub help_words : List (List ℕ) → Option Verb
-help_words [] = Some verbs.Help
-help_words words = None
-
 abbrev pub sync_of : Option TargetName → Option Verb
 sync_of None = None
 sync_of (Some target) = Some (verbs.Sync target)
@@ -32,11 +32,6 @@ sync_of (Some target) = Some (verbs.Sync target)
 abbrev pub sync_words : List (List ℕ) → Option Verb
 sync_words (target ∷ []) = sync_of (target_of target)
 sync_words words = None
-
--- nothing behind `tidy`
-abbrev pub tidy_words : List (List ℕ) → Option Verb
-tidy_words [] = Some verbs.Tidy
-tidy_words words = None
 
 abbrev pub upgrade_of : Option TargetName → Option Verb
 upgrade_of None = None
@@ -54,9 +49,9 @@ abbrev pub verb_of : List (List ℕ) → Option Verb
 verb_of [] = None
 verb_of (word ∷ words) =
     if bytes_eq word (codes "check") then check_words words
-    else if bytes_eq word (codes "help") then help_words words
+    else if bytes_eq word (codes "help") then alone verbs.Help words
     else if bytes_eq word (codes "sync") then sync_words words
-    else if bytes_eq word (codes "tidy") then tidy_words words
+    else if bytes_eq word (codes "tidy") then alone verbs.Tidy words
     else if bytes_eq word (codes "upgrade") then upgrade_words words
     else option_map verbs.Local (local_words word words)
 
@@ -78,9 +73,5 @@ uses_tables verb = false
 
 -- titles, names and types of content stand on a line
 abbrev pub IsFit : Verb → Type 0
-IsFit (verbs.Check target client) = Unit {0}
-IsFit verbs.Help = Unit {0}
 IsFit (verbs.Local command) = IsWellFormed command
-IsFit (verbs.Sync target) = Unit {0}
-IsFit verbs.Tidy = Unit {0}
-IsFit (verbs.Upgrade target) = Unit {0}
+IsFit verb = Unit {0}

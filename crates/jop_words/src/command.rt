@@ -1,4 +1,4 @@
-ghost use Rattle.std.specs.Prelude.{◌≡◌, None, Some, IfOk};
+ghost use Rattle.std.specs.Prelude.{◌≡◌, None, Some, IfOk, IfSome};
 ghost use Rattle.jop_words.specs.Commands.{command_of, with_profile};
 ghost use Rattle.jop_words.specs.Verbs.{IsFit, verb_of};
 
@@ -56,7 +56,8 @@ pub fn read_words(alloc: Global, words: &Words) -> Result<Command, WordsErr>
 }
 
 fn read_command(alloc: Global, words: &[Text]) -> Result<Option<Command>, AllocError>
-    ensures { IfOk result (λ command. command ≡ command_of words.now) }
+    ensures means { IfOk result (λ command. command ≡ command_of words.now) }
+    ensures fit { IfOk result (λ command. IfSome command (λ c. IsFit c.verb)) }
 {
     match words {
         [option, path, words @ ..] if option.as_str() == "--profile" => {
@@ -72,7 +73,8 @@ fn read_with(
     profile: Option<Text>,
     words: &[Text],
 ) -> Result<Option<Command>, AllocError>
-    ensures { IfOk result (λ command. command ≡ with_profile profile (verb_of words.now)) }
+    ensures means { IfOk result (λ command. command ≡ with_profile profile (verb_of words.now)) }
+    ensures fit { IfOk result (λ command. IfSome command (λ c. IsFit c.verb)) }
 {
     match read_verb(alloc, words)? {
         Some(verb) => Ok(Some(Command { profile, verb })),

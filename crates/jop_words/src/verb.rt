@@ -1,14 +1,14 @@
-ghost use Rattle.std.specs.Prelude.{◌≡◌, IfOk, option_map};
+ghost use Rattle.std.specs.Prelude.{◌≡◌, IfOk, IfSome, option_map};
 ghost use Rattle.jop_words.specs.Local.{local_words};
-ghost use Rattle.jop_words.specs.Verbs.{check_for, check_words, help_words, sync_of, sync_words};
-ghost use Rattle.jop_words.specs.Verbs.{tidy_words, upgrade_of, upgrade_words, verb_of};
+ghost use Rattle.jop_words.specs.Verbs.{IsFit, alone, check_for, check_words, sync_of, sync_words};
+ghost use Rattle.jop_words.specs.Verbs.{upgrade_of, upgrade_words, verb_of};
 ghost use Rattle.jop_words.specs.Words.{id_of, target_of};
 ghost use Rattle.jop_words.specs.declared.verb.Verb.TheVariants as verbs;
 
 use crate::local;
 use crate::target_name::TargetName;
 use crate::words::{read_id, read_target};
-use jop_base::{ClientId, Text};
+use jop_base::{ClientId, Text, let_go};
 use local_commands::LocalCommand;
 use std::alloc::{AllocError, Global};
 
@@ -38,24 +38,38 @@ pub enum Verb {
 
 /// A row for each command: its first word, and who reads the others.
 pub(crate) fn read_verb(alloc: Global, words: &[Text]) -> Result<Option<Verb>, AllocError>
-    ensures { IfOk result (λ verb. verb ≡ verb_of words.now) }
+    ensures means { IfOk result (λ verb. verb ≡ verb_of words.now) }
+    ensures fit { IfOk result (λ verb. IfSome verb IsFit) }
 {
     let Some((word, words)) = words.split_first() else {
         return Ok(None);
     };
     match word.as_str() {
         "check" => read_check(alloc, words),
-        "help" => Ok(read_help(words)),
+        "help" => Ok(alone(Verb::Help, words)),
         "sync" => read_sync(alloc, words),
-        "tidy" => Ok(read_tidy(words)),
+        "tidy" => Ok(alone(Verb::Tidy, words)),
         "upgrade" => read_upgrade(alloc, words),
         _ => read_local(alloc, word, words),
     }
 }
 
+/// A command with no words behind its first one.
+fn alone(verb: Verb, words: &[Text]) -> Option<Verb>
+    ensures means { result ≡ alone verb words.now }
+    ensures fit { IsFit verb → IfSome result IsFit }
+{
+    if words.is_empty() {
+        return Some(verb);
+    }
+    let_go(verb);
+    None
+}
+
 fn read_local(alloc: Global, word: &Text, words: &[Text]) -> Result<Option<Verb>, AllocError>
-    ensures { IfOk result
+    ensures means { IfOk result
         (λ verb. verb ≡ option_map verbs.Local (local_words word.now words.now)) }
+    ensures fit { IfOk result (λ verb. IfSome verb IsFit) }
 {
     match local::read(alloc, word, words)? {
         Some(command) => Ok(Some(Verb::Local(command))),
@@ -65,7 +79,8 @@ fn read_local(alloc: Global, word: &Text, words: &[Text]) -> Result<Option<Verb>
 
 /// A target and a client.
 fn read_check(alloc: Global, words: &[Text]) -> Result<Option<Verb>, AllocError>
-    ensures { IfOk result (λ verb. verb ≡ check_words words.now) }
+    ensures means { IfOk result (λ verb. verb ≡ check_words words.now) }
+    ensures fit { IfOk result (λ verb. IfSome verb IsFit) }
 {
     match words {
         [target, client] => read_check_of(alloc, target, client),
@@ -74,7 +89,9 @@ fn read_check(alloc: Global, words: &[Text]) -> Result<Option<Verb>, AllocError>
 }
 
 fn read_check_of(alloc: Global, target: &Text, client: &Text) -> Result<Option<Verb>, AllocError>
-    ensures { IfOk result (λ verb. verb ≡ check_for (target_of target.now) (id_of client.now)) }
+    ensures means { IfOk result
+        (λ verb. verb ≡ check_for (target_of target.now) (id_of client.now)) }
+    ensures fit { IfOk result (λ verb. IfSome verb IsFit) }
 {
     let Some(client) = read_id(client) else {
         return Ok(None);
@@ -85,20 +102,10 @@ fn read_check_of(alloc: Global, target: &Text, client: &Text) -> Result<Option<V
     Ok(Some(Verb::Check { target, client }))
 }
 
-/// `help` has no words behind it.
-fn read_help(words: &[Text]) -> Option<Verb>
-    ensures { result ≡ help_words words.now }
-{
-    if words.is_empty() {
-        Some(Verb::Help)
-    } else {
-        None
-    }
-}
-
 /// A target, to sync with.
 fn read_sync(alloc: Global, words: &[Text]) -> Result<Option<Verb>, AllocError>
-    ensures { IfOk result (λ verb. verb ≡ sync_words words.now) }
+    ensures means { IfOk result (λ verb. verb ≡ sync_words words.now) }
+    ensures fit { IfOk result (λ verb. IfSome verb IsFit) }
 {
     match words {
         [target] => read_sync_with(alloc, target),
@@ -107,7 +114,8 @@ fn read_sync(alloc: Global, words: &[Text]) -> Result<Option<Verb>, AllocError>
 }
 
 fn read_sync_with(alloc: Global, target: &Text) -> Result<Option<Verb>, AllocError>
-    ensures { IfOk result (λ verb. verb ≡ sync_of (target_of target.now)) }
+    ensures means { IfOk result (λ verb. verb ≡ sync_of (target_of target.now)) }
+    ensures fit { IfOk result (λ verb. IfSome verb IsFit) }
 {
     match read_target(alloc, target)? {
         Some(target) => Ok(Some(Verb::Sync { target })),
@@ -115,20 +123,10 @@ fn read_sync_with(alloc: Global, target: &Text) -> Result<Option<Verb>, AllocErr
     }
 }
 
-/// `tidy` has no words behind it.
-fn read_tidy(words: &[Text]) -> Option<Verb>
-    ensures { result ≡ tidy_words words.now }
-{
-    if words.is_empty() {
-        Some(Verb::Tidy)
-    } else {
-        None
-    }
-}
-
 /// A target, to upgrade.
 fn read_upgrade(alloc: Global, words: &[Text]) -> Result<Option<Verb>, AllocError>
-    ensures { IfOk result (λ verb. verb ≡ upgrade_words words.now) }
+    ensures means { IfOk result (λ verb. verb ≡ upgrade_words words.now) }
+    ensures fit { IfOk result (λ verb. IfSome verb IsFit) }
 {
     match words {
         [target] => read_upgrade_of(alloc, target),
@@ -137,7 +135,8 @@ fn read_upgrade(alloc: Global, words: &[Text]) -> Result<Option<Verb>, AllocErro
 }
 
 fn read_upgrade_of(alloc: Global, target: &Text) -> Result<Option<Verb>, AllocError>
-    ensures { IfOk result (λ verb. verb ≡ upgrade_of (target_of target.now)) }
+    ensures means { IfOk result (λ verb. verb ≡ upgrade_of (target_of target.now)) }
+    ensures fit { IfOk result (λ verb. IfSome verb IsFit) }
 {
     match read_target(alloc, target)? {
         Some(target) => Ok(Some(Verb::Upgrade { target })),

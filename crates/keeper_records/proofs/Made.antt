@@ -6,7 +6,7 @@ use Rattle.jop_base.specs.Keyed.{put}
 use Rattle.item_text.specs.declared.item.Item.{Item}
 use Rattle.item_text.specs.Valid.{IsItem}
 use Rattle.local_store.specs.declared.change.Change.{Change}
-use Rattle.local_store.specs.declared.change.Change.TheVariants.{Named, Saved, Removed, Uploaded, Dropped, Taken, Conflict, Moved, Gone, Opened, Cleared, InfoIs, ContextIs}
+use Rattle.local_store.specs.declared.change.Change.TheVariants.{Saved, Removed, Uploaded, Taken, Conflict, Moved, Opened, InfoIs}
 use Rattle.local_store.specs.declared.content.Content.{Content}
 use Rattle.local_store.specs.declared.content.Content.TheVariants.{Plain, Sealed}
 use Rattle.local_store.specs.declared.deletion.Deletion.{Deletion}
@@ -71,22 +71,15 @@ pub writes_make : (t : Tables) (change : Change) (number : ℕ)
     → (needs_number change ≡ true → number ≡ t.next_conflict)
     → after_writes t (writes_of change (option_and_then (row_at t) (row_needed change)) number)
     ≡ after t change
-writes_make t (Named client) number is = refl
-writes_make t (Saved id item) number is = refl
 writes_make t (Removed id) number is =
     removing (is_synced (row_at t id)) t id
     (record { id = id; resource = is_resource (row_at t id) })
 writes_make t (Uploaded id bytes) number is = uploading t id bytes (row_at t id)
-writes_make t (Dropped id) number is = refl
-writes_make t (Taken id bytes content) number is = refl
 writes_make t (Conflict id remote copies) number is =
     conflicting t id remote copies (row_at t id) number is
 writes_make t (Moved id) number is = conflicting t id None true (row_at t id) number is
-writes_make t (Gone id) number is = refl
 writes_make t (Opened id item) number is = opening t id item (row_at t id)
-writes_make t (Cleared number) next is = refl
-writes_make t (InfoIs info) number is = refl
-writes_make t (ContextIs context) number is = refl
+writes_make t change number is = refl
 
 -- what is kept after the writes of a change is what is kept after the change
 pub kept_is_changed : (kept : Option Kept) (change : Change) (row : Option Row) (number : ℕ)
@@ -153,21 +146,17 @@ open_sound id item (Some r) of = alone _ (record { content = of; pending = tt })
 
 pub writes_are_sound : (change : Change) (row : Option Row) (number : ℕ) → IsAllowed change
     → IsSoundRowFor (row_needed change) row → All IsSoundWrite (writes_of change row number)
-writes_are_sound (Named client) row number allowed sound = alone _ tt
 writes_are_sound (Saved id item) row number allowed sound =
     alone _ (record { content = allowed; pending = tt })
 writes_are_sound (Removed id) row number allowed sound =
     removal_sound (is_synced row) id (record { id = id; resource = is_resource row })
 writes_are_sound (Uploaded id bytes) row number allowed sound = upload_sound id bytes row sound
-writes_are_sound (Dropped id) row number allowed sound = alone _ tt
 writes_are_sound (Taken id bytes content) row number allowed sound =
     alone _ (record { content = allowed; pending = not_pending content })
 writes_are_sound (Conflict id remote copies) row number allowed sound =
     conflict_sound id remote copies row number allowed sound
 writes_are_sound (Moved id) row number allowed sound =
     conflict_sound id None true row number tt sound
-writes_are_sound (Gone id) row number allowed sound = alone _ tt
 writes_are_sound (Opened id item) row number allowed sound = open_sound id item row allowed
-writes_are_sound (Cleared number) row next allowed sound = alone _ tt
 writes_are_sound (InfoIs info) row number allowed sound = alone _ allowed
-writes_are_sound (ContextIs context) row number allowed sound = alone _ tt
+writes_are_sound change row number allowed sound = alone _ tt

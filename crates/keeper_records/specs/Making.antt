@@ -13,37 +13,21 @@ use Rattle.keeper_records.specs.declared.write.Write.TheVariants.{SetRow, DropRo
 
 -- ---- what has to be known
 
--- the id of the row that has to be known
+-- the id of the row that has to be known; the others are told without one
 abbrev pub row_needed : Change → Option (List ℕ)
-row_needed (Named client) = None
 row_needed (Saved id item) = Some id
 row_needed (Removed id) = Some id
 row_needed (Uploaded id bytes) = Some id
-row_needed (Dropped id) = None
-row_needed (Taken id bytes content) = None
 row_needed (Conflict id remote copies) = Some id
 row_needed (Moved id) = Some id
-row_needed (Gone id) = None
 row_needed (Opened id item) = Some id
-row_needed (Cleared number) = None
-row_needed (InfoIs info) = None
-row_needed (ContextIs context) = None
+row_needed change = None
 
 -- whether the number of the next conflict note has to be known
 abbrev pub needs_number : Change → Bool
-needs_number (Named client) = false
-needs_number (Saved id item) = false
-needs_number (Removed id) = false
-needs_number (Uploaded id bytes) = false
-needs_number (Dropped id) = false
-needs_number (Taken id bytes content) = false
 needs_number (Conflict id remote copies) = copies
 needs_number (Moved id) = true
-needs_number (Gone id) = false
-needs_number (Opened id item) = false
-needs_number (Cleared number) = false
-needs_number (InfoIs info) = false
-needs_number (ContextIs context) = false
+needs_number change = false
 
 -- ---- the writes
 

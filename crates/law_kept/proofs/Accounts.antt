@@ -1,6 +1,6 @@
 -- What has become of a saved note at each later place, and so at the end.
 use Rattle.std.proofs.Common.{◌≡◌, ◌⊎◌, ◌<◌, ◌∙◌, refl, ap, sym, subst, arith, inl, inr, ℕ, zero, suc, List, [], ◌∷◌, length, Bool, true, false, not, cond, Option, Some, None}
-use Rattle.std.specs.Prelude.{slice_get, take, ◌&&◌, ◌==◌}
+use Rattle.std.specs.Prelude.{slice_get, take, ◌&&◌, ◌||◌, ◌==◌}
 use Rattle.std.proofs.lemmas.Bool.{false≢true, and_parts, and_cases, eqb-true}
 use Rattle.std.proofs.lemmas.Option.{slice_get_within}
 use Rattle.std.proofs.Math.Seq.{take-length}
@@ -8,15 +8,15 @@ use Rattle.item_text.specs.declared.item.Item.{Item}
 use Rattle.local_store.specs.declared.content.Content.{Content}
 use Rattle.local_store.specs.declared.content.Content.TheVariants.{Plain}
 use Rattle.jop_base.proofs.KeyedLaws.{bytes_eq-refl, bytes_eq-other}
-use Rattle.law_kept.specs.Acts.{Saved, Removed, Uploaded, Dropped, Taken, Conflict, Moved, Gone, Opened, Cleared, Act, Begins, Gets, Puts, Deletes, Changes, Ends, Elsewhere, Step, Version, History}
+use Rattle.law_kept.specs.Acts.{ItemChange, Saved, Uploaded, Taken, Conflict, Moved, Gone, Opened, Cleared, RowStep, Stays, row_step, is_users, Act, Changes, Step, Version, History}
 use Rattle.law_kept.specs.Fair.{StandsAsRead, IsFair}
-use Rattle.law_kept.specs.Fates.{Has, RowStands, FileStands, CopyStands, IsUsers, WasReplaced, WasCleared, WasPutOver, WasDeleted, HasFate, OnRow, OnStore, InConflicts, WasMet, IsHeir, WasSaved, IsKept}
+use Rattle.law_kept.specs.Fates.{Has, RowStands, CopyStands, IsUsers, WasReplaced, WasCleared, HasFate, OnRow, OnStore, InConflicts, WasMet, IsHeir, WasSaved, IsKept}
 use Rattle.law_kept.specs.Fates as fates
 use Rattle.law_licences.specs.Copies.{is_same_note, must_copy}
 use Rattle.law_licences.specs.Items.{is_note, is_plain_note}
 use Rattle.law_kept.specs.Licences.{is_waiting, is_idle, is_copied, is_copied_from, has_read_item, may_act}
-use Rattle.law_kept.specs.Own.{Row, Own, row_base, new_own, own_after}
-use Rattle.law_kept.specs.Standing.{Copy, Standing, Client, World, copies_noted, copies_noted_if, without_number, stands_after, desk_after, opening_world, happened, world_from, world_at, world_end}
+use Rattle.law_kept.specs.Own.{Row, Own, row_base, row_stepped, new_own, own_after}
+use Rattle.law_kept.specs.Standing.{Copy, Standing, Client, World, copies_noted, copies_noted_if, without_number, stood_stepped, stands_after, desk_after, opening_world, happened, world_from, world_at, world_end}
 use Rattle.law_kept.proofs.Clients.{same_or_not, some_same}
 use Rattle.law_kept.proofs.Gaps.{no_gap_at}
 use Rattle.law_kept.proofs.FileFates.{Turn, FileFate, Stands, WentOver, Went, RowStandsFor, CheckHolds, IsReadable, Invariant, fate_next}
@@ -99,19 +99,7 @@ copy_goes file s copy (Changes (Cleared number)) has = elim (without-has number 
 copy_goes file s copy (Changes (Conflict remote copied)) has =
     inl (copies_noted_if-has copied s.row s.copies copy has)
 copy_goes file s copy (Changes (Moved number)) has = inl (copies_noted-has number s.row s.copies copy has)
-copy_goes file s copy (Changes (Saved item)) has = inl has
-copy_goes file s copy (Changes Removed) has = inl has
-copy_goes file s copy (Changes (Uploaded bytes)) has = inl has
-copy_goes file s copy (Changes Dropped) has = inl has
-copy_goes file s copy (Changes (Taken bytes content)) has = inl has
-copy_goes file s copy (Changes Gone) has = inl has
-copy_goes file s copy (Changes (Opened item)) has = inl has
-copy_goes file s copy (Puts bytes landed heard) has = inl has
-copy_goes file s copy (Deletes landed) has = inl has
-copy_goes file s copy Begins has = inl has
-copy_goes file s copy (Gets answer) has = inl has
-copy_goes file s copy Ends has = inl has
-copy_goes file s copy Elsewhere has = inl has
+copy_goes file s copy x has = inl has
 
 -- ---- rows
 
@@ -159,17 +147,34 @@ alike_if_met h file row stood item remote stands note pending copied r =
       | inr is ↦ not_not (is_same_note item remote) is
     ]
 
+abbrev is_staying : RowStep → Bool
+is_staying Stays = true
+is_staying step = false
+
+-- so it is by each change that the user makes, and by each that leaves the row
+plain_goes : (h : History) (file : Option Version) (o : Own) (s : Standing) (item : Item)
+    (row : Row) (change : ItemChange)
+    → o.row ≡ Some row → s.row ≡ Some item
+    → (is_users change || is_staying (row_step change)) ≡ true
+    → RowGoes h file o s item (Changes change)
+plain_goes h file o s item row change there stands plain =
+    by (is_users change) refl (row_step change) refl plain
+  where
+    by : (users : Bool) → is_users change ≡ users → (step : RowStep) → row_step change ≡ step
+        → (users || is_staying step) ≡ true → RowGoes h file o s item (Changes change)
+    by true users step is plain = RowLetGo users
+    by false users Stays is plain =
+        RowStays row (ap (λ (step : RowStep). row_stepped o.row step) is ∙ there)
+        (ap (λ (step : RowStep). stood_stepped s step) is ∙ stands)
+    by false users step is plain = absurd (false≢true plain)
+
 row_goes : (reads : List ℕ → Option Item) (h : History) (file : Option Version) (o : Own)
     (s : Standing) (item : Item) (row : Row) (x : Act)
     → o.row ≡ Some row → s.row ≡ Some item → is_note item ≡ true → may_act reads o x ≡ true
     → RowStandsFor h file row s.row → CheckHolds reads h file s o.session
     → RowGoes h file o s item x
-row_goes reads h file o s item row (Changes (Saved new)) there stands note may r c = RowLetGo tt
-row_goes reads h file o s item row (Changes Removed) there stands note may r c = RowLetGo tt
 row_goes reads h file o s item row (Changes (Uploaded bytes)) there stands note may r c =
     RowStays (record row { base = Some bytes; pending = false }) (rw there refl) stands
-row_goes reads h file o s item row (Changes Dropped) there stands note may r c =
-    RowStays row there stands
 row_goes reads h file o s item row (Changes (Taken bytes content)) there stands note may r c =
     let both = and_parts (is_idle o.row) (has_read_item reads o.session bytes) may in
     RowSafe (safe_if_idle h file row s.row item stands (rw there at both.0) r)
@@ -202,17 +207,9 @@ row_goes reads h file o s item row (Changes Gone) there stands note may r c =
     RowSafe (safe_if_idle h file row s.row item stands (rw there at may) r)
 row_goes reads h file o s item row (Changes (Opened new)) there stands note may r c =
     RowStays (record row { content = Plain new }) (rw there refl) stands
-row_goes reads h file o s item row (Changes (Cleared number)) there stands note may r c =
-    RowStays row there stands
-row_goes reads h file o s item row (Puts bytes landed heard) there stands note may r c =
-    RowStays row there stands
-row_goes reads h file o s item row (Deletes landed) there stands note may r c =
-    RowStays row there stands
-row_goes reads h file o s item row Begins there stands note may r c = RowStays row there stands
-row_goes reads h file o s item row (Gets answer) there stands note may r c =
-    RowStays row there stands
-row_goes reads h file o s item row Ends there stands note may r c = RowStays row there stands
-row_goes reads h file o s item row Elsewhere there stands note may r c = RowStays row there stands
+row_goes reads h file o s item row (Changes change) there stands note may r c =
+    plain_goes h file o s item row change there stands refl
+row_goes reads h file o s item row x there stands note may r c = RowStays row there stands
 
 -- ---- one step more
 

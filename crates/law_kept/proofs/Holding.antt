@@ -5,15 +5,15 @@ use Rattle.std.specs.Prelude.{is_none, ◌||◌}
 use Rattle.std.proofs.lemmas.Bool.{false≢true, true≢false, and_parts}
 use Rattle.item_text.specs.declared.item.Item.{Item}
 use Rattle.jop_base.proofs.KeyedLaws.{bytes_eq-refl, bytes_eq-other}
-use Rattle.law_kept.specs.Acts.{ItemChange, Saved, Removed, Uploaded, Dropped, Taken, Conflict, Moved, Gone, Opened, Cleared, Answer, Shown, Missing, Unknown, Act, Begins, Gets, Puts, Deletes, Changes, Ends, Elsewhere, Version, History}
+use Rattle.law_kept.specs.Acts.{RowStep, Saves, Reads, Meets, Goes, row_step, Answer, Shown, Missing, Unknown, Act, Begins, Gets, Puts, Deletes, Changes, Ends, Elsewhere, Version, History}
 use Rattle.law_kept.specs.Fair.{file_bytes}
 use Rattle.law_kept.specs.Honest.{is_honest}
-use Rattle.law_kept.specs.Licences.{is_waiting, is_idle, has_read_base, has_read_nothing, has_read_item, is_outside, may_change, may_act}
+use Rattle.law_kept.specs.Licences.{is_waiting, has_read_base, has_read_nothing, has_read_item, is_outside, may_act}
 use Rattle.law_kept.specs.Own.{Row, Unchecked, Read, ReadNothing, Wrote, Session, Out, In, Own, session_checked, check_of, check_put, own_after}
-use Rattle.law_kept.specs.Standing.{Standing, Client, World, file_item, version_put, file_after, stands_changed, stands_after, stands_beside, happened, world_at}
+use Rattle.law_kept.specs.Standing.{Copy, Standing, Client, World, file_item, version_put, file_after, stood_stepped, copies_changed, stands_after, stands_beside, happened, world_at}
 use Rattle.law_kept.proofs.Clients.{same_or_not, some_same, text_is}
 use Rattle.law_kept.proofs.FileFates.{Turn, RowHolds, ReadHolds, CheckHolds, IsReadable, Invariant, fate_next, Stands}
-use Rattle.law_kept.proofs.RowFates.{Keeps, row_keeps, conflict_read, row_own}
+use Rattle.law_kept.proofs.RowFates.{Keeps, MayStep, row_keeps, step_may, row_own}
 
 -- ---- checks
 
@@ -48,34 +48,23 @@ check_out : (reads : List ℕ → Option Item) (h : History) (file : Option Vers
 check_out reads h file s Out out = tt
 check_out reads h file s (In check) out = absurd (false≢true out)
 
-check_after_change : (reads : List ℕ → Option Item) (h : History) (file : Option Version) (o : Own)
-    (s : Standing) (change : ItemChange)
-    → may_change reads o change ≡ true → CheckHolds reads h file s o.session
-    → CheckHolds reads h file (stands_changed s change) o.session
-check_after_change reads h file o s (Saved item) may c =
-    check_out reads h file (stands_changed s (Saved item)) o.session may
-check_after_change reads h file o s Removed may c =
-    check_row reads h file s (stands_changed s Removed) o.session refl refl (nothing s.row) c
-check_after_change reads h file o s (Uploaded bytes) may c = c
-check_after_change reads h file o s Dropped may c = c
-check_after_change reads h file o s (Taken bytes content) may c =
-    let both = and_parts (is_idle o.row) (has_read_item reads o.session bytes) may in
-    check_read reads h file s (stands_changed s (Taken bytes content)) o.session bytes refl refl
-    both.1 c
-check_after_change reads h file o s (Conflict (Some remote) copied) may c =
-    check_read reads h file s (stands_changed s (Conflict (Some remote) copied)) o.session remote.0
-    refl refl
-    (conflict_read reads o remote copied may) c
-check_after_change reads h file o s (Conflict None copied) may c =
-    check_row reads h file s (stands_changed s (Conflict None copied)) o.session refl refl
+check_after_step : (reads : List ℕ → Option Item) (h : History) (file : Option Version) (o : Own)
+    (s : Standing) (copies : List Copy) (step : RowStep)
+    → MayStep reads o step → CheckHolds reads h file s o.session
+    → CheckHolds reads h file (record s { row = stood_stepped s step; copies = copies }) o.session
+check_after_step reads h file o s copies (Saves item) may c =
+    check_out reads h file (record s { row = Some item; copies = copies }) o.session may
+check_after_step reads h file o s copies (Reads bytes content) may c =
+    check_read reads h file s (record s { row = s.got; copies = copies }) o.session bytes refl refl
+    may c
+check_after_step reads h file o s copies (Meets remote) may c =
+    check_read reads h file s (record s { row = s.got; copies = copies }) o.session remote.0 refl
+    refl may c
+check_after_step reads h file o s copies Goes may c =
+    check_row reads h file s (record s { row = None; copies = copies }) o.session refl refl
     (nothing s.row) c
-check_after_change reads h file o s (Moved number) may c =
-    check_row reads h file s (stands_changed s (Moved number)) o.session refl refl (nothing s.row) c
-check_after_change reads h file o s Gone may c =
-    check_row reads h file s (stands_changed s Gone) o.session refl refl (nothing s.row) c
-check_after_change reads h file o s (Opened item) may c = c
-check_after_change reads h file o s (Cleared number) may c =
-    check_row reads h file s (stands_changed s (Cleared number)) o.session refl refl (λ item e. e) c
+check_after_step reads h file o s copies step may c =
+    check_row reads h file s (record s { copies = copies }) o.session refl refl (λ item e. e) c
 
 check_none : (reads : List ℕ → Option Item) (h : History) (file : Option Version) (s : Standing)
     (session : Session) → CheckHolds reads h file s (session_checked session Unchecked)
@@ -138,7 +127,8 @@ check_own reads h file o s (Deletes true) honest may readable c =
 check_own reads h file o s (Deletes false) honest may readable c =
     check_none reads h file s o.session
 check_own reads h file o s (Changes change) honest may readable c =
-    check_after_change reads h file o s change may c
+    check_after_step reads h file o s (copies_changed s change) (row_step change)
+    (step_may reads o change may) c
 check_own reads h file o s Ends honest may readable c = tt
 check_own reads h file o s Elsewhere honest may readable c = c
 

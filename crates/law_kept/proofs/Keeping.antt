@@ -11,8 +11,8 @@ use Rattle.law_kept.specs.Own.{Own, new_own, acts_by, own_from}
 use Rattle.law_kept.specs.Telling.{history_of, steps_of, IsFairFor}
 use Rattle.law_kept.specs.FairTables.{new_view, ClientObeys, AllObeyData, view_at_end, IsServed, KeepsItem}
 use Rattle.law_kept.specs.Known.{known}
-use Rattle.law_kept.proofs.Licensed.{obeys_from}
-use Rattle.law_kept.proofs.Ordered.{ordered_new}
+use Rattle.law_kept.proofs.LicensedSteps.{obeys_from}
+use Rattle.local_store.proofs.Keeping.{ordered_new}
 use Rattle.law_kept.proofs.Seeing.{known_from, known_new}
 
 pub items_obey : (id : List ℕ) (tale : Tale) → AllObeyData tale

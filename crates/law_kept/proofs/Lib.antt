@@ -13,11 +13,13 @@ pub mod TaleTold
 pub mod Told
 pub mod TreeFiles
 pub mod Agreeing
+pub mod Calls
 pub mod Copies
 pub mod Joins
 pub mod Keeping
+pub mod EachChange
 pub mod Licensed
-pub mod Ordered
+pub mod LicensedSteps
 pub mod Rows
 pub mod Seeing
 pub mod TrueCalls

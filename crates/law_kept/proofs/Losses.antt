@@ -4,8 +4,8 @@ use Rattle.std.specs.Prelude.{take, slice_get, bytes_eq, ◌&&◌, ◌||◌}
 use Rattle.std.proofs.lemmas.Bool.{false≢true, and_parts, and_from, or_parts, or_left, or_right}
 use Rattle.item_text.specs.declared.item.Item.{Item}
 use Rattle.jop_base.proofs.KeyedLaws.{bytes_eq-refl, bytes_eq-other}
-use Rattle.law_kept.specs.Acts.{Saved, Removed, Uploaded, Dropped, Taken, Conflict, Moved, Gone, Opened, Cleared, Act, Begins, Gets, Puts, Deletes, Changes, Ends, Elsewhere, Step, Version, History}
-use Rattle.law_kept.specs.Fates.{Has, RowStands, FileStands, CopyStands, IsUsers, WasReplaced, WasCleared, WasPutOver, WasDeleted, HasFate, OnRow, OnStore, InConflicts, WasMet, IsLost}
+use Rattle.law_kept.specs.Acts.{ItemChange, Conflict, Cleared, is_users, Act, Puts, Deletes, Changes, Step, Version, History}
+use Rattle.law_kept.specs.Fates.{Has, FileStands, IsUsers, WasReplaced, WasCleared, WasPutOver, WasDeleted, HasFate, OnRow, OnStore, InConflicts, WasMet, IsLost}
 use Rattle.law_kept.specs.Fates as fates
 use Rattle.law_licences.specs.Copies.{is_alike, is_same_note}
 use Rattle.law_licences.specs.Items.{is_text}
@@ -29,13 +29,20 @@ abbrev pub is_base : Option Row → Option Version → Bool
 is_base row None = false
 is_base row (Some version) = is_text version.bytes (row_base row)
 
+-- whether what isn't the user's clears the item, or gives way to its text
+abbrev pub gives_way : Item → Client → ItemChange → Bool
+gives_way item d (Cleared number) = is_copied_in item d.stands.copies
+gives_way item d (Conflict (Some remote) None) =
+    is_it item d.stands.row && is_same_note item remote.1
+gives_way item d change = false
+
+abbrev pub lets_go : Item → Client → ItemChange → Bool → Bool
+lets_go item d change true = is_it item d.stands.row
+lets_go item d change false = gives_way item d change
+
 -- whether a client lets the item go, or the row that stands for it gives way to its text
 abbrev pub goes : Item → Option Version → Client → Act → Bool
-goes item file d (Changes (Saved new)) = is_it item d.stands.row
-goes item file d (Changes Removed) = is_it item d.stands.row
-goes item file d (Changes (Cleared number)) = is_copied_in item d.stands.copies
-goes item file d (Changes (Conflict (Some remote) None)) =
-    is_it item d.stands.row && is_same_note item remote.1
+goes item file d (Changes change) = lets_go item d change (is_users change)
 goes item file d (Puts bytes true heard) = is_it item (file_item file) && is_base d.own.row file
 goes item file d (Deletes true) = is_it item (file_item file) && d.own.deleted
 goes item file d act = false
@@ -75,22 +82,9 @@ has_copied item (c ∷ cs) copy same (inr deeper) is =
 
 users_let_go : (item : Item) (file : Option Version) (d : Client) (x : Act) → IsUsers x
     → is_it item d.stands.row ≡ true → goes item file d x ≡ true
-users_let_go item file d (Changes (Saved new)) users is = is
-users_let_go item file d (Changes Removed) users is = is
-users_let_go item file d (Changes (Uploaded bytes)) users is = absurd users
-users_let_go item file d (Changes Dropped) users is = absurd users
-users_let_go item file d (Changes (Taken bytes content)) users is = absurd users
-users_let_go item file d (Changes (Conflict remote copied)) users is = absurd users
-users_let_go item file d (Changes (Moved number)) users is = absurd users
-users_let_go item file d (Changes Gone) users is = absurd users
-users_let_go item file d (Changes (Opened new)) users is = absurd users
-users_let_go item file d (Changes (Cleared number)) users is = absurd users
-users_let_go item file d (Puts bytes landed heard) users is = absurd users
-users_let_go item file d (Deletes landed) users is = absurd users
-users_let_go item file d Begins users is = absurd users
-users_let_go item file d (Gets answer) users is = absurd users
-users_let_go item file d Ends users is = absurd users
-users_let_go item file d Elsewhere users is = absurd users
+users_let_go item file d (Changes change) users is =
+    ap (lets_go item d change) users ∙ is
+users_let_go item file d x users is = absurd users
 
 goes_at : (item : Item) (w : World) (ss : List Step) (place : ℕ) (s : Step)
     → slice_get ss place ≡ Some s → goes_in item w ss ≡ false

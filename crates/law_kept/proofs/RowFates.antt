@@ -6,10 +6,10 @@ use Rattle.item_text.specs.declared.item.Item.{Item}
 use Rattle.local_store.specs.declared.content.Content.{Content}
 use Rattle.local_store.specs.declared.content.Content.TheVariants.{Plain}
 use Rattle.jop_base.proofs.KeyedLaws.{same_text}
-use Rattle.law_kept.specs.Acts.{ItemChange, Saved, Removed, Uploaded, Dropped, Taken, Conflict, Moved, Gone, Opened, Cleared, Act, Begins, Gets, Puts, Deletes, Changes, Ends, Elsewhere, Version, History}
-use Rattle.law_kept.specs.Licences.{is_waiting, is_idle, is_sealed_row, is_copied_from, has_written, has_read_item, may_change, may_act}
-use Rattle.law_kept.specs.Own.{Row, Unchecked, Read, ReadNothing, Wrote, Session, Out, In, Own, row_sent, met, row_unsealed, row_changed, own_after}
-use Rattle.law_kept.specs.Standing.{Standing, version_put, file_after, stood_changed, stands_after}
+use Rattle.law_kept.specs.Acts.{ItemChange, Saved, Uploaded, Taken, Conflict, Opened, RowStep, Stays, Saves, Sends, Reads, Meets, Unseals, Goes, row_step, Act, Begins, Gets, Puts, Deletes, Changes, Ends, Elsewhere, Version, History}
+use Rattle.law_kept.specs.Licences.{is_waiting, is_idle, is_outside, is_sealed_row, is_copied_from, has_written, has_read_item, may_change, may_act}
+use Rattle.law_kept.specs.Own.{Row, Unchecked, Read, ReadNothing, Wrote, Session, Out, In, Own, row_sent, met, row_unsealed, row_stepped, own_after}
+use Rattle.law_kept.specs.Standing.{Standing, version_put, file_after, stood_stepped, stands_after}
 use Rattle.law_kept.proofs.FileFates.{FileFate, RowStandsFor, RowHolds, ReadHolds, CheckHolds}
 
 -- ---- rows
@@ -107,7 +107,7 @@ wrote_fate reads h file s (In ReadNothing) bytes may check = absurd (false≢tru
 wrote_fate reads h file s (In (Wrote written)) bytes may check = check
 
 -- a conflict comes of what was read
-pub conflict_read : (reads : List ℕ → Option Item) (o : Own) (remote : List ℕ × Content)
+conflict_read : (reads : List ℕ → Option Item) (o : Own) (remote : List ℕ × Content)
     (copied : Option ℕ) → may_change reads o (Conflict (Some remote) copied) ≡ true
     → has_read_item reads o.session remote.0 ≡ true
 conflict_read reads o remote copied may =
@@ -115,28 +115,43 @@ conflict_read reads o remote copied may =
     let is = is_copied_from o.row remote.1 copied in
     (and_parts read is (and_parts (is_waiting o.row) (read && is) may).1).0
 
-row_after_change : (reads : List ℕ → Option Item) (h : History) (file : Option Version) (o : Own)
-    (s : Standing) (change : ItemChange)
-    → may_change reads o change ≡ true → RowHolds h file o.row s.row
+-- what a step of the row asks, whichever change takes it
+abbrev pub MayStep : (List ℕ → Option Item) → Own → RowStep → Type 0
+MayStep reads o Stays = Unit {0}
+MayStep reads o (Saves item) = is_outside o.session ≡ true
+MayStep reads o (Sends bytes) = has_written o.session bytes ≡ true
+MayStep reads o (Reads bytes content) = has_read_item reads o.session bytes ≡ true
+MayStep reads o (Meets remote) = has_read_item reads o.session remote.0 ≡ true
+MayStep reads o (Unseals item) = is_sealed_row o.row ≡ true
+MayStep reads o Goes = Unit {0}
+
+-- a row stays and goes by any change
+pub step_may : (reads : List ℕ → Option Item) (o : Own) (change : ItemChange)
+    → may_change reads o change ≡ true → MayStep reads o (row_step change)
+step_may reads o (Saved item) may = may
+step_may reads o (Uploaded bytes) may = may
+step_may reads o (Taken bytes content) may =
+    (and_parts (is_idle o.row) (has_read_item reads o.session bytes) may).1
+step_may reads o (Conflict (Some remote) copied) may = conflict_read reads o remote copied may
+step_may reads o (Opened item) may = may
+step_may reads o change may = tt
+
+row_after_step : (reads : List ℕ → Option Item) (h : History) (file : Option Version) (o : Own)
+    (s : Standing) (step : RowStep)
+    → MayStep reads o step → RowHolds h file o.row s.row
     → CheckHolds reads h file s o.session
-    → RowHolds h file (row_changed o.row change) (stood_changed s change)
-row_after_change reads h file o s (Saved item) may r c =
+    → RowHolds h file (row_stepped o.row step) (stood_stepped s step)
+row_after_step reads h file o s Stays may r c = r
+row_after_step reads h file o s (Saves item) may r c =
     record { item = item; stands = refl; idle = λ e. absurd (true≢false e); due = λ e. refl }
-row_after_change reads h file o s Removed may r c = tt
-row_after_change reads h file o s (Uploaded bytes) may r c =
+row_after_step reads h file o s (Sends bytes) may r c =
     row_uploaded h file bytes o.row s.row (wrote_fate reads h file s o.session bytes may c) r
-row_after_change reads h file o s Dropped may r c = r
-row_after_change reads h file o s (Taken bytes content) may r c =
-    let both = and_parts (is_idle o.row) (has_read_item reads o.session bytes) may in
-    row_taken h file bytes content s.got (got_item reads h file s o.session bytes both.1 c)
-row_after_change reads h file o s (Conflict (Some remote) copied) may r c =
-    row_met h file remote o.row s.got
-    (got_item reads h file s o.session remote.0 (conflict_read reads o remote copied may) c)
-row_after_change reads h file o s (Conflict None copied) may r c = tt
-row_after_change reads h file o s (Moved number) may r c = tt
-row_after_change reads h file o s Gone may r c = tt
-row_after_change reads h file o s (Opened item) may r c = row_opened h file item o.row s.row may r
-row_after_change reads h file o s (Cleared number) may r c = r
+row_after_step reads h file o s (Reads bytes content) may r c =
+    row_taken h file bytes content s.got (got_item reads h file s o.session bytes may c)
+row_after_step reads h file o s (Meets remote) may r c =
+    row_met h file remote o.row s.got (got_item reads h file s o.session remote.0 may c)
+row_after_step reads h file o s (Unseals item) may r c = row_opened h file item o.row s.row may r
+row_after_step reads h file o s Goes may r c = tt
 
 pub row_own : (reads : List ℕ → Option Item) (h : History) (file : Option Version) (o : Own)
     (s : Standing) (x : Act)
@@ -144,7 +159,7 @@ pub row_own : (reads : List ℕ → Option Item) (h : History) (file : Option Ve
     → RowHolds h file o.row s.row → CheckHolds reads h file s o.session
     → RowHolds h (file_after s.row file x) (own_after o x).row (stands_after file s x).row
 row_own reads h file o s (Changes change) may keeps r c =
-    row_after_change reads h file o s change may r c
+    row_after_step reads h file o s (row_step change) (step_may reads o change may) r c
 row_own reads h file o s (Puts bytes true heard) may keeps r c =
     row_keeps h file (Some (version_put s.row bytes)) o.row s.row keeps r
 row_own reads h file o s (Puts bytes false heard) may keeps r c = r

@@ -13,12 +13,12 @@ use Rattle.local_store.specs.declared.content.Content.{Content}
 use Rattle.local_store.specs.declared.content.Content.TheVariants.{Plain}
 use Rattle.local_store.specs.declared.row.Row.{Row}
 use Rattle.local_store.specs.declared.tables.Tables.{Tables}
-use Rattle.law_kept.specs.Acts.{ItemChange, Saved, Removed, Uploaded, Dropped, Taken, Conflict, Moved, Gone, Opened, Changes, Elsewhere}
+use Rattle.law_kept.specs.Acts.{ItemChange, Removed, Dropped, Conflict}
 use Rattle.law_kept.specs.Own.{Row as OwnRow, Session, Own, own_changed, own_after}
 use Rattle.law_kept.specs.Own as own
-use Rattle.law_kept.specs.Telling.{if_its, number_if, change_told}
+use Rattle.law_kept.specs.Telling.{change_act, if_its}
 use Rattle.law_kept.specs.Known.{row_known, tables_known}
-use Rattle.law_kept.proofs.Ordered.{IsOrdered}
+use Rattle.local_store.proofs.Keeping.{IsOrdered}
 
 -- ---- a row more or less
 
@@ -49,32 +49,32 @@ synced_known (Some r) = refl
 -- ---- the item's own changes
 
 -- where the row alone changes
-abbrev row_set : Own → Option OwnRow → Own
+abbrev pub row_set : Own → Option OwnRow → Own
 row_set o row = record o { row = row }
 
-put_known : (t : Tables) (r : Row) (id : List ℕ) (s : Session) → r.id ≡ id
+pub put_known : (t : Tables) (r : Row) (id : List ℕ) (s : Session) → r.id ≡ id
     → tables_known id (with_row t r) s ≡ row_set (tables_known id t s) (row_known (Some r))
 put_known t r id s same =
     ap (λ (row : Option Row). row_set (tables_known id t s) (row_known row)) (with_own t r id same)
 
-put_beside : (t : Tables) (r : Row) (id : List ℕ) (s : Session) → bytes_eq r.id id ≡ false
+pub put_beside : (t : Tables) (r : Row) (id : List ℕ) (s : Session) → bytes_eq r.id id ≡ false
     → tables_known id (with_row t r) s ≡ tables_known id t s
 put_beside t r id s differ =
     ap (λ (row : Option Row). row_set (tables_known id t s) (row_known row))
     (with_other t r id differ)
 
-cut_known : (t : Tables) (id : List ℕ) (s : Session) → IsOrdered t
+pub cut_known : (t : Tables) (id : List ℕ) (s : Session) → IsOrdered t
     → tables_known id (without_row t id) s ≡ row_set (tables_known id t s) None
 cut_known t id s o =
     ap (λ (row : Option Row). row_set (tables_known id t s) (row_known row)) (without_own t id o)
 
-cut_beside : (t : Tables) (i id : List ℕ) (s : Session) → bytes_eq i id ≡ false
+pub cut_beside : (t : Tables) (i id : List ℕ) (s : Session) → bytes_eq i id ≡ false
     → tables_known id (without_row t i) s ≡ tables_known id t s
 cut_beside t i id s differ =
     ap (λ (row : Option Row). row_set (tables_known id t s) (row_known row))
     (without_other t i id differ)
 
-uploaded_known : (t : Tables) (id bytes : List ℕ) (s : Session) (row : Option Row)
+pub uploaded_known : (t : Tables) (id bytes : List ℕ) (s : Session) (row : Option Row)
     → row_at t id ≡ row
     → tables_known id (uploaded t id bytes row) s
     ≡ row_set (tables_known id t s) (own.row_sent bytes (row_known row))
@@ -82,13 +82,13 @@ uploaded_known t id bytes s None is = rw is refl
 uploaded_known t id bytes s (Some r) is = put_known t
     (record { id = id; content = r.content; base = Some bytes; pending = false }) id s refl
 
-uploaded_beside : (t : Tables) (i bytes id : List ℕ) (s : Session) (row : Option Row)
+pub uploaded_beside : (t : Tables) (i bytes id : List ℕ) (s : Session) (row : Option Row)
     → bytes_eq i id ≡ false → tables_known id (uploaded t i bytes row) s ≡ tables_known id t s
 uploaded_beside t i bytes id s None differ = refl
 uploaded_beside t i bytes id s (Some r) differ = put_beside t
     (record { id = i; content = r.content; base = Some bytes; pending = false }) id s differ
 
-opened_known : (t : Tables) (id : List ℕ) (item : Item) (s : Session) (row : Option Row)
+pub opened_known : (t : Tables) (id : List ℕ) (item : Item) (s : Session) (row : Option Row)
     → row_at t id ≡ row
     → tables_known id (opened t id item row) s
     ≡ row_set (tables_known id t s) (own.row_unsealed item (row_known row))
@@ -96,7 +96,7 @@ opened_known t id item s None is = rw is refl
 opened_known t id item s (Some r) is = put_known t
     (record { id = id; content = Plain item; base = r.base; pending = r.pending }) id s refl
 
-opened_beside : (t : Tables) (i : List ℕ) (item : Item) (id : List ℕ) (s : Session)
+pub opened_beside : (t : Tables) (i : List ℕ) (item : Item) (id : List ℕ) (s : Session)
     (row : Option Row)
     → bytes_eq i id ≡ false → tables_known id (opened t i item row) s ≡ tables_known id t s
 opened_beside t i item id s None differ = refl
@@ -119,7 +119,7 @@ remote_beside t i None id s differ = cut_beside t i id s differ
 remote_beside t i (Some remote) id s differ = put_beside t
     (record { id = i; content = remote.1; base = Some remote.0; pending = false }) id s differ
 
-conflicted_known : (t : Tables) (id : List ℕ) (remote : Option (List ℕ × Content)) (copies : Bool)
+pub conflicted_known : (t : Tables) (id : List ℕ) (remote : Option (List ℕ × Content)) (copies : Bool)
     (copied : Option ℕ) (s : Session) (row : Option Row)
     → row_at t id ≡ row → IsOrdered t
     → tables_known id (conflicted t id remote copies row) s
@@ -135,7 +135,7 @@ conflicted_known t id remote false copied s (Some r) is o =
     remote_known t id remote s
     (record { content = r.content; base = r.base; pending = r.pending }) copied o
 
-conflicted_beside : (t : Tables) (i : List ℕ) (remote : Option (List ℕ × Content)) (copies : Bool)
+pub conflicted_beside : (t : Tables) (i : List ℕ) (remote : Option (List ℕ × Content)) (copies : Bool)
     (id : List ℕ) (s : Session) (row : Option Row)
     → bytes_eq i id ≡ false
     → tables_known id (conflicted t i remote copies row) s ≡ tables_known id t s
@@ -165,7 +165,7 @@ deletions_beside t i id resource true differ =
     at-put_other deletion_id t.deletions (record { id = i; resource = resource }) id differ
 deletions_beside t i id resource false differ = refl
 
-removed_known : (t : Tables) (id : List ℕ) (s : Session) → IsOrdered t
+pub removed_known : (t : Tables) (id : List ℕ) (s : Session) → IsOrdered t
     → tables_known id (after t (tables.Removed id)) s ≡ own_changed (tables_known id t s) Removed
 removed_known t id s o =
     rw (
@@ -174,7 +174,7 @@ removed_known t id s o =
       synced_known (row_at t id),
     ) refl
 
-removed_beside : (t : Tables) (i id : List ℕ) (s : Session) → bytes_eq i id ≡ false
+pub removed_beside : (t : Tables) (i id : List ℕ) (s : Session) → bytes_eq i id ≡ false
     → tables_known id (after t (tables.Removed i)) s ≡ tables_known id t s
 removed_beside t i id s differ =
     rw (
@@ -182,72 +182,29 @@ removed_beside t i id s differ =
       deletions_beside t i id (is_resource (row_at t i)) (is_synced (row_at t i)) differ,
     ) refl
 
-dropped_known : (t : Tables) (id : List ℕ) (s : Session) → IsOrdered t
+pub dropped_known : (t : Tables) (id : List ℕ) (s : Session) → IsOrdered t
     → tables_known id (after t (tables.Dropped id)) s ≡ own_changed (tables_known id t s) Dropped
 dropped_known t id s o = rw (at-cut deletion_id t.deletions id o.deletions) refl
 
-dropped_beside : (t : Tables) (i id : List ℕ) (s : Session) → bytes_eq i id ≡ false
+pub dropped_beside : (t : Tables) (i id : List ℕ) (s : Session) → bytes_eq i id ≡ false
     → tables_known id (after t (tables.Dropped i)) s ≡ tables_known id t s
 dropped_beside t i id s differ = rw (at-cut_other deletion_id t.deletions i id differ) refl
 
--- ---- any change
+-- ---- any change of one item
 
 -- a change of the item's own row, or of another one's
-by_id : (t : Tables) (id i : List ℕ) (s : Session) (change : List ℕ → Change) (its : ItemChange)
+pub by_id : (t : Tables) (id i : List ℕ) (s : Session) (change : List ℕ → Change) (its : ItemChange)
     → tables_known id (after t (change id)) s ≡ own_changed (tables_known id t s) its
     → (bytes_eq i id ≡ false → tables_known id (after t (change i)) s ≡ tables_known id t s)
-    → tables_known id (after t (change i)) s ≡ own_after (tables_known id t s) (if_its id i its)
+    → tables_known id (after t (change i)) s
+    ≡ own_after (tables_known id t s) (change_act (if_its id i its))
 by_id t id i s change its mine other = by (bytes_eq i id) refl where
   by : (same : Bool) → bytes_eq i id ≡ same
       → tables_known id (after t (change i)) s
-      ≡ own_after (tables_known id t s) (cond same (Changes its) Elsewhere)
+      ≡ own_after (tables_known id t s) (change_act (cond same (Some its) None))
   by true is =
       subst
       (λ (k : List ℕ). tables_known id (after t (change k)) s
       ≡ own_changed (tables_known id t s) its)
       (sym (same_text i id is)) mine
   by false differ = other differ
-
-pub change_known : (t : Tables) (id : List ℕ) (next : ℕ) (s : Session) (c : Change) → IsOrdered t
-    → tables_known id (after t c) s ≡ own_after (tables_known id t s) (change_told id next c)
-change_known t id next s (tables.Saved i item) o =
-    by_id t id i s (λ k. tables.Saved k item) (Saved item)
-    (put_known t
-    (record { id = id; content = Plain item; base = base_of (row_at t id); pending = true }) id s
-    refl
-    ∙ rw (base_known (row_at t id)) refl)
-    (put_beside t
-    (record { id = i; content = Plain item; base = base_of (row_at t i); pending = true }) id s)
-change_known t id next s (tables.Removed i) o =
-    by_id t id i s (λ k. tables.Removed k) Removed (removed_known t id s o)
-    (removed_beside t i id s)
-change_known t id next s (tables.Uploaded i bytes) o =
-    by_id t id i s (λ k. tables.Uploaded k bytes) (Uploaded bytes)
-    (uploaded_known t id bytes s (row_at t id) refl)
-    (uploaded_beside t i bytes id s (row_at t i))
-change_known t id next s (tables.Dropped i) o =
-    by_id t id i s (λ k. tables.Dropped k) Dropped (dropped_known t id s o)
-    (dropped_beside t i id s)
-change_known t id next s (tables.Taken i bytes content) o =
-    by_id t id i s (λ k. tables.Taken k bytes content) (Taken bytes content)
-    (put_known t (record { id = id; content = content; base = Some bytes; pending = false }) id s
-    refl)
-    (put_beside t (record { id = i; content = content; base = Some bytes; pending = false }) id s)
-change_known t id next s (tables.Conflict i remote copies) o =
-    by_id t id i s (λ k. tables.Conflict k remote copies) (Conflict remote (number_if copies next))
-    (conflicted_known t id remote copies (number_if copies next) s (row_at t id) refl o)
-    (conflicted_beside t i remote copies id s (row_at t i))
-change_known t id next s (tables.Moved i) o =
-    by_id t id i s (λ k. tables.Moved k) (Moved next)
-    (conflicted_known t id None true None s (row_at t id) refl o)
-    (conflicted_beside t i None true id s (row_at t i))
-change_known t id next s (tables.Gone i) o =
-    by_id t id i s (λ k. tables.Gone k) Gone (cut_known t id s o) (cut_beside t i id s)
-change_known t id next s (tables.Opened i item) o =
-    by_id t id i s (λ k. tables.Opened k item) (Opened item)
-    (opened_known t id item s (row_at t id) refl)
-    (opened_beside t i item id s (row_at t i))
-change_known t id next s (tables.Cleared number) o = refl
-change_known t id next s (tables.Named client) o = refl
-change_known t id next s (tables.InfoIs info) o = refl
-change_known t id next s (tables.ContextIs context) o = refl

@@ -1,10 +1,8 @@
 -- What is seen of a client after a step says what it knows of an item then.
-use Rattle.std.proofs.Common.{◌≡◌, ◌∙◌, refl, ap, sym, cond, ℕ, List, [], ◌∷◌, Bool, true, false, Option, Some, None}
+use Rattle.std.proofs.Common.{◌≡◌, ◌∙◌, refl, ap, cond, ℕ, List, [], ◌∷◌, Bool, true, false, Option, Some, None}
 use Rattle.std.specs.Prelude.{bytes_eq}
 use Rattle.std.proofs.lemmas.Bool.{false≢true}
 use Rattle.jop_base.specs.Keyed.{at}
-use Rattle.jop_base.specs.declared.path.Path.{Path}
-use Rattle.jop_base.specs.declared.path.Path.TheVariants.{Item}
 use Rattle.jop_target.specs.History as target
 use Rattle.jop_target.specs.declared.call.Call.{Call}
 use Rattle.jop_target.specs.declared.call.Call.TheVariants.{List as ListDir, Get, Put, Delete, MakeDir, GetBlob, PutBlob}
@@ -13,12 +11,12 @@ use Rattle.jop_target.specs.declared.reply.Reply.TheVariants.{Failed}
 use Rattle.local_store.specs.Changing.{after}
 use Rattle.local_store.specs.Tale.{TaleStep}
 use Rattle.local_store.specs.declared.change.Change.{Change}
-use Rattle.local_store.specs.declared.change.Change.TheVariants.{Named, Saved, Removed, Uploaded, Dropped, Taken, Conflict, Moved, Gone, Opened, Cleared, InfoIs, ContextIs}
+use Rattle.local_store.specs.declared.change.Change.TheVariants.{ContextIs}
 use Rattle.local_store.specs.declared.tables.Tables.{Tables}
 use Rattle.law_licences.specs.Checks.{is_file_of, is_on, last_on}
 use Rattle.law_licences.specs.Deeds.{Deed, Begins, Asks, Makes, MakesUntold, Ends, Stops, deed_by, deeds_in}
 use Rattle.law_licences.specs.Licences.{MayMakeAt, MayMake, MayDo, Each, ObeysData}
-use Rattle.law_licences.specs.Views.{Heard, View, Stage, Outside, Working, Finished, is_lock_file, is_about_locks, with_call, heard, seen, stage_after, view_from}
+use Rattle.law_licences.specs.Views.{Heard, View, Stage, Outside, Working, Finished, heard, seen, stage_after, view_from}
 use Rattle.law_licences.specs.Views as views
 use Rattle.law_kept.specs.Acts.{Act, Gets, Puts, Deletes, Elsewhere}
 use Rattle.law_kept.specs.Acts as acts
@@ -26,41 +24,11 @@ use Rattle.law_kept.specs.Own.{Check, Own, new_own, session_checked, own_after, 
 use Rattle.law_kept.specs.Telling.{answer_told, was_done, called, change_told, act_of, steps_told, tables_after}
 use Rattle.law_kept.specs.FairTables.{new_view}
 use Rattle.law_kept.specs.Known.{check_by, check_known, session_known, tables_known, known}
-use Rattle.law_kept.proofs.Ordered.{IsOrdered, ordered_after}
-use Rattle.law_kept.proofs.Rows.{change_known}
+use Rattle.local_store.proofs.Keeping.{IsOrdered, ordered_after}
+use Rattle.law_kept.proofs.Calls.{last_heard}
+use Rattle.law_kept.proofs.EachChange.{change_known}
 
 -- ---- calls
-
-no_lock : (id : List ℕ) (path : Path) → is_lock_file path ≡ true → is_file_of id path ≡ false
-no_lock id (Item other) is = absurd (false≢true is)
-no_lock id path is = refl
-
--- a call about locks is on no item's file
-locks_apart : (id : List ℕ) (call : Call) → is_about_locks call ≡ true → is_on id call ≡ false
-locks_apart id (Get path) is = no_lock id path is
-locks_apart id (Put path content) is = no_lock id path is
-locks_apart id (Delete path) is = no_lock id path is
-locks_apart id (ListDir dir) is = refl
-locks_apart id (MakeDir dir) is = refl
-locks_apart id (GetBlob other) is = refl
-locks_apart id (PutBlob other len) is = refl
-
-last_if : (id : List ℕ) (h : Heard) (calls : List Heard) (lock on : Bool)
-    → is_on id h.call ≡ on → (lock ≡ true → on ≡ false)
-    → last_on id (cond lock calls (h ∷ calls)) ≡ cond on (Some h) (last_on id calls)
-unfolding last_on
-last_if id h calls true true is apart = absurd (false≢true (sym (apart refl)))
-last_if id h calls true false is apart = refl
-last_if id h calls false on is apart =
-    ap (λ (b : Bool). cond b (Some h) (last_on id calls)) is
-
--- the last call on the file is the one that was made, if it is on it
-pub last_heard : (id : List ℕ) (call : Call) (reply : Option Reply) (calls : List Heard)
-    → last_on id (with_call call reply calls)
-    ≡ cond (is_on id call) (Some (record { call = call; reply = reply })) (last_on id calls)
-last_heard id call reply calls =
-    last_if id (record { call = call; reply = reply }) calls (is_about_locks call) (is_on id call)
-    refl (locks_apart id call)
 
 session_next : (stage : Stage) (old new : Check)
     → session_known stage new ≡ session_checked (session_known stage old) new
@@ -143,18 +111,7 @@ session_after : (stage : Stage) (v : View) (c : Change) (check : Check) → MayM
 session_after Outside v (ContextIs context) check may = absurd may
 session_after Working v (ContextIs context) check may = refl
 session_after Finished v (ContextIs context) check may = refl
-session_after stage v (Named client) check may = refl
-session_after stage v (Saved id item) check may = refl
-session_after stage v (Removed id) check may = refl
-session_after stage v (Uploaded id bytes) check may = refl
-session_after stage v (Dropped id) check may = refl
-session_after stage v (Taken id bytes content) check may = refl
-session_after stage v (Conflict id remote copies) check may = refl
-session_after stage v (Moved id) check may = refl
-session_after stage v (Gone id) check may = refl
-session_after stage v (Opened id item) check may = refl
-session_after stage v (Cleared number) check may = refl
-session_after stage v (InfoIs info) check may = refl
+session_after stage v c check may = refl
 
 known_changed : (id : List ℕ) (next : ℕ) (v : View) (c : Change) → IsOrdered v.tables
     → MayMake v c → known id (views.changed v c) ≡ own_after (known id v) (change_told id next c)

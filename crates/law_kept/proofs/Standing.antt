@@ -28,7 +28,7 @@ use Rattle.law_kept.specs.Standing as stand
 use Rattle.law_kept.specs.Telling.{answer_told, called, act_of, step_of, steps_told, tables_told, tables_after}
 use Rattle.law_kept.specs.Known.{check_by}
 use Rattle.law_kept.proofs.TrueCalls.{FileIsTrue, GotIsTrue, IsTrue, get_got, true_called, file_called}
-use Rattle.law_kept.proofs.TrueChanges.{true_changed, file_changed}
+use Rattle.law_kept.proofs.EachChange.{true_changed, file_changed}
 
 -- ---- a step of the client
 

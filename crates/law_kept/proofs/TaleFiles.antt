@@ -1,6 +1,6 @@
 -- An honest store is honest about each item, and what it holds of the item is what the item's history says.
 use Rattle.std.proofs.Common.{◌≡◌, ◌∙◌, refl, sym, ap, subst, cond, ℕ, zero, suc, List, [], ◌∷◌, length, Bool, true, false, Option, Some, None, nat_lt}
-use Rattle.std.specs.Prelude.{take, bytes_eq, option_map}
+use Rattle.std.specs.Prelude.{take, option_map}
 use Rattle.std.proofs.lemmas.Bool.{and_from}
 use Rattle.jop_base.proofs.KeyedLaws.{bytes_eq-refl}
 use Rattle.jop_base.specs.Id.{IsIdText}
@@ -20,15 +20,14 @@ use Rattle.jop_target.specs.declared.tree.Tree.{Tree}
 use Rattle.local_store.specs.Tables.{new_tables}
 use Rattle.local_store.specs.Tale.{Tale, TaleStep, plain_steps}
 use Rattle.local_store.specs.declared.change.Change.{Change}
-use Rattle.local_store.specs.declared.change.Change.TheVariants as tables
 use Rattle.local_store.specs.declared.tables.Tables.{Tables}
-use Rattle.law_kept.specs.Acts.{ItemChange, Saved, Removed, Uploaded, Dropped, Taken, Conflict, Moved, Gone, Opened, Act, Gets, Puts, Deletes, Changes, Elsewhere, Step}
+use Rattle.law_kept.specs.Acts.{ItemChange, Act, Gets, Puts, Deletes, Elsewhere, Step}
 use Rattle.law_kept.specs.Fair.{StandsAsRead, file_bytes, IsFair}
 use Rattle.law_kept.specs.Honest.{bytes_after, is_honest, is_honest_from}
 use Rattle.law_licences.specs.Items.{item_of_file}
 use Rattle.law_kept.specs.Standing.{World, opening_world, happened, world_from}
 use Rattle.law_licences.specs.Checks.{is_file_of}
-use Rattle.law_kept.specs.Telling.{content_bytes, bytes_at, opening_version, answer_told, was_done, called, if_its, number_if, change_told, act_of, step_of, tables_after, steps_told, history_of, IsFairFor, IsTreesFile}
+use Rattle.law_kept.specs.Telling.{content_bytes, bytes_at, opening_version, answer_told, was_done, called, change_act, item_change, change_told, act_of, step_of, tables_after, steps_told, history_of, IsFairFor, IsTreesFile}
 use Rattle.law_kept.proofs.Places.{file_bytes-file_after}
 use Rattle.law_kept.proofs.TreeFiles.{file_at-its, effect, bytes_after_call, sorted_after}
 
@@ -124,29 +123,12 @@ honest_called id tree moment (PutBlob b len) reply landed honest = refl
 abbrev pub IsQuiet : Act → Type 0
 IsQuiet act = (file : Option (List ℕ)) → (bytes_after file act ≡ file) × (is_honest file act ≡ true)
 
-quiet_if : (id other : List ℕ) (change : ItemChange) → IsQuiet (if_its id other change)
-quiet_if id other change file = by (bytes_eq other id) where
-  by : (its : Bool)
-      → (bytes_after file (cond its (Changes change) Elsewhere) ≡ file)
-      × (is_honest file (cond its (Changes change) Elsewhere) ≡ true)
-  by true = (refl, refl)
-  by false = (refl, refl)
+quiet_act : (change : Option ItemChange) → IsQuiet (change_act change)
+quiet_act None = λ file. (refl, refl)
+quiet_act (Some change) = λ file. (refl, refl)
 
 quiet_change : (id : List ℕ) (next : ℕ) (change : Change) → IsQuiet (change_told id next change)
-quiet_change id next (tables.Saved other item) = quiet_if id other (Saved item)
-quiet_change id next (tables.Removed other) = quiet_if id other Removed
-quiet_change id next (tables.Uploaded other bytes) = quiet_if id other (Uploaded bytes)
-quiet_change id next (tables.Dropped other) = quiet_if id other Dropped
-quiet_change id next (tables.Taken other bytes content) = quiet_if id other (Taken bytes content)
-quiet_change id next (tables.Conflict other remote copies) =
-    quiet_if id other (Conflict remote (number_if copies next))
-quiet_change id next (tables.Moved other) = quiet_if id other (Moved next)
-quiet_change id next (tables.Gone other) = quiet_if id other Gone
-quiet_change id next (tables.Opened other item) = quiet_if id other (Opened item)
-quiet_change id next (tables.Cleared number) = λ file. (refl, refl)
-quiet_change id next (tables.Named client) = λ file. (refl, refl)
-quiet_change id next (tables.InfoIs info) = λ file. (refl, refl)
-quiet_change id next (tables.ContextIs context) = λ file. (refl, refl)
+quiet_change id next change = quiet_act (item_change id next change)
 
 -- ---- a step
 

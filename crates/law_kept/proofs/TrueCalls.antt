@@ -27,8 +27,7 @@ use Rattle.law_kept.specs.Standing as stand
 use Rattle.law_kept.specs.Telling.{answer_told, was_done, called}
 use Rattle.law_kept.specs.Holding.{RowIsTrue, copies_of}
 use Rattle.law_kept.specs.Known.{check_by, check_known}
-use Rattle.law_kept.proofs.Licensed.{its_path}
-use Rattle.law_kept.proofs.Seeing.{last_heard}
+use Rattle.law_kept.proofs.Calls.{its_path, last_heard}
 use Rattle.law_kept.proofs.Texts.{ReadsTo, written_reads, valid_content}
 
 -- ---- the words

@@ -1,5 +1,5 @@
 -- A history of one item: what all clients do about it, in order.
-use Rattle.std.specs.Prelude.{ℕ, List, Bool, Option}
+use Rattle.std.specs.Prelude.{ℕ, List, Bool, true, false, Option, Some, None}
 use Rattle.item_text.specs.declared.item.Item.{Item}
 use Rattle.local_store.specs.declared.content.Content.{Content}
 
@@ -16,6 +16,39 @@ pub data ItemChange : Type 0 where
   Gone : ItemChange
   Opened : (item : Item) → ItemChange
   Cleared : (number : ℕ) → ItemChange
+
+-- what becomes of the item's row
+pub data RowStep : Type 0 where
+  Stays : RowStep
+  -- it holds what the user saved
+  Saves : (item : Item) → RowStep
+  -- its file holds these bytes by its own put
+  Sends : (bytes : List ℕ) → RowStep
+  -- it is what was read, also where there was none
+  Reads : (bytes : List ℕ) (content : Content) → RowStep
+  -- it is what was read, if there was one
+  Meets : (remote : List ℕ × Content) → RowStep
+  Unseals : (item : Item) → RowStep
+  Goes : RowStep
+
+abbrev pub row_step : ItemChange → RowStep
+row_step (Saved item) = Saves item
+row_step Removed = Goes
+row_step (Uploaded bytes) = Sends bytes
+row_step Dropped = Stays
+row_step (Taken bytes content) = Reads bytes content
+row_step (Conflict (Some remote) copied) = Meets remote
+row_step (Conflict None copied) = Goes
+row_step (Moved number) = Goes
+row_step Gone = Goes
+row_step (Opened item) = Unseals item
+row_step (Cleared number) = Stays
+
+-- whether the user makes it, and so lets go what the row held
+abbrev pub is_users : ItemChange → Bool
+is_users (Saved item) = true
+is_users Removed = true
+is_users change = false
 
 -- what a client hears when it gets the item's file
 pub data Answer : Type 0 where

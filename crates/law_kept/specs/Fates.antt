@@ -2,7 +2,7 @@
 use Rattle.std.specs.Prelude.{◌≡◌, ◌⊎◌, ℕ, List, [], ◌∷◌, Bool, true, Some, None, slice_get}
 use Rattle.item_text.specs.declared.item.Item.{Item}
 use Rattle.local_store.specs.declared.content.Content.{Content}
-use Rattle.law_kept.specs.Acts.{Saved, Removed, Conflict, Cleared as Clears, Act, Puts, Deletes, Changes, Step, Version, History}
+use Rattle.law_kept.specs.Acts.{Saved, Conflict, Cleared as Clears, is_users, Act, Puts, Deletes, Changes, Step, Version, History}
 use Rattle.law_licences.specs.Copies.{is_same_note}
 use Rattle.law_licences.specs.Items.{is_note}
 use Rattle.law_kept.specs.Own.{Row, row_base}
@@ -37,8 +37,7 @@ pub record CopyStands (w : World) (client : List ℕ) (item : Item) : Type 0 whe
 
 -- the user saves or removes
 abbrev pub IsUsers : Act → Type 0
-IsUsers (Changes (Saved item)) = Unit {0}
-IsUsers (Changes Removed) = Unit {0}
+IsUsers (Changes change) = is_users change ≡ true
 IsUsers act = ⊥
 
 -- a client whose row stood for it saved over it, or removed it

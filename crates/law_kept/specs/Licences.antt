@@ -3,7 +3,7 @@ use Rattle.std.specs.Prelude.{ℕ, List, [], ◌∷◌, Bool, true, false, not, 
 use Rattle.item_text.specs.declared.item.Item.{Item}
 use Rattle.local_store.specs.declared.content.Content.{Content}
 use Rattle.local_store.specs.declared.content.Content.TheVariants.{Plain, Sealed}
-use Rattle.law_kept.specs.Acts.{ItemChange, Saved, Removed, Uploaded, Dropped, Taken, Conflict, Moved, Gone, Opened, Cleared, Act, Begins, Gets, Puts, Deletes, Changes, Ends, Elsewhere}
+use Rattle.law_kept.specs.Acts.{ItemChange, Saved, Uploaded, Taken, Conflict, Gone, Opened, Act, Begins, Gets, Puts, Deletes, Changes, Ends, Elsewhere}
 use Rattle.law_licences.specs.Copies.{must_copy}
 use Rattle.law_licences.specs.Items.{is_plain_note, is_text}
 use Rattle.law_kept.specs.Own.{Row, Read, ReadNothing, Wrote, Session, Out, In, Own, row_base, own_after}
@@ -69,21 +69,18 @@ is_outside (In check) = false
 abbrev pub has_read_item : (List ℕ → Option Item) → Session → List ℕ → Bool
 has_read_item reads session bytes = has_read session bytes && is_some (reads bytes)
 
--- whether a client may make the change
+-- whether a client may make the change; of the others nothing is asked
 abbrev pub may_change : (List ℕ → Option Item) → Own → ItemChange → Bool
 may_change reads o (Saved item) = is_outside o.session
-may_change reads o Removed = true
 may_change reads o (Uploaded bytes) = has_written o.session bytes
-may_change reads o Dropped = true
 may_change reads o (Taken bytes content) = is_idle o.row && has_read_item reads o.session bytes
 may_change reads o (Conflict (Some remote) copied) =
     is_waiting o.row
     && (has_read_item reads o.session remote.0 && is_copied_from o.row remote.1 copied)
 may_change reads o (Conflict None copied) = is_waiting o.row && is_copied o.row copied
-may_change reads o (Moved number) = true
 may_change reads o Gone = is_idle o.row
 may_change reads o (Opened item) = is_sealed_row o.row
-may_change reads o (Cleared number) = true
+may_change reads o change = true
 
 -- whether a client may do so
 abbrev pub may_act : (List ℕ → Option Item) → Own → Act → Bool

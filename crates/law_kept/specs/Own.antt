@@ -3,7 +3,7 @@ use Rattle.std.specs.Prelude.{ℕ, List, [], ◌∷◌, Bool, true, false, bytes
 use Rattle.item_text.specs.declared.item.Item.{Item}
 use Rattle.local_store.specs.declared.content.Content.{Content}
 use Rattle.local_store.specs.declared.content.Content.TheVariants.{Plain}
-use Rattle.law_kept.specs.Acts.{ItemChange, Saved, Removed, Uploaded, Dropped, Taken, Conflict, Moved, Gone, Opened, Cleared, Answer, Shown, Missing, Unknown, Act, Begins, Gets, Puts, Deletes, Changes, Ends, Elsewhere, Step}
+use Rattle.law_kept.specs.Acts.{ItemChange, Removed, Dropped, RowStep, Stays, Saves, Sends, Reads, Meets, Unseals, Goes, row_step, Answer, Shown, Missing, Unknown, Act, Begins, Gets, Puts, Deletes, Changes, Ends, Elsewhere, Step}
 
 -- the row of its tables
 pub record Row : Type 0 where
@@ -66,19 +66,18 @@ abbrev pub row_unsealed : Item → Option Row → Option Row
 row_unsealed item None = None
 row_unsealed item (Some row) = Some (record row { content = Plain item })
 
+abbrev pub row_stepped : Option Row → RowStep → Option Row
+row_stepped row Stays = row
+row_stepped row (Saves item) = row_saved item row
+row_stepped row (Sends bytes) = row_sent bytes row
+row_stepped row (Reads bytes content) = row_read bytes content
+row_stepped row (Meets remote) = met remote row
+row_stepped row (Unseals item) = row_unsealed item row
+row_stepped row Goes = None
+
 -- the row after a change
 abbrev pub row_changed : Option Row → ItemChange → Option Row
-row_changed row (Saved item) = row_saved item row
-row_changed row Removed = None
-row_changed row (Uploaded bytes) = row_sent bytes row
-row_changed row Dropped = row
-row_changed row (Taken bytes content) = row_read bytes content
-row_changed row (Conflict (Some remote) copied) = met remote row
-row_changed row (Conflict None copied) = None
-row_changed row (Moved number) = None
-row_changed row Gone = None
-row_changed row (Opened item) = row_unsealed item row
-row_changed row (Cleared number) = row
+row_changed row change = row_stepped row (row_step change)
 
 -- whether the item stands in the deletions then
 abbrev pub deleted_changed : Option Row → Bool → ItemChange → Bool

@@ -1,7 +1,7 @@
 -- Which item each row, each conflict note and the file stand for, as one sees it who sees all clients and the store.
 use Rattle.std.specs.Prelude.{ℕ, List, [], ◌∷◌, ◌==◌, Bool, true, false, bytes_eq, if◌then◌else◌, take, Option, Some, None}
 use Rattle.item_text.specs.declared.item.Item.{Item}
-use Rattle.law_kept.specs.Acts.{ItemChange, Saved, Removed, Uploaded, Dropped, Taken, Conflict, Moved, Gone, Opened, Cleared, Act, Begins, Gets, Puts, Deletes, Changes, Step, Version, History}
+use Rattle.law_kept.specs.Acts.{ItemChange, Conflict, Moved, Cleared, RowStep, Stays, Saves, Sends, Reads, Meets, Unseals, Goes, row_step, Act, Begins, Gets, Puts, Deletes, Changes, Step, Version, History}
 use Rattle.law_kept.specs.Own.{Own, new_own, own_after}
 
 -- a conflict note of the item, and the item that it stands for
@@ -69,19 +69,19 @@ without_number number (copy ∷ copies) =
     if copy.number == number then without_number number copies
     else copy ∷ without_number number copies
 
--- what the row stands for after a change; a row that was taken stands for the file that was got
+-- what the row stands for then; a row that is what was read stands for the file that was got
+abbrev pub stood_stepped : Standing → RowStep → Option Item
+stood_stepped s Stays = s.row
+stood_stepped s (Saves item) = Some item
+stood_stepped s (Sends bytes) = s.row
+stood_stepped s (Reads bytes content) = s.got
+stood_stepped s (Meets remote) = s.got
+stood_stepped s (Unseals item) = s.row
+stood_stepped s Goes = None
+
+-- and after a change
 abbrev pub stood_changed : Standing → ItemChange → Option Item
-stood_changed s (Saved item) = Some item
-stood_changed s Removed = None
-stood_changed s (Uploaded bytes) = s.row
-stood_changed s Dropped = s.row
-stood_changed s (Taken bytes content) = s.got
-stood_changed s (Conflict (Some remote) copied) = s.got
-stood_changed s (Conflict None copied) = None
-stood_changed s (Moved number) = None
-stood_changed s Gone = None
-stood_changed s (Opened item) = s.row
-stood_changed s (Cleared number) = s.row
+stood_changed s change = stood_stepped s (row_step change)
 
 abbrev pub copies_changed : Standing → ItemChange → List Copy
 copies_changed s (Conflict remote copied) = copies_noted_if copied s.row s.copies

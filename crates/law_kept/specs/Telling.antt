@@ -62,29 +62,36 @@ called id call reply landed = Elsewhere
 
 -- ---- changes
 
-abbrev pub if_its : List ℕ → List ℕ → ItemChange → Act
-if_its id other change = if bytes_eq other id then Changes change else Elsewhere
+-- what the client does about the item by a change of it, or by one that isn't
+abbrev pub change_act : Option ItemChange → Act
+change_act None = Elsewhere
+change_act (Some change) = Changes change
+
+abbrev pub if_its : List ℕ → List ℕ → ItemChange → Option ItemChange
+if_its id other change = if bytes_eq other id then Some change else None
 
 -- the number of the conflict note, if there is to be one
 abbrev pub number_if : Bool → ℕ → Option ℕ
 number_if copies number = if copies then Some number else None
 
--- a change of a client's tables, where the next conflict note has this number
-abbrev pub change_told : List ℕ → ℕ → Change → Act
-change_told id next (tables.Saved other item) = if_its id other (Saved item)
-change_told id next (tables.Removed other) = if_its id other Removed
-change_told id next (tables.Uploaded other bytes) = if_its id other (Uploaded bytes)
-change_told id next (tables.Dropped other) = if_its id other Dropped
-change_told id next (tables.Taken other bytes content) = if_its id other (Taken bytes content)
-change_told id next (tables.Conflict other remote copies) =
+-- what a change of a client's tables is for the item, where the next conflict note has this number; the others aren't
+-- about an item
+abbrev pub item_change : List ℕ → ℕ → Change → Option ItemChange
+item_change id next (tables.Saved other item) = if_its id other (Saved item)
+item_change id next (tables.Removed other) = if_its id other Removed
+item_change id next (tables.Uploaded other bytes) = if_its id other (Uploaded bytes)
+item_change id next (tables.Dropped other) = if_its id other Dropped
+item_change id next (tables.Taken other bytes content) = if_its id other (Taken bytes content)
+item_change id next (tables.Conflict other remote copies) =
     if_its id other (Conflict remote (number_if copies next))
-change_told id next (tables.Moved other) = if_its id other (Moved next)
-change_told id next (tables.Gone other) = if_its id other Gone
-change_told id next (tables.Opened other item) = if_its id other (Opened item)
-change_told id next (tables.Cleared number) = Changes (Cleared number)
-change_told id next (tables.Named client) = Elsewhere
-change_told id next (tables.InfoIs info) = Elsewhere
-change_told id next (tables.ContextIs context) = Elsewhere
+item_change id next (tables.Moved other) = if_its id other (Moved next)
+item_change id next (tables.Gone other) = if_its id other Gone
+item_change id next (tables.Opened other item) = if_its id other (Opened item)
+item_change id next (tables.Cleared number) = Some (Cleared number)
+item_change id next change = None
+
+abbrev pub change_told : List ℕ → ℕ → Change → Act
+change_told id next change = change_act (item_change id next change)
 
 -- ---- steps
 

@@ -1,4 +1,5 @@
 pub mod Joins
+pub mod EachChange
 pub mod Settled
 pub mod Settling
 pub mod Told

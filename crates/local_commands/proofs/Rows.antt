@@ -11,7 +11,7 @@ use Rattle.law_licences.specs.Views.{View, at_rest, changed}
 use Rattle.local_changes.specs.Tagging.{is_tag_of, link_changes, tag_changes, tag_id, tagged}
 use Rattle.local_store.specs.Changing.{after}
 use Rattle.local_store.specs.declared.change.Change.{Change}
-use Rattle.local_store.specs.declared.change.Change.TheVariants.{Cleared, InfoIs, Named, Removed, Saved}
+use Rattle.local_store.specs.declared.change.Change.TheVariants.{ContextIs}
 use Rattle.local_store.specs.declared.row.Row.{Row}
 use Rattle.local_store.specs.declared.tables.Tables.{Tables}
 use Rattle.local_commands.specs.Commands.Tag.{all_made}
@@ -140,12 +140,8 @@ follows_changes command old new answer runs none =
 -- a user's change leaves a client in no session
 local_rest : (t : Tables) (change : Change) → IsLocal change
     → changed (at_rest t) change ≡ at_rest (after t change)
-local_rest t (Named client) local = refl
-local_rest t (Saved id item) local = refl
-local_rest t (Removed id) local = refl
-local_rest t (Cleared number) local = refl
-local_rest t (InfoIs info) local = refl
-local_rest t change local = absurd local
+local_rest t (ContextIs context) local = absurd local
+local_rest t change local = refl
 
 licensed : (saves : Bool) (n : ℕ) (t : Tables) (acts : List Act) → AreLocal saves acts
     → ObeysData (at_rest t) (deeds_of (trail_of n (changes_among acts)) (changes_among acts))

@@ -1,4 +1,4 @@
--- Sound tables stay sound.
+-- Sound tables stay sound, and those in order stay in order, whatever is changed.
 use Rattle.std.specs.Prelude.{ℕ, List, [], Bool, true, false, not, nat_eq, if◌then◌else◌, Option, Some, None, Result, Ok, Err, OnOk, OnErr, refl, ◌≡◌}
 use Rattle.std.specs.declared.alloc.AllocError.{AllocError}
 use Rattle.std.proofs.Common.{sym, subst, arith}
@@ -9,7 +9,7 @@ use Rattle.item_text.specs.declared.item.Item.{Item}
 use Rattle.item_text.specs.Valid.{IsItem}
 use Rattle.sync_info.proofs.KeptLemmas.{IsInfo-new_info}
 use Rattle.local_store.specs.declared.change.Change.{Change}
-use Rattle.local_store.specs.declared.change.Change.TheVariants.{Named, Saved, Removed, Uploaded, Dropped, Taken, Conflict, Moved, Gone, Opened, Cleared, InfoIs, ContextIs}
+use Rattle.local_store.specs.declared.change.Change.TheVariants.{Saved, Removed, Uploaded, Dropped, Taken, Conflict, Moved, Gone, Opened, Cleared, InfoIs}
 use Rattle.local_store.specs.declared.content.Content.{Content}
 use Rattle.local_store.specs.declared.content.Content.TheVariants.{Plain, Sealed}
 use Rattle.local_store.specs.declared.deletion.Deletion.{Deletion}
@@ -18,7 +18,88 @@ use Rattle.local_store.specs.declared.tables.Tables.{Tables}
 use Rattle.local_store.specs.Changing.{after, with_row, without_row, uploaded, noted, noted_if, with_remote, conflicted, opened}
 use Rattle.local_store.specs.Rows.{row_id, deletion_id, item_of}
 use Rattle.local_store.specs.Sound.{IsContentOf, MayBePending, IsSoundRow, IsSoundNote, IsRemoteOf, IsSound, IsAllowed}
-use Rattle.local_store.specs.Tables.{new_tables, row_at, is_synced, is_resource}
+use Rattle.local_store.specs.Tables.{new_tables, row_at, base_of, is_synced, is_resource}
+
+-- ---- order
+
+-- rows and deletions stand in the order of their ids, each id once
+pub record IsOrdered (t : Tables) : Type 0 where
+  pub rows : IsSorted row_id t.rows
+  pub deletions : IsSorted deletion_id t.deletions
+
+pub ordered_new : IsOrdered new_tables
+ordered_new = record { rows = tt; deletions = tt }
+
+ordered_with : (t : Tables) (r : Row) → IsOrdered t → IsOrdered (with_row t r)
+ordered_with t r o =
+    record { rows = IsSorted-put row_id t.rows r o.rows; deletions = o.deletions }
+
+ordered_without : (t : Tables) (id : List ℕ) → IsOrdered t → IsOrdered (without_row t id)
+ordered_without t id o =
+    record { rows = IsSorted-cut row_id t.rows id o.rows; deletions = o.deletions }
+
+deletions-ordered : (synced : Bool) (ds : List Deletion) (d : Deletion) → IsSorted deletion_id ds
+    → IsSorted deletion_id (if synced then put deletion_id ds d else ds)
+deletions-ordered true ds d ordered = IsSorted-put deletion_id ds d ordered
+deletions-ordered false ds d ordered = ordered
+
+ordered_uploaded : (t : Tables) (id bytes : List ℕ) (row : Option Row) → IsOrdered t
+    → IsOrdered (uploaded t id bytes row)
+ordered_uploaded t id bytes None o = o
+ordered_uploaded t id bytes (Some r) o = ordered_with t
+    (record { id = id; content = r.content; base = Some bytes; pending = false }) o
+
+ordered_opened : (t : Tables) (id : List ℕ) (item : Item) (row : Option Row) → IsOrdered t
+    → IsOrdered (opened t id item row)
+ordered_opened t id item None o = o
+ordered_opened t id item (Some r) o = ordered_with t
+    (record { id = id; content = Plain item; base = r.base; pending = r.pending }) o
+
+-- a conflict note more leaves rows and deletions
+pub ordered_noted : (copies : Bool) (t : Tables) (id : List ℕ) (item : Item) → IsOrdered t
+    → IsOrdered (noted_if copies t id item)
+ordered_noted true t id item o = record { rows = o.rows; deletions = o.deletions }
+ordered_noted false t id item o = o
+
+ordered_remote : (t : Tables) (id : List ℕ) (remote : Option (List ℕ × Content)) → IsOrdered t
+    → IsOrdered (with_remote t id remote)
+ordered_remote t id None o = ordered_without t id o
+ordered_remote t id (Some remote) o = ordered_with t
+    (record { id = id; content = remote.1; base = Some remote.0; pending = false }) o
+
+ordered_conflicted : (t : Tables) (id : List ℕ) (remote : Option (List ℕ × Content))
+    (copies : Bool) (row : Option Row) → IsOrdered t
+    → IsOrdered (conflicted t id remote copies row)
+ordered_conflicted t id remote copies None o = o
+ordered_conflicted t id remote copies (Some r) o =
+    ordered_remote (noted_if copies t id (item_of r.content)) id remote
+    (ordered_noted copies t id (item_of r.content) o)
+
+-- a change that names neither rows nor deletions leaves both
+pub ordered_after : (t : Tables) (c : Change) → IsOrdered t → IsOrdered (after t c)
+ordered_after t (Saved id item) o = ordered_with t
+    (record { id = id; content = Plain item; base = base_of (row_at t id); pending = true }) o
+ordered_after t (Removed id) o = record {
+  rows = IsSorted-cut row_id t.rows id o.rows;
+  deletions = deletions-ordered (is_synced (row_at t id)) t.deletions
+      (record { id = id; resource = is_resource (row_at t id) }) o.deletions;
+}
+ordered_after t (Uploaded id bytes) o = ordered_uploaded t id bytes (row_at t id) o
+ordered_after t (Dropped id) o =
+    record { rows = o.rows; deletions = IsSorted-cut deletion_id t.deletions id o.deletions }
+ordered_after t (Taken id bytes content) o = ordered_with t
+    (record { id = id; content = content; base = Some bytes; pending = false }) o
+ordered_after t (Conflict id remote copies) o =
+    ordered_conflicted t id remote copies (row_at t id) o
+ordered_after t (Moved id) o = ordered_conflicted t id None true (row_at t id) o
+ordered_after t (Gone id) o = ordered_without t id o
+ordered_after t (Opened id item) o = ordered_opened t id item (row_at t id) o
+ordered_after t c o = record { rows = o.rows; deletions = o.deletions }
+
+-- sound tables are in order
+pub sound_ordered : (t : Tables) → IsSound t → IsOrdered t
+sound_ordered t sound =
+    record { rows = sound.rows_ordered; deletions = sound.deletions_ordered }
 
 -- ---- parts
 
@@ -50,11 +131,6 @@ noted-sound t id item sound valid = record {
       (All-cons IsSoundNote _ [] valid (All-nil IsSoundNote));
   info = sound.info;
 }
-
-deletions-ordered : (synced : Bool) (ds : List Deletion) (d : Deletion) → IsSorted deletion_id ds
-    → IsSorted deletion_id (if synced then put deletion_id ds d else ds)
-deletions-ordered true ds d ordered = IsSorted-put deletion_id ds d ordered
-deletions-ordered false ds d ordered = ordered
 
 -- a readable row may be pending or not, and no row that isn't is at fault
 not_pending : (content : Content) → MayBePending content false
@@ -111,25 +187,20 @@ opened-sound t id item (Some r) sound of =
 
 -- ---- all changes
 
+-- a change that names none of what is asked leaves it
 pub after_sound : (t : Tables) (change : Change) → IsSound t → IsAllowed change
     → IsSound (after t change)
-after_sound t (Named client) sound allowed = record {
-  rows_ordered = sound.rows_ordered;
-  rows = sound.rows;
-  deletions_ordered = sound.deletions_ordered;
-  conflicts = sound.conflicts;
-  info = sound.info;
-}
 after_sound t (Saved id item) sound allowed =
     with_row-sound t _ sound (record { content = allowed; pending = tt })
-after_sound t (Removed id) sound allowed = record {
-  rows_ordered = IsSorted-cut row_id t.rows id sound.rows_ordered;
-  rows = All-cut row_id IsSoundRow t.rows id sound.rows;
-  deletions_ordered = deletions-ordered (is_synced (row_at t id)) t.deletions
-      (record { id = id; resource = is_resource (row_at t id) }) sound.deletions_ordered;
-  conflicts = sound.conflicts;
-  info = sound.info;
-}
+after_sound t (Removed id) sound allowed =
+    let ordered = ordered_after t (Removed id) (sound_ordered t sound) in
+    record {
+      rows_ordered = ordered.rows;
+      rows = All-cut row_id IsSoundRow t.rows id sound.rows;
+      deletions_ordered = ordered.deletions;
+      conflicts = sound.conflicts;
+      info = sound.info;
+    }
 after_sound t (Uploaded id bytes) sound allowed =
     uploaded-sound t id bytes (row_at t id) sound refl
 after_sound t (Dropped id) sound allowed = record {
@@ -160,7 +231,7 @@ after_sound t (InfoIs info) sound allowed = record {
   conflicts = sound.conflicts;
   info = allowed;
 }
-after_sound t (ContextIs context) sound allowed = record {
+after_sound t change sound allowed = record {
   rows_ordered = sound.rows_ordered;
   rows = sound.rows;
   deletions_ordered = sound.deletions_ordered;

@@ -7,7 +7,7 @@ use Rattle.item_text.specs.Valid.{IsItem}
 use Rattle.item_text.specs.declared.item.Item.{Item}
 use Rattle.sync_info.specs.Info.{IsInfo}
 use Rattle.local_store.specs.declared.change.Change.{Change}
-use Rattle.local_store.specs.declared.change.Change.TheVariants.{Named, Saved, Removed, Uploaded, Dropped, Taken, Conflict, Moved, Gone, Opened, Cleared, InfoIs, ContextIs}
+use Rattle.local_store.specs.declared.change.Change.TheVariants.{Saved, Taken, Conflict, Opened, InfoIs}
 use Rattle.local_store.specs.declared.conflict_note.ConflictNote.{ConflictNote}
 use Rattle.local_store.specs.declared.content.Content.{Content}
 use Rattle.local_store.specs.declared.content.Content.TheVariants.{Plain, Sealed}
@@ -56,18 +56,12 @@ abbrev pub IsRemoteOf : List ℕ → Option (List ℕ × Content) → Type 0
 IsRemoteOf id None = Unit {0}
 IsRemoteOf id (Some remote) = IsContentOf id remote.1
 
--- each item in the change is valid, has the id of its row, and is sealed exactly if its pairs say so; an info is valid
+-- each item in the change is valid, has the id of its row, and is sealed exactly if its pairs say so; an info is valid;
+-- of a change that has neither nothing is asked
 abbrev pub IsAllowed : Change → Type 0
-IsAllowed (Named client) = Unit {0}
 IsAllowed (Saved id item) = IsContentOf id (Plain item)
-IsAllowed (Removed id) = Unit {0}
-IsAllowed (Uploaded id bytes) = Unit {0}
-IsAllowed (Dropped id) = Unit {0}
 IsAllowed (Taken id bytes content) = IsContentOf id content
 IsAllowed (Conflict id remote copies) = IsRemoteOf id remote
-IsAllowed (Moved id) = Unit {0}
-IsAllowed (Gone id) = Unit {0}
 IsAllowed (Opened id item) = IsContentOf id (Plain item)
-IsAllowed (Cleared number) = Unit {0}
 IsAllowed (InfoIs info) = IsInfo info
-IsAllowed (ContextIs context) = Unit {0}
+IsAllowed change = Unit {0}

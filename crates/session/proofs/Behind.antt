@@ -2,7 +2,7 @@
 use Rattle.std.specs.Prelude.{ℕ, ◌≡◌, List, [], ◌∷◌, Bool, true, if◌then◌else◌, Option, Some, None, Result, Ok, Err, OnOk}
 use Rattle.std.proofs.Common.{ap, sym, subst, ◌∙◌}
 use Rattle.conflicts.specs.declared.error.StepErr.{StepErr}
-use Rattle.conflicts.specs.declared.error.StepErr.TheVariants.{Lost, TargetFault, KeeperFault, FailSafe, NoMemory}
+use Rattle.conflicts.specs.declared.error.StepErr.TheVariants.{Lost, TargetFault, KeeperFault, Refused, NoMemory}
 use Rattle.jop_base.proofs.KeyedLaws.{bytes_eq-refl}
 use Rattle.jop_base.specs.declared.path.Path.TheVariants.{Item}
 use Rattle.jop_target.specs.declared.call.Call.{Call}
@@ -22,7 +22,7 @@ use Rattle.session.proofs.Ending.{does_as}
 use Rattle.session.proofs.Joins.{view_at}
 use Rattle.session.proofs.Seen.{view_from-but_locks}
 use Rattle.session.specs.Asking.{IsAnswer}
-use Rattle.session.specs.Doing.{Does, DoesTo, Ends, EndsAt, GivesNothing}
+use Rattle.session.specs.Doing.{Does, DoesTo, Ends, EndsAt, GivesNothing, Went}
 use Rattle.session.specs.Findings.{IsSoundFinding, finding_of}
 use Rattle.session.specs.Parts.{Changes, ForEach, Hears, Part, but_locks}
 use Rattle.session.specs.Saving.{Told}
@@ -56,13 +56,17 @@ pub ready_behind : {R : Type 0} (P : Part) (sort : Call → Bool) (a b : WorkNow
 ready_behind P sort a b (Ok value) h = h.ready
 ready_behind P sort a b (Err e) h = tt
 
+pub went_given_up : (sort : Call → Bool) (a b : WorkNow) (e : StepErr) → GivesNothing sort a e b
+    → Went sort a b
+went_given_up sort a b (Lost seen) h = h.0.went
+went_given_up sort a b TargetFault h = h.0.went
+went_given_up sort a b KeeperFault h = h.stops.went
+went_given_up sort a b (Refused why) h = absurd h
+went_given_up sort a b NoMemory h = h.went
+
 pub same_given_up : (sort : Call → Bool) (a b : WorkNow) (e : StepErr) → GivesNothing sort a e b
     → IsSameBut a.lease b.lease
-same_given_up sort a b (Lost seen) h = h.0.went.same
-same_given_up sort a b TargetFault h = h.0.went.same
-same_given_up sort a b KeeperFault h = h.stops.went.same
-same_given_up sort a b (FailSafe count) h = absurd h
-same_given_up sort a b NoMemory h = h.went.same
+same_given_up sort a b e h = (went_given_up sort a b e h).same
 
 pub lease_behind : {R : Type 0} (P : Part) (sort : Call → Bool) (a b : WorkNow)
     (result : Result R StepErr) → Ends P sort a result b → IsSameBut a.lease b.lease
@@ -71,11 +75,7 @@ lease_behind P sort a b (Err e) h = same_given_up sort a b e h
 
 pub place_given_up : (sort : Call → Bool) (a b : WorkNow) (e : StepErr) → GivesNothing sort a e b
     → b.place ≡ a.place
-place_given_up sort a b (Lost seen) h = h.0.went.place
-place_given_up sort a b TargetFault h = h.0.went.place
-place_given_up sort a b KeeperFault h = h.stops.went.place
-place_given_up sort a b (FailSafe count) h = absurd h
-place_given_up sort a b NoMemory h = h.went.place
+place_given_up sort a b e h = (went_given_up sort a b e h).place
 
 pub place_behind : {R : Type 0} (P : Part) (sort : Call → Bool) (a b : WorkNow)
     (result : Result R StepErr) → Ends P sort a result b → b.place ≡ a.place

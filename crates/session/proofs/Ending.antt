@@ -4,7 +4,7 @@ use Rattle.std.proofs.Common.{sym, subst, arith, append-nil, ◌∙◌}
 use Rattle.conflicts.specs.declared.error.StepErr.{StepErr}
 use Rattle.conflicts.specs.declared.report.SyncReport.{SyncReport}
 use Rattle.client.specs.Sites.{SiteNow}
-use Rattle.conflicts.specs.declared.error.StepErr.TheVariants.{Lost, TargetFault, KeeperFault, FailSafe, NoMemory}
+use Rattle.conflicts.specs.declared.error.StepErr.TheVariants.{Lost, TargetFault, KeeperFault, Refused, NoMemory}
 use Rattle.jop_target.proofs.Runs.{continues_same}
 use Rattle.jop_target.specs.Runs.{has_failed}
 use Rattle.jop_target.specs.declared.call.Call.{Call}
@@ -88,7 +88,7 @@ gives_up_behind P sort a b c KeeperFault h k = record {
   ready = k.ready;
   rose = let r = k.rose in let w = h.well in omega arith;
 }
-gives_up_behind P sort a b c (FailSafe count) h k = absurd k
+gives_up_behind P sort a b c (Refused why) h k = absurd k
 gives_up_behind P sort a b c NoMemory h k = starves_on P sort a b c h k
 
 -- the answer of one part and then another, by that of the second

@@ -18,3 +18,4 @@ pub mod Behind
 pub mod Recast
 pub mod Stepped
 pub mod WaitingRow
+pub mod Refusing

@@ -2,7 +2,7 @@
 use Rattle.std.specs.Prelude.{ℕ, ◌≡◌, List, Bool, Option, Some, None, Result, Ok, Err, refl}
 use Rattle.std.proofs.Common.{sym, ap, subst, ◌∙◌}
 use Rattle.conflicts.specs.declared.error.StepErr.{StepErr}
-use Rattle.conflicts.specs.declared.error.StepErr.TheVariants.{Lost, TargetFault, KeeperFault, FailSafe, NoMemory}
+use Rattle.conflicts.specs.declared.error.StepErr.TheVariants.{Lost, TargetFault, KeeperFault, Refused, NoMemory}
 use Rattle.jop_base.specs.declared.dir.Dir.TheVariants.{Root}
 use Rattle.jop_base.specs.declared.path.Path.TheVariants.{Item}
 use Rattle.jop_target.specs.declared.call.Call.{Call}
@@ -72,7 +72,7 @@ gives_up_recast sort k l p q a b KeeperFault fits stays h = record {
   ready = h.ready;
   rose = h.rose;
 }
-gives_up_recast sort k l p q a b (FailSafe count) fits stays h = absurd h
+gives_up_recast sort k l p q a b (Refused why) fits stays h = absurd h
 gives_up_recast sort k l p q a b NoMemory fits stays h = record {
   went = went_recast sort k l p q a b fits stays h.went;
   heard = h.heard;
@@ -102,7 +102,7 @@ does_recast P sort k l p q a b fits stays h sees = record {
 
 -- ---- by other references
 
-does_placed : {there : Stage} {left : List Told} (P : Part) (sort : Call → Bool)
+pub does_placed : {there : Stage} {left : List Told} (P : Part) (sort : Call → Bool)
     (p q : WorkPlace) (a b : WorkNow) → q ≡ p → DoesTo there left P sort a b
     → DoesTo there left P sort (placed p a) (placed q b)
 does_placed P sort p q a b stays h =

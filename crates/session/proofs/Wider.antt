@@ -2,7 +2,7 @@
 use Rattle.std.specs.Prelude.{ℕ, ◌≡◌, List, [], ◌∷◌, Bool, true, false, ◌&&◌, ◌||◌, not, Result, Ok, Err, refl}
 use Rattle.std.proofs.Common.{inl, inr}
 use Rattle.conflicts.specs.declared.error.StepErr.{StepErr}
-use Rattle.conflicts.specs.declared.error.StepErr.TheVariants.{Lost, TargetFault, KeeperFault, FailSafe, NoMemory}
+use Rattle.conflicts.specs.declared.error.StepErr.TheVariants.{Lost, TargetFault, KeeperFault, Refused, NoMemory}
 use Rattle.jop_target.proofs.Runs.{continues_weaker}
 use Rattle.jop_target.specs.declared.call.Call.{Call}
 use Rattle.jop_target.specs.declared.event.Event.{Event}
@@ -127,7 +127,7 @@ gives_up_within sort wide a b KeeperFault within h = record {
   ready = h.ready;
   rose = h.rose;
 }
-gives_up_within sort wide a b (FailSafe count) within h = absurd h
+gives_up_within sort wide a b (Refused why) within h = absurd h
 gives_up_within sort wide a b NoMemory within h =
     record { went = went_within sort wide a b within h.went; heard = h.heard; well = h.well }
 

@@ -1,7 +1,8 @@
 -- What a part of a session leaves, by each of its answers.
 use Rattle.std.specs.Prelude.{ℕ, ◌≤◌, ◌≡◌, List, [], ◌++◌, length, map, option_map, Bool, true, false, Option, Result, Ok, Err}
 use Rattle.conflicts.specs.declared.error.StepErr.{StepErr}
-use Rattle.conflicts.specs.declared.error.StepErr.TheVariants.{Lost, TargetFault, KeeperFault, FailSafe, NoMemory}
+use Rattle.conflicts.specs.declared.error.StepErr.TheVariants.{Lost, TargetFault, KeeperFault, Refused, NoMemory}
+use Rattle.conflicts.specs.declared.refusal.Refusal.{Refusal}
 use Rattle.client.specs.Sites.{IsTidy}
 use Rattle.jop_outside.specs.Outside.{HasRisen}
 use Rattle.jop_target.specs.Runs.{has_failed}
@@ -115,8 +116,13 @@ GivesNothing sort old (Lost seen) new = Stops sort old new × HasLostLease old.l
 GivesNothing sort old TargetFault new =
     Stops sort old new × Fails old.lease.client old.site.line new.site.line
 GivesNothing sort old KeeperFault new = KeeperFails sort old new
-GivesNothing sort old (FailSafe count) new = ⊥
+GivesNothing sort old (Refused why) new = ⊥
 GivesNothing sort old NoMemory new = Starves sort old new
+
+-- why it gave nothing, if it may be refused: it did this part then, which says why
+abbrev pub RefusesOr : (Refusal → Part) → (Call → Bool) → WorkNow → StepErr → WorkNow → Type 0
+RefusesOr Refuses sort old (Refused why) new = Does (Refuses why) sort old new
+RefusesOr Refuses sort old e new = GivesNothing sort old e new
 
 -- it was this part of a session, behind which the session stands there, or it gave nothing
 abbrev pub EndsAt : {R : Type 0} → Stage → Part → (Call → Bool) → WorkNow → Result R StepErr →

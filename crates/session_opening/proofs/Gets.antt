@@ -2,6 +2,8 @@
 use Rattle.std.specs.Prelude.{ℕ, ◌≡◌, ◌<◌, List, Option, Some, None, Result, Ok, Err, refl}
 use Rattle.std.proofs.Common.{◌∙◌, sym, ap, subst, inl, inr}
 use Rattle.conflicts.specs.declared.error.StepErr.{StepErr}
+use Rattle.conflicts.specs.declared.error.StepErr.TheVariants.{NoMemory, Refused}
+use Rattle.conflicts.specs.declared.refusal.Refusal.TheVariants.{TargetOlder, TargetNewer, BadInfo}
 use Rattle.jop_base.specs.declared.lock_name.LockKind.TheVariants.{Sync}
 use Rattle.jop_base.specs.declared.path.Path.TheVariants.{Info as InfoFile, OldVersion}
 use Rattle.jop_target.specs.Replies.{IsReplyTo}
@@ -14,12 +16,11 @@ use Rattle.law_licences.specs.Views.{View, view_from}
 use Rattle.session_opening.proofs.Going.{still_sync}
 use Rattle.session_opening.proofs.Informed.{informed}
 use Rattle.session_opening.specs.Opening.{HasRead, IsOldVersion, IsTakenInfo, ReadsBadInfo, ReadsInfo, ReadsOldFile, ReadsOldOr, ReadsOr, ReadsVersion, RefusesTarget, TellsInfo, is_reading}
-use Rattle.session_opening.specs.declared.refusal.OpenErr.{OpenErr}
-use Rattle.session_opening.specs.declared.refusal.OpenErr.TheVariants.{Older, Newer, BadInfo, Step}
 use Rattle.session.proofs.Behind.{behind}
 use Rattle.session.proofs.Ending.{does_as, does_starves, gives_up_behind}
 use Rattle.session.proofs.Joins.{does_then}
-use Rattle.session.specs.Doing.{Does, GivesNothing}
+use Rattle.session.proofs.Refusing.{not_refused}
+use Rattle.session.specs.Doing.{Does, RefusesOr}
 use Rattle.session.specs.Parts.{Hears, Then}
 use Rattle.session.specs.Sessions.{HasHeard}
 use Rattle.session.specs.Work.{WorkNow, view_of}
@@ -102,46 +103,44 @@ other_version info version a b h gives is =
 -- ---- each answer
 
 -- an info was told
-pub takes : (info : Info) (result : Result Info OpenErr) (a b : WorkNow)
+pub takes : (info : Info) (result : Result Info StepErr) (a b : WorkNow)
     → (h : HasHeard (Get InfoFile) is_reading a b) → a.lease.kind ≡ Sync → IsInfo info
     → Gives info h.reply → IsTakenInfo info result → ReadsOr a result b
 takes info (Ok same) a b h sync valid gives is =
     subst (λ (x : Info). HasRead x a b) (sym is.0) (has_read info a b h sync valid gives is.1)
-takes info (Err (Older version)) a b h sync valid gives is =
-    (is.1, other_version info version a b h gives is.0)
-takes info (Err (Newer version)) a b h sync valid gives is =
-    (is.1, other_version info version a b h gives is.0)
-takes info (Err BadInfo) a b h sync valid gives is = absurd is
-takes info (Err (Step e)) a b h sync valid gives is = absurd is
+takes info (Err (Refused (TargetOlder version))) a b h sync valid gives is =
+    does_as (ReadsVersion version) (RefusesTarget (TargetOlder version)) is_reading a b
+    (λ shown ds it. (is.1, it)) (other_version info version a b h gives is.0)
+takes info (Err (Refused (TargetNewer version))) a b h sync valid gives is =
+    does_as (ReadsVersion version) (RefusesTarget (TargetNewer version)) is_reading a b
+    (λ shown ds it. (is.1, it)) (other_version info version a b h gives is.0)
+takes info (Err e) a b h sync valid gives is = absurd is
 
 -- no info was told
-pub told_refuses : (a b : WorkNow) (answer : Reply) (e : OpenErr)
+pub told_refuses : (a b : WorkNow) (answer : Reply) (e : StepErr)
     → (h : HasHeard (Get InfoFile) is_reading a b) → answer ≡ h.reply → TellsInfo answer (Err e)
-    → RefusesTarget is_reading a e b
-told_refuses a b answer BadInfo h same tells =
-    does_as (Hears (Get InfoFile) h.reply) ReadsBadInfo is_reading a b
+    → RefusesOr RefusesTarget is_reading a e b
+told_refuses a b answer (Refused BadInfo) h same tells =
+    does_as (Hears (Get InfoFile) h.reply) (RefusesTarget BadInfo) is_reading a b
     (λ shown ds it. (h.reply, (subst IsBadReply same tells, it))) h.does
-told_refuses a b answer (Step e) h same tells =
-    subst (λ (x : StepErr). GivesNothing is_reading a x b) (sym tells) (does_starves h.does)
-told_refuses a b answer (Older version) h same tells = absurd tells
-told_refuses a b answer (Newer version) h same tells = absurd tells
+told_refuses a b answer NoMemory h same tells = does_starves h.does
+told_refuses a b answer e h same tells = absurd tells
 
 -- it was told that there is none, and the old version's file tells the version
 pub absent_refuses : (a b c : WorkNow) (answer : Reply) (version : ℕ)
     → (h : HasHeard (Get InfoFile) is_reading a b) → answer ≡ h.reply → TellsInfo answer (Ok None)
-    → ReadsOldOr b (Ok version) c → RefusesTarget is_reading a (Older version) c
+    → ReadsOldOr b (Ok version) c → Does (RefusesTarget (TargetOlder version)) is_reading a c
 absent_refuses a b c answer version h same tells k =
     let absent = Hears (Get InfoFile) (Absent tells.0) in
     let got = subst (λ (y : Reply). Does (Hears (Get InfoFile) y) is_reading a b)
-    (sym same ∙ tells.1) h.does in (
-      k.0,
-      does_as (Then absent (ReadsOldFile version)) (ReadsVersion version) is_reading a c
-          (λ shown ds read. inr (tells.0, read))
-          (does_then absent (ReadsOldFile version) is_reading a b c got k.1),
-    )
+    (sym same ∙ tells.1) h.does in
+    does_as (Then absent (ReadsOldFile version)) (RefusesTarget (TargetOlder version)) is_reading a
+    c (λ shown ds read. (k.0, inr (tells.0, read)))
+    (does_then absent (ReadsOldFile version) is_reading a b c got k.1)
 
 pub absent_stops : (a b c : WorkNow) (e : StepErr)
     → (h : HasHeard (Get InfoFile) is_reading a b) → ReadsOldOr b (Err e) c
-    → RefusesTarget is_reading a (Step e) c
+    → RefusesOr RefusesTarget is_reading a e c
 absent_stops a b c e h k =
-    gives_up_behind (Hears (Get InfoFile) h.reply) is_reading a b c e h.does k
+    not_refused RefusesTarget is_reading a c e
+    (gives_up_behind (Hears (Get InfoFile) h.reply) is_reading a b c e h.does k)

@@ -12,12 +12,11 @@ use Rattle.session_opening.proofs.Going.{still_sync, went_ends}
 use Rattle.session_opening.proofs.Merging.{merges_none, merges_on}
 use Rattle.session_opening.proofs.Versions.{MayOnceTold, StaysLawful, stays_lawful}
 use Rattle.session_opening.specs.Opening.{HasRead, IsLawful, Joins, MergesBetween, Opens, ReadsInfo, RefusesTarget, is_joining, is_opening, is_reading}
-use Rattle.session_opening.specs.declared.refusal.OpenErr.{OpenErr}
-use Rattle.session_opening.specs.declared.refusal.OpenErr.TheVariants.{Older, Newer, BadInfo, Step}
 use Rattle.session.proofs.Ending.{does_as, gives_up_behind}
 use Rattle.session.proofs.Joins.{does_then}
+use Rattle.session.proofs.Refusing.{not_refused}
 use Rattle.session.proofs.Wider.{does_within, gives_up_within, went_within}
-use Rattle.session.specs.Doing.{Does, Ends, GivesNothing, Went}
+use Rattle.session.specs.Doing.{Does, Ends, GivesNothing, RefusesOr, Went}
 use Rattle.session.specs.Parts.{Then}
 use Rattle.session.specs.Work.{IsAtWork, WorkNow}
 use Rattle.sync_info.specs.declared.info.Info.{Info}
@@ -30,7 +29,7 @@ may_read (Get InfoFile) is = record { keeps = refl; asks_none = λ told. absurd 
 may_read (Get OldVersion) is = record { keeps = refl; asks_none = λ told. absurd (false≢true told) }
 may_read call is = cc
 
-reading_within : (call : Call) → is_reading call ≡ true → is_opening call ≡ true
+pub reading_within : (call : Call) → is_reading call ≡ true → is_opening call ≡ true
 reading_within (Get InfoFile) is = refl
 reading_within (Get OldVersion) is = refl
 reading_within call is = cc
@@ -43,12 +42,6 @@ lawful_read a b held sync lawful w =
 
 pub merges_read : (a b : WorkNow) → Went is_reading a b → MergesBetween a.site b.site
 merges_read a b w = merges_none is_reading a b (λ content. refl) w
-
-pub refuses : (a b : WorkNow) (e : OpenErr) → RefusesTarget is_reading a e b → RefusesTarget is_opening a e b
-refuses a b (Older version) h = (h.0, does_within is_reading is_opening a b reading_within h.1)
-refuses a b (Newer version) h = (h.0, does_within is_reading is_opening a b reading_within h.1)
-refuses a b BadInfo h = does_within is_reading is_opening a b reading_within h
-refuses a b (Step e) h = gives_up_within is_reading is_opening a b e reading_within h
 
 -- ---- what was made of it
 
@@ -87,8 +80,9 @@ opened remote a b c h k =
     (does_within is_joining is_opening b c joining_within k))
 
 pub stops_joining : (remote : Info) (a b c : WorkNow) (e : StepErr) → HasRead remote a b
-    → GivesNothing is_joining b e c → GivesNothing is_opening a e c
+    → GivesNothing is_joining b e c → RefusesOr RefusesTarget is_opening a e c
 stops_joining remote a b c e h k =
-    gives_up_behind (ReadsInfo remote) is_opening a b c e
+    not_refused RefusesTarget is_opening a c e
+    (gives_up_behind (ReadsInfo remote) is_opening a b c e
     (does_within is_reading is_opening a b reading_within h.does)
-    (gives_up_within is_joining is_opening b c e joining_within k)
+    (gives_up_within is_joining is_opening b c e joining_within k))

@@ -1,7 +1,9 @@
 -- A session reads the info of its target, and makes one of it and the client's own.
 use Rattle.std.specs.Prelude.{ℕ, ◌≡◌, ◌⊎◌, ◌<◌, ◌++◌, List, Bool, true, false, Option, Some, None, Result, Ok, Err}
 use Rattle.conflicts.specs.declared.error.StepErr.{StepErr}
-use Rattle.conflicts.specs.declared.error.StepErr.TheVariants.{NoMemory}
+use Rattle.conflicts.specs.declared.error.StepErr.TheVariants.{NoMemory, Refused}
+use Rattle.conflicts.specs.declared.refusal.Refusal.{Refusal}
+use Rattle.conflicts.specs.declared.refusal.Refusal.TheVariants.{TargetOlder, TargetNewer, BadInfo}
 use Rattle.client.specs.Sites.{SiteNow}
 use Rattle.jop_base.specs.declared.path.Path.TheVariants.{Info as InfoFile, OldVersion}
 use Rattle.jop_target.specs.declared.call.Call.{Call}
@@ -18,9 +20,7 @@ use Rattle.law_licences.specs.Trails.{session_calls}
 use Rattle.law_licences.specs.Views.{Shown}
 use Rattle.local_store.specs.declared.change.Change.{Change}
 use Rattle.local_store.specs.declared.change.Change.TheVariants.{InfoIs}
-use Rattle.session_opening.specs.declared.refusal.OpenErr.{OpenErr}
-use Rattle.session_opening.specs.declared.refusal.OpenErr.TheVariants.{Older, Newer, BadInfo, Step}
-use Rattle.session.specs.Doing.{Does, Ends, GivesNothing}
+use Rattle.session.specs.Doing.{Does, Ends, GivesNothing, RefusesOr}
 use Rattle.session.specs.Parts.{Part, Then, Nothing, Hears, Changes}
 use Rattle.session.specs.Work.{WorkNow, view_of}
 use Rattle.sync_info.specs.Info.{IsInfo}
@@ -157,19 +157,17 @@ abbrev pub EndsMerging : Part → WorkNow → Result (Unit {0}) StepErr → Work
 EndsMerging P old result new =
     Ends P is_joining old result new × MergesBetween old.site new.site
 
--- why a session isn't opened: by what was read of its target, or as a step gave nothing
-abbrev pub RefusesTarget : (Call → Bool) → WorkNow → OpenErr → WorkNow → Type 0
-RefusesTarget sort old (Older version) new =
-    (version < SUPPORTED) × Does (ReadsVersion version) sort old new
-RefusesTarget sort old (Newer version) new =
-    (SUPPORTED < version) × Does (ReadsVersion version) sort old new
-RefusesTarget sort old BadInfo new = Does ReadsBadInfo sort old new
-RefusesTarget sort old (Step e) new = GivesNothing sort old e new
+-- what is read of a target for which a session isn't opened
+abbrev pub RefusesTarget : Refusal → Part
+RefusesTarget (TargetOlder version) v ds = (version < SUPPORTED) × ReadsVersion version v ds
+RefusesTarget (TargetNewer version) v ds = (SUPPORTED < version) × ReadsVersion version v ds
+RefusesTarget BadInfo v ds = ReadsBadInfo v ds
+RefusesTarget why v ds = ⊥
 
 -- each answer, by its cause
-abbrev pub OpensOr : WorkNow → Result (Unit {0}) OpenErr → WorkNow → Type 0
+abbrev pub OpensOr : WorkNow → Result (Unit {0}) StepErr → WorkNow → Type 0
 OpensOr old (Ok done) new = Does Opens is_opening old new
-OpensOr old (Err e) new = RefusesTarget is_opening old e new
+OpensOr old (Err e) new = RefusesOr RefusesTarget is_opening old e new
 
 -- an info of the supported version was read, and the session was told of it
 pub record HasRead (info : Info) (old new : WorkNow) : Type 0 where
@@ -178,9 +176,9 @@ pub record HasRead (info : Info) (old new : WorkNow) : Type 0 where
   pub told : KnowsVersion new.lease new.site
 
 -- such an info was read, or none
-abbrev pub ReadsOr : WorkNow → Result Info OpenErr → WorkNow → Type 0
+abbrev pub ReadsOr : WorkNow → Result Info StepErr → WorkNow → Type 0
 ReadsOr old (Ok info) new = HasRead info old new
-ReadsOr old (Err e) new = RefusesTarget is_reading old e new
+ReadsOr old (Err e) new = RefusesOr RefusesTarget is_reading old e new
 
 -- the old version's file told the version of an old target
 abbrev pub ReadsOldOr : WorkNow → Result ℕ StepErr → WorkNow → Type 0
@@ -189,16 +187,18 @@ ReadsOldOr old (Ok version) new =
 ReadsOldOr old (Err e) new = GivesNothing is_reading old e new
 
 -- what the reply to the get of the info tells: the info, or none if it isn't there
-abbrev pub TellsInfo : Reply → Result (Option Info) OpenErr → Type 0
+abbrev pub TellsInfo : Reply → Result (Option Info) StepErr → Type 0
 TellsInfo reply (Ok None) = (now : ℕ) × (reply ≡ Absent now)
 TellsInfo reply (Ok (Some info)) = IsInfo info × Gives info reply
-TellsInfo reply (Err BadInfo) = IsBadReply reply
-TellsInfo reply (Err (Step e)) = e ≡ NoMemory
+TellsInfo reply (Err (Refused BadInfo)) = IsBadReply reply
+TellsInfo reply (Err NoMemory) = Unit {0}
 TellsInfo reply (Err e) = ⊥
 
 -- an info is taken exactly if its version is the supported one
-abbrev pub IsTakenInfo : Info → Result Info OpenErr → Type 0
+abbrev pub IsTakenInfo : Info → Result Info StepErr → Type 0
 IsTakenInfo info (Ok same) = (same ≡ info) × (info.version ≡ SUPPORTED)
-IsTakenInfo info (Err (Older version)) = (version ≡ info.version) × (version < SUPPORTED)
-IsTakenInfo info (Err (Newer version)) = (version ≡ info.version) × (SUPPORTED < version)
+IsTakenInfo info (Err (Refused (TargetOlder version))) =
+    (version ≡ info.version) × (version < SUPPORTED)
+IsTakenInfo info (Err (Refused (TargetNewer version))) =
+    (version ≡ info.version) × (SUPPORTED < version)
 IsTakenInfo info (Err e) = ⊥

@@ -8,7 +8,5 @@
 mod joining;
 mod opening;
 mod reading;
-mod refusal;
 
 pub use opening::open_session;
-pub use refusal::OpenErr;

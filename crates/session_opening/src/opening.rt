@@ -5,14 +5,15 @@ ghost use Rattle.session.specs.Work.{IsAtWork};
 
 use crate::joining::join_info;
 use crate::reading::read_supported;
-use crate::refusal::OpenErr;
+use conflicts::StepErr;
 use session::Session;
 use std::alloc::Global;
 
 /// Opens a session under a sync lease: reads the target's info, which is of the supported version,
 /// and makes one of it and the client's own, on the target and here. If there is no `info.json`,
-/// the version is 1 if `.sync/version.txt` is there in any form, and else 0.
-pub fn open_session<W: Session>(alloc: Global, s: &mut W) -> Result<(), OpenErr>
+/// the version is 1 if `.sync/version.txt` is there in any form, and else 0. It is refused by a target of another
+/// version, or if its info can't be read.
+pub fn open_session<W: Session>(alloc: Global, s: &mut W) -> Result<(), StepErr>
     requires ready { IsAtWork (W.now s.old) }
     requires sync { (W.now s.old).lease.kind ≡ Sync }
     requires lawful { IsLawful (W.now s.old).lease (W.now s.old).site }

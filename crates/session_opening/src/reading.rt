@@ -6,8 +6,7 @@ ghost use Rattle.session_opening.specs.Opening.{IsTakenInfo, ReadsOldOr, ReadsOr
 ghost use Rattle.session.specs.Asking.{IsAnswer};
 ghost use Rattle.session.specs.Work.{IsAtWork};
 
-use crate::refusal::OpenErr;
-use conflicts::StepErr;
+use conflicts::{Refusal, StepErr};
 use jop_base::Path;
 use jop_target::{Call, Reply};
 use session::Session;
@@ -16,7 +15,7 @@ use sync_info::{Info, InfoErr, read_info};
 use target_upgrade::SUPPORTED;
 
 /// The info that `info.json` holds, if it is there.
-fn told(alloc: Global, reply: &Reply) -> Result<Option<Info>, OpenErr>
+fn told(alloc: Global, reply: &Reply) -> Result<Option<Info>, StepErr>
     requires { IsAnswer (Get InfoFile) reply.now }
     ensures { TellsInfo reply.now result }
 {
@@ -24,22 +23,22 @@ fn told(alloc: Global, reply: &Reply) -> Result<Option<Info>, OpenErr>
         Reply::Absent { now: _ } => Ok(None),
         Reply::Got { now: _, content } => match read_info(alloc, content.as_slice()) {
             Ok(info) => Ok(Some(info)),
-            Err(InfoErr::Bad(_)) => Err(OpenErr::BadInfo),
-            Err(InfoErr::NoMemory) => Err(OpenErr::Step(StepErr::NoMemory)),
+            Err(InfoErr::Bad(_)) => Err(StepErr::Refused(Refusal::BadInfo)),
+            Err(InfoErr::NoMemory) => Err(StepErr::NoMemory),
         },
-        _ => Err(OpenErr::BadInfo),
+        _ => Err(StepErr::Refused(Refusal::BadInfo)),
     }
 }
 
 /// The info, if its version is the supported one.
-fn supported(info: Info) -> Result<Info, OpenErr>
+fn supported(info: Info) -> Result<Info, StepErr>
     ensures { IsTakenInfo info result }
 {
     if info.version < SUPPORTED {
-        return Err(OpenErr::Older(info.version));
+        return Err(StepErr::Refused(Refusal::TargetOlder(info.version)));
     }
     if info.version > SUPPORTED {
-        return Err(OpenErr::Newer(info.version));
+        return Err(StepErr::Refused(Refusal::TargetNewer(info.version)));
     }
     Ok(info)
 }
@@ -58,7 +57,7 @@ fn read_old<W: Session>(alloc: Global, s: &mut W) -> Result<u64, StepErr>
 }
 
 /// Reads the target's info, which is one of the supported version.
-pub(crate) fn read_supported<W: Session>(alloc: Global, s: &mut W) -> Result<Info, OpenErr>
+pub(crate) fn read_supported<W: Session>(alloc: Global, s: &mut W) -> Result<Info, StepErr>
     requires ready { IsAtWork (W.now s.old) }
     requires sync { (W.now s.old).lease.kind ≡ Sync }
 
@@ -67,6 +66,6 @@ pub(crate) fn read_supported<W: Session>(alloc: Global, s: &mut W) -> Result<Inf
     s.ask(alloc, Call::Get(Path::Info))?;
     match told(alloc, s.last())? {
         Some(info) => supported(info),
-        None => Err(OpenErr::Older(read_old(alloc, s)?)),
+        None => Err(StepErr::Refused(Refusal::TargetOlder(read_old(alloc, s)?))),
     }
 }

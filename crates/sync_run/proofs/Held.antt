@@ -30,13 +30,13 @@ use Rattle.target_upgrade.specs.declared.reading.Found.{Found}
 use Rattle.target_upgrade.proofs.Courses.{course_from-last, idle_work}
 use Rattle.target_upgrade.proofs.Made.{client_same, goes_lease, goes_on, goes_then, same_on, stops_then}
 use Rattle.sync_run.proofs.Starved.{none_failed_stopped, none_failed_starved}
-use Rattle.sync_run.specs.Outcomes.{Comes, ReadsBadInfo, ReadsNewer, StandsFor}
+use Rattle.sync_run.specs.Outcomes.{Comes, RefusesUpgrade, StandsFor}
 use Rattle.sync_run.specs.Sessions.{HasBegun, IsReleased, session_err_of, Runs}
 use Rattle.sync_run.specs.Upgrades.{HasLeft, IsUpgradedAt, RunsUpgrade, UpgradeAnswers, answer_released}
 use Rattle.sync_run.specs.declared.outcome.Outcome.{Outcome}
 use Rattle.sync_run.specs.declared.session_err.SessionErr.{SessionErr}
 use Rattle.sync_run.specs.declared.session_err.SessionErr.TheVariants as session_errors
-use Rattle.sync_run.specs.declared.outcome.Outcome.TheVariants.{Upgraded, Newer, BadInfo}
+use Rattle.sync_run.specs.declared.outcome.Outcome.TheVariants.{Upgraded, Refused}
 use Rattle.jop_target.specs.declared.call.Call.{Call}
 use Rattle.lease.specs.Added.{Makes}
 use Rattle.lease.proofs.Sessions.{lease_on}
@@ -145,24 +145,14 @@ released_left lease old new (Ok done) Upgraded s h =
     ((refl, record { left = left; heard = h.heard }), over_released lease.client new.trail h.over)
 released_left lease old new (Err TargetFault) Upgraded s h =
     (h.fails.failed, over_released lease.client new.trail h.fails.failed.over)
-released_left lease old new (Ok done) (Newer version) s h = (
-  has_left lease old new h.reply (λ before. ReadsNewer before version)
-      s.stands.exclusive s.stands.held.stands s.told h.trail,
+released_left lease old new (Ok done) (Refused why) s h = (
+  has_left lease old new h.reply (RefusesUpgrade why) s.stands.exclusive s.stands.held.stands
+      s.told h.trail,
   over_released lease.client new.trail h.over,
 )
-released_left lease old new (Err TargetFault) (Newer version) s h = (
-  has_left lease old new Failed (λ before. ReadsNewer before version)
-      s.stands.exclusive s.stands.held.stands s.told h.trail,
-  over_released lease.client new.trail h.fails.failed.over,
-)
-released_left lease old new (Ok done) BadInfo s h = (
-  has_left lease old new h.reply ReadsBadInfo s.stands.exclusive s.stands.held.stands s.told
-      h.trail,
-  over_released lease.client new.trail h.over,
-)
-released_left lease old new (Err TargetFault) BadInfo s h = (
-  has_left lease old new Failed ReadsBadInfo s.stands.exclusive s.stands.held.stands s.told
-      h.trail,
+released_left lease old new (Err TargetFault) (Refused why) s h = (
+  has_left lease old new Failed (RefusesUpgrade why) s.stands.exclusive s.stands.held.stands
+      s.told h.trail,
   over_released lease.client new.trail h.fails.failed.over,
 )
 

@@ -19,7 +19,7 @@ use Rattle.sync_run.specs.Outcomes.{HasOutcome}
 use Rattle.sync_run.specs.Sessions.{session_err_of}
 use Rattle.sync_run.specs.Upgrades.{answer_by, answer_released}
 use Rattle.sync_run.specs.declared.outcome.Outcome.{Outcome}
-use Rattle.sync_run.specs.declared.outcome.Outcome.TheVariants.{Upgraded, Newer, BadInfo}
+use Rattle.sync_run.specs.declared.outcome.Outcome.TheVariants.{Upgraded, Refused}
 use Rattle.sync_run.specs.declared.session_err.SessionErr.{SessionErr}
 use Rattle.sync_run.specs.declared.session_err.SessionErr.TheVariants as session_errors
 
@@ -37,8 +37,7 @@ answered : (released : Bool) (outcome : Outcome) →
     answer_by released outcome ≡ Err session_errors.NoMemory → ⊥
 answered true Upgraded is = cc
 answered false Upgraded is = cc
-answered released (Newer version) is = cc
-answered released BadInfo is = cc
+answered released (Refused why) is = cc
 
 pub none_failed_left : (calls : List Call) (old new : List Event)
     (released : Result (Unit {0}) LeaseErr) (outcome : Outcome) → Makes calls old new released →

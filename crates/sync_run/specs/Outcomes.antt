@@ -1,5 +1,7 @@
 -- What an upgrade came to whose lease is still held.
 use Rattle.std.specs.Prelude.{ℕ, ◌≡◌, ◌<◌, List, Result, Ok, Err}
+use Rattle.conflicts.specs.declared.refusal.Refusal.{Refusal}
+use Rattle.conflicts.specs.declared.refusal.Refusal.TheVariants.{TargetNewer, BadInfo}
 use Rattle.jop_base.specs.declared.path.Path.TheVariants.{Info as InfoFile}
 use Rattle.jop_target.specs.declared.call.Call.TheVariants.{Get}
 use Rattle.jop_target.specs.declared.event.Event.{Event}
@@ -13,7 +15,7 @@ use Rattle.target_upgrade.specs.Answers.{StandsAt, Stops}
 use Rattle.target_upgrade.specs.Reading.{IsBadReply, IsGot}
 use Rattle.target_upgrade.specs.Steps.{SUPPORTED, Stage, Upgraded as IsUpgraded}
 use Rattle.sync_run.specs.declared.outcome.Outcome.{Outcome}
-use Rattle.sync_run.specs.declared.outcome.Outcome.TheVariants.{Upgraded, Newer, BadInfo}
+use Rattle.sync_run.specs.declared.outcome.Outcome.TheVariants.{Upgraded, Refused}
 
 -- the last call got an info of this version, which is newer than the supported one
 pub record ReadsNewer (trail : List Event) (version : ℕ) : Type 0 where
@@ -28,10 +30,15 @@ pub record ReadsBadInfo (trail : List Event) : Type 0 where
   pub ends : EndsWith trail (Get InfoFile) reply
   pub bad : IsBadReply reply
 
+-- why an upgrade is refused, by what its last call got
+abbrev pub RefusesUpgrade : Refusal → List Event → Type 0
+RefusesUpgrade (TargetNewer version) trail = ReadsNewer trail version
+RefusesUpgrade BadInfo trail = ReadsBadInfo trail
+RefusesUpgrade why trail = ⊥
+
 abbrev pub IsToldBy : Stage → List Event → Outcome → Type 0
 IsToldBy stage trail Upgraded = stage ≡ IsUpgraded
-IsToldBy stage trail (Newer version) = ReadsNewer trail version
-IsToldBy stage trail BadInfo = ReadsBadInfo trail
+IsToldBy stage trail (Refused why) = RefusesUpgrade why trail
 
 -- the session holds its lease, and this is what it came to
 pub record StandsFor (lease : Lease) (trail : List Event) (outcome : Outcome) : Type 0 where

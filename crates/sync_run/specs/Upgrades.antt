@@ -20,12 +20,12 @@ use Rattle.target_upgrade.specs.Answers.{HasLapsed, IsCall}
 use Rattle.target_upgrade.specs.Course.{course_of}
 use Rattle.target_upgrade.specs.Steps.{SUPPORTED, Upgraded}
 use Rattle.sync_run.specs.Leases.{KeepsLeaseFrom, blocked_in, is_done}
-use Rattle.sync_run.specs.Outcomes.{ReadsBadInfo, ReadsNewer}
+use Rattle.sync_run.specs.Outcomes.{RefusesUpgrade}
 use Rattle.sync_run.specs.Sessions.{AddsTask, GoesBy, Runs}
 use Rattle.sync_run.specs.declared.outcome.Outcome.{Outcome}
 use Rattle.sync_run.specs.declared.outcome.Outcome.TheVariants as outcomes
 use Rattle.sync_run.specs.declared.session_err.SessionErr.{SessionErr}
-use Rattle.sync_run.specs.declared.session_err.SessionErr.TheVariants.{Busy, LeaseLost, TargetNewer, BadInfo, TargetFault, NoMemory}
+use Rattle.sync_run.specs.declared.session_err.SessionErr.TheVariants.{Busy, LeaseLost, Refused, TargetFault, NoMemory}
 
 -- ---- answers
 
@@ -33,8 +33,7 @@ use Rattle.sync_run.specs.declared.session_err.SessionErr.TheVariants.{Busy, Lea
 abbrev pub answer_by : Bool → Outcome → Result ℕ SessionErr
 answer_by true outcomes.Upgraded = Ok SUPPORTED
 answer_by false outcomes.Upgraded = Err TargetFault
-answer_by released (outcomes.Newer version) = Err (TargetNewer version)
-answer_by released outcomes.BadInfo = Err BadInfo
+answer_by released (outcomes.Refused why) = Err (Refused why)
 
 -- and whose release was answered so
 abbrev pub answer_released : Result (Unit {0}) LeaseErr → Outcome → Result ℕ SessionErr
@@ -70,9 +69,7 @@ UpgradeAnswers client trail (Ok version) = (version ≡ SUPPORTED) × HasUpgrade
 UpgradeAnswers client trail (Err (Busy lock now)) = IsBlocked Exclusive client trail lock now
 UpgradeAnswers client trail (Err (LeaseLost seen)) =
     HasMissed Exclusive client (Asked Exclusive) trail seen ⊎ HasLapsed client trail seen
-UpgradeAnswers client trail (Err (TargetNewer version)) =
-    HasLeft client trail (λ before. ReadsNewer before version)
-UpgradeAnswers client trail (Err BadInfo) = HasLeft client trail ReadsBadInfo
+UpgradeAnswers client trail (Err (Refused why)) = HasLeft client trail (RefusesUpgrade why)
 UpgradeAnswers client trail (Err TargetFault) = EndsFailed client trail
 UpgradeAnswers client trail (Err NoMemory) = Unit {0}
 

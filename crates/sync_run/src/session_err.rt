@@ -1,6 +1,7 @@
 ghost use Rattle.std.specs.Prelude.{◌≡◌};
 ghost use Rattle.sync_run.specs.Sessions.{has_ended};
 
+use conflicts::Refusal;
 use lease::{LeaseErr, Lock, Seen};
 use std::alloc::AllocError;
 
@@ -12,10 +13,8 @@ pub enum SessionErr {
     Busy { lock: Lock, now: u64 },
     /// Its own lock wasn't shown in time, or was renewed too late.
     LeaseLost(Seen),
-    /// The target has this version, which is newer than the supported one.
-    TargetNewer(u64),
-    /// `info.json` is too large, or is no info.
-    BadInfo,
+    /// It was refused under its lease, though nothing has failed.
+    Refused(Refusal),
     /// A call failed.
     TargetFault,
     NoMemory,

@@ -11,6 +11,7 @@ use crate::making::make_session;
 use crate::outcome::Outcome;
 use crate::session_err::SessionErr;
 use crate::task::Task;
+use conflicts::Refusal;
 use jop_base::{ClientId, LockKind};
 use jop_target::{Diary, Line, Target};
 use law_exclusion::{exclusive, redone};
@@ -20,8 +21,8 @@ use target_upgrade::{Found, ReadErr, SUPPORTED, read_version, upgrade};
 
 /// A session that brings a target to the supported version, and answers that version: it takes an
 /// exclusive lock for the client, reads the version, makes the steps from it and releases the lock.
-/// `Busy` and `LeaseLost` if there is no lease, or none any more; `TargetNewer` and `BadInfo` by
-/// what was read; `TargetFault` if a call failed that is needed.
+/// `Busy` and `LeaseLost` if there is no lease, or none any more; `Refused` by a newer version, or
+/// an info that can't be read; `TargetFault` if a call failed that is needed.
 pub fn upgrade_on<T: Target>(
     alloc: Global,
     target: &mut T,
@@ -80,7 +81,7 @@ fn upgrade_held<L: Line>(
 {
     match read_version(alloc, line, lease) {
         Ok(found) => upgrade_found(alloc, line, lease, found),
-        Err(ReadErr::BadInfo) => Ok(Outcome::BadInfo),
+        Err(ReadErr::BadInfo) => Ok(Outcome::Refused(Refusal::BadInfo)),
         Err(ReadErr::Lease(error)) => Err(error),
     }
 }
@@ -98,7 +99,7 @@ fn upgrade_found<L: Line>(
     ensures keeps { L.keeps line.old line.new }
 {
     if found.version > SUPPORTED {
-        return Ok(Outcome::Newer(found.version));
+        return Ok(Outcome::Refused(Refusal::TargetNewer(found.version)));
     }
     upgrade(alloc, line, lease, found.version, found.info)?;
     Ok(Outcome::Upgraded)
@@ -140,7 +141,6 @@ fn answer_by(released: bool, outcome: Outcome) -> Result<u64, SessionErr>
     match outcome {
         Outcome::Upgraded if released => Ok(SUPPORTED),
         Outcome::Upgraded => Err(SessionErr::TargetFault),
-        Outcome::Newer(version) => Err(SessionErr::TargetNewer(version)),
-        Outcome::BadInfo => Err(SessionErr::BadInfo),
+        Outcome::Refused(why) => Err(SessionErr::Refused(why)),
     }
 }

@@ -18,7 +18,7 @@ use Rattle.sync_session.specs.Leaving.{LeavesLease, LeavesIf, answer_once_left, 
 use Rattle.sync_session.specs.Syncing.{EndsWork, IsSyncReleased, with_locked}
 use Rattle.sync_session.specs.Working.{SyncWorks}
 use Rattle.sync_session.specs.declared.sync_err.SyncErr.{SyncErr}
-use Rattle.sync_session.specs.declared.sync_err.SyncErr.TheVariants.{Busy, LeaseLost, TargetOlder, TargetNewer, BadInfo, FailSafe, NoKey, TargetFault, KeeperFault, NoMemory}
+use Rattle.sync_session.specs.declared.sync_err.SyncErr.TheVariants.{Busy, LeaseLost, Refused, TargetFault, KeeperFault, NoMemory}
 use Rattle.sync_session.proofs.Left.{HasTaken, has_left, over_late}
 
 -- the lock was deleted behind work that was done
@@ -88,21 +88,9 @@ synced_by client lease old held late new report (Err NoMemory) result ended take
 synced_by client lease old held late new report (Err KeeperFault) result ended taken works leaves
     reports =
     never_well KeeperFault leaves.released result ended leaves.is
-synced_by client lease old held late new report (Err (TargetOlder version)) result ended taken
-    works leaves reports =
-    never_well (TargetOlder version) leaves.released result ended leaves.is
-synced_by client lease old held late new report (Err (TargetNewer version)) result ended taken
-    works leaves reports =
-    never_well (TargetNewer version) leaves.released result ended leaves.is
-synced_by client lease old held late new report (Err BadInfo) result ended taken works leaves
+synced_by client lease old held late new report (Err (Refused why)) result ended taken works leaves
     reports =
-    never_well BadInfo leaves.released result ended leaves.is
-synced_by client lease old held late new report (Err (FailSafe count)) result ended taken works
-    leaves reports =
-    never_well (FailSafe count) leaves.released result ended leaves.is
-synced_by client lease old held late new report (Err (NoKey key)) result ended taken works leaves
-    reports =
-    never_well (NoKey key) leaves.released result ended leaves.is
+    never_well (Refused why) leaves.released result ended leaves.is
 
 -- giving the lease up changes no tables
 tables_left : (lease : Lease) (worked : Result (Unit {0}) SyncErr) (old : SiteNow)

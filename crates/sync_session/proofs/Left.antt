@@ -46,7 +46,7 @@ use Rattle.sync_session.specs.Leaving.{LeavesLease, LeavesIf, holds_lease}
 use Rattle.sync_session.specs.Syncing.{EndsWork, HasBegunSync, HasLeft, IsSyncReleased, SyncGoesOn, begun_view}
 use Rattle.sync_session.specs.Working.{SyncWorks, is_sync}
 use Rattle.sync_session.specs.declared.sync_err.SyncErr.{SyncErr}
-use Rattle.sync_session.specs.declared.sync_err.SyncErr.TheVariants.{Busy, LeaseLost, TargetOlder, TargetNewer, BadInfo, FailSafe, NoKey, TargetFault, KeeperFault, NoMemory}
+use Rattle.sync_session.specs.declared.sync_err.SyncErr.TheVariants.{Busy, LeaseLost, Refused, TargetFault, KeeperFault, NoMemory}
 
 -- ---- what was done under the lease
 
@@ -54,11 +54,7 @@ pub went_worked : (a b : WorkNow) (result : Result (Unit {0}) SyncErr) → SyncW
     → Went is_sync a b
 went_worked a b (Ok done) h = h.0.went
 went_worked a b (Err (LeaseLost seen)) h = h.0.went
-went_worked a b (Err (TargetOlder version)) h = h.1.went
-went_worked a b (Err (TargetNewer version)) h = h.1.went
-went_worked a b (Err BadInfo) h = h.went
-went_worked a b (Err (FailSafe count)) h = h.listed.went
-went_worked a b (Err (NoKey key)) h = h.opened.went
+went_worked a b (Err (Refused why)) h = h.went
 went_worked a b (Err TargetFault) h = h.0.went
 went_worked a b (Err KeeperFault) h = h.stops.went
 went_worked a b (Err NoMemory) h = h.went
@@ -69,11 +65,7 @@ pub held_worked : (a b : WorkNow) (result : Result (Unit {0}) SyncErr) → SyncW
     → holds_lease result ≡ true → IsReady b.site b.lease
 held_worked a b (Ok done) h holds = h.0.ready
 held_worked a b (Err (LeaseLost seen)) h holds = absurd cc
-held_worked a b (Err (TargetOlder version)) h holds = h.1.ready
-held_worked a b (Err (TargetNewer version)) h holds = h.1.ready
-held_worked a b (Err BadInfo) h holds = h.ready
-held_worked a b (Err (FailSafe count)) h holds = h.listed.ready
-held_worked a b (Err (NoKey key)) h holds = h.opened.ready
+held_worked a b (Err (Refused why)) h holds = h.ready
 held_worked a b (Err TargetFault) h holds = absurd cc
 held_worked a b (Err KeeperFault) h holds = h.ready
 held_worked a b (Err NoMemory) h holds = absurd cc

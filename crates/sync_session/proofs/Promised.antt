@@ -23,7 +23,7 @@ use Rattle.sync_session.specs.Syncing.{AddsFrom, IsWholeSync, LicensedFrom, bloc
 use Rattle.sync_session.specs.Telling.{Tells}
 use Rattle.sync_session.specs.Working.{is_sync}
 use Rattle.sync_session.specs.declared.sync_err.SyncErr.{SyncErr}
-use Rattle.sync_session.specs.declared.sync_err.SyncErr.TheVariants.{Busy, LeaseLost, TargetOlder, TargetNewer, BadInfo, FailSafe, NoKey, TargetFault, KeeperFault, NoMemory}
+use Rattle.sync_session.specs.declared.sync_err.SyncErr.TheVariants.{Busy, LeaseLost, Refused, TargetFault, KeeperFault, NoMemory}
 
 -- ---- its discipline
 
@@ -49,15 +49,7 @@ obeys_from client old new (Err (Busy lock now)) added h is =
     obeys_whole client old new _ added h is
 obeys_from client old new (Err (LeaseLost seen)) added h is =
     obeys_whole client old new _ added h is
-obeys_from client old new (Err (TargetOlder version)) added h is =
-    obeys_whole client old new _ added h is
-obeys_from client old new (Err (TargetNewer version)) added h is =
-    obeys_whole client old new _ added h is
-obeys_from client old new (Err BadInfo) added h is = obeys_whole client old new _ added h is
-obeys_from client old new (Err (FailSafe count)) added h is =
-    obeys_whole client old new _ added h is
-obeys_from client old new (Err (NoKey key)) added h is =
-    obeys_whole client old new _ added h is
+obeys_from client old new (Err (Refused why)) added h is = obeys_whole client old new _ added h is
 obeys_from client old new (Err TargetFault) added h is = obeys_whole client old new _ added h is
 obeys_from client old new (Err KeeperFault) added h is = obeys_whole client old new _ added h is
 
@@ -122,11 +114,7 @@ tells_from client old new (Err NoMemory) h = h.tells
 tells_from client old new (Ok report) h = h.tells
 tells_from client old new (Err (Busy lock now)) h = h.tells
 tells_from client old new (Err (LeaseLost seen)) h = h.tells
-tells_from client old new (Err (TargetOlder version)) h = h.tells
-tells_from client old new (Err (TargetNewer version)) h = h.tells
-tells_from client old new (Err BadInfo) h = h.tells
-tells_from client old new (Err (FailSafe count)) h = h.tells
-tells_from client old new (Err (NoKey key)) h = h.tells
+tells_from client old new (Err (Refused why)) h = h.tells
 tells_from client old new (Err TargetFault) h = h.tells
 tells_from client old new (Err KeeperFault) h = h.tells
 

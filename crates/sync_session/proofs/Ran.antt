@@ -18,7 +18,7 @@ use Rattle.sync_session.proofs.Left.{HasTaken, goes_idle, goes_taken, lawful_beg
 use Rattle.sync_session.proofs.Refused.{ends_from, released_work}
 use Rattle.sync_session.proofs.Telling.{tells_locks}
 use Rattle.sync_session.specs.Errors.{of_lease}
-use Rattle.sync_session.specs.Syncing.{EndsWork, HasBegunSync, RunsSync, begun_view, with_locked}
+use Rattle.sync_session.specs.Syncing.{AddsFrom, EndsWork, HasBegunSync, LineGoesBySync, RunsSync, begun_view, with_locked}
 use Rattle.sync_session.specs.Working.{StartsSync}
 use Rattle.sync_session.specs.declared.sync_err.SyncErr.{SyncErr}
 
@@ -82,15 +82,20 @@ runs_done client lease old held new report after counted is begun taken h report
 }
 
 -- by other names of what stands behind it
-pub runs_as : (client : List ℕ) (old new same : SiteNow) (result : Result SyncReport SyncErr)
-    → RunsSync client old result new → new.line.trail ≡ same.line.trail
-    → new.line.target ≡ same.line.target → new.keeper ≡ same.keeper → new.tables ≡ same.tables
-    → new.made ≡ same.made → RunsSync client old result same
-runs_as client old new same result h trail target keeper tables made =
-    let is : new ≡ same = λ i. record {
-      line = record { trail = trail i; target = target i };
-      keeper = keeper i;
-      tables = tables i;
-      made = made i;
-    } in
-    subst (λ (d : SiteNow). RunsSync client old result d) is h
+pub is_site : (a b : SiteNow) → a.line.trail ≡ b.line.trail → a.line.target ≡ b.line.target
+    → a.keeper ≡ b.keeper → a.tables ≡ b.tables → a.made ≡ b.made → a ≡ b
+is_site a b trail target keeper tables made = λ i. record {
+  line = record { trail = trail i; target = target i };
+  keeper = keeper i;
+  tables = tables i;
+  made = made i;
+}
+
+pub adds_as : (client : List ℕ) (old new same : SiteNow) (result : Result SyncReport SyncErr)
+    → AddsFrom client old result new → new ≡ same → AddsFrom client old result same
+adds_as client old new same result h is = subst (AddsFrom client old result) is h
+
+pub line_as : (client : List ℕ) (old : LineNow) (new same : SiteNow)
+    → LineGoesBySync client old new.line → new ≡ same → LineGoesBySync client old same.line
+line_as client old new same h is =
+    subst (λ (d : SiteNow). LineGoesBySync client old d.line) is h

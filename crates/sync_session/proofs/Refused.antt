@@ -30,7 +30,7 @@ use Rattle.sync_session.specs.Leaving.{LeavesLease, answer_once_left, holds_leas
 use Rattle.sync_session.specs.Syncing.{EndsWork, HasLeft, IsSyncReleased}
 use Rattle.sync_session.specs.Working.{SyncWorks, is_sync}
 use Rattle.sync_session.specs.declared.sync_err.SyncErr.{SyncErr}
-use Rattle.sync_session.specs.declared.sync_err.SyncErr.TheVariants.{Busy, LeaseLost, TargetOlder, TargetNewer, BadInfo, FailSafe, NoKey, TargetFault, KeeperFault, NoMemory}
+use Rattle.sync_session.specs.declared.sync_err.SyncErr.TheVariants.{Busy, LeaseLost, Refused, TargetFault, KeeperFault, NoMemory}
 use Rattle.sync_session.proofs.Left.{HasTaken, fails_as, has_left, held_worked, missed_as, over_late, over_released, own_client, went_worked}
 
 -- ---- no call has failed
@@ -212,27 +212,8 @@ released_by client lease old held late new e (Err KeeperFault) result ended take
     leaves.same leaves.calls refl result ended leaves.is
     (λ left released.
     ((left, keeper_rose client lease old held late new taken works leaves.same), released))
-released_by client lease old held late new e (Err (TargetOlder version)) result ended taken works
-    leaves =
-    given_up client lease old held late new e (TargetOlder version) leaves.released taken works
-    leaves.gives leaves.same leaves.calls refl result ended leaves.is
-    (λ left released. (left, released))
-released_by client lease old held late new e (Err (TargetNewer version)) result ended taken works
-    leaves =
-    given_up client lease old held late new e (TargetNewer version) leaves.released taken works
-    leaves.gives leaves.same leaves.calls refl result ended leaves.is
-    (λ left released. (left, released))
-released_by client lease old held late new e (Err BadInfo) result ended taken works leaves =
-    given_up client lease old held late new e BadInfo leaves.released taken works
-    leaves.gives leaves.same leaves.calls refl result ended leaves.is
-    (λ left released. (left, released))
-released_by client lease old held late new e (Err (FailSafe count)) result ended taken works leaves
-    =
-    given_up client lease old held late new e (FailSafe count) leaves.released taken works
-    leaves.gives leaves.same leaves.calls refl result ended leaves.is
-    (λ left released. (left, released))
-released_by client lease old held late new e (Err (NoKey key)) result ended taken works leaves =
-    given_up client lease old held late new e (NoKey key) leaves.released taken works
+released_by client lease old held late new e (Err (Refused why)) result ended taken works leaves =
+    given_up client lease old held late new e (Refused why) leaves.released taken works
     leaves.gives leaves.same leaves.calls refl result ended leaves.is
     (λ left released. (left, released))
 

@@ -16,7 +16,7 @@ use Rattle.local_store.specs.Rows.{deletion_id}
 use Rattle.local_store.specs.Sound.{IsSound}
 use Rattle.local_store.specs.Tables.{row_at}
 use Rattle.local_store.specs.declared.change.Change.{Change}
-use Rattle.local_store.specs.declared.change.Change.TheVariants.{Named, Saved, Removed, Uploaded, Dropped, Taken, Conflict, Moved, Gone, Opened, Cleared, InfoIs, ContextIs}
+use Rattle.local_store.specs.declared.change.Change.TheVariants.{Removed, Uploaded, Dropped, Conflict, Moved, Opened}
 use Rattle.local_store.specs.declared.content.Content.{Content}
 use Rattle.local_store.specs.declared.deletion.Deletion.{Deletion}
 use Rattle.local_store.specs.declared.row.Row.{Row}
@@ -72,20 +72,14 @@ none_cut (d ∷ ds) id none = absurd cc
 
 none_after : (v : View) (t : Tables) (c : Change) → MayChange v c → t.deletions ≡ []
     → (after t c).deletions ≡ []
-none_after v t (Named client) may none = absurd may
-none_after v t (Saved id item) may none = absurd may
 none_after v t (Removed id) may none = absurd may
 none_after v t (Uploaded id bytes) may none = none_uploaded t id bytes (row_at t id) none
 none_after v t (Dropped id) may none = none_cut t.deletions id none
-none_after v t (Taken id bytes content) may none = none
 none_after v t (Conflict id remote copies) may none =
     none_conflicted t id remote copies (row_at t id) none
 none_after v t (Moved id) may none = none_conflicted t id None true (row_at t id) none
-none_after v t (Gone id) may none = none
 none_after v t (Opened id item) may none = absurd may
-none_after v t (Cleared number) may none = absurd may
-none_after v t (InfoIs info) may none = none
-none_after v t (ContextIs context) may none = none
+none_after v t c may none = none
 
 none_stays : (v : View) (ds : List Deed) → IsInside v.stage → AreWork ds → Each MayDo v ds
     → v.tables.deletions ≡ [] → (view_from v ds).tables.deletions ≡ []

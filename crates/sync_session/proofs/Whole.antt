@@ -3,10 +3,11 @@ use Rattle.std.specs.Prelude.{ℕ, ◌≡◌, ◌+◌, List, [], ◌∷◌, ◌+
 use Rattle.std.proofs.Common.{sym, ◌∙◌, ap, subst, append-nil, append_assoc}
 use Rattle.std.proofs.lemmas.List.{append_cancel_left}
 use Rattle.conflicts.specs.declared.report.SyncReport.{SyncReport}
-use Rattle.client.specs.Sites.{SiteNow, IsTidy}
+use Rattle.client.specs.Sites.{SiteNow, IsTidy, written_down}
+use Rattle.jop_target.specs.Trail.{LineNow}
 use Rattle.jop_target.specs.declared.event.Event.{Event}
 use Rattle.jop_target.specs.declared.event.Event.TheVariants.{Began, Sent, Called, Made, Ended}
-use Rattle.lease.proofs.WholeSessions.{adds_begun, adds_none, adds_whole, at_seam, begun_stands}
+use Rattle.lease.proofs.WholeSessions.{adds_begun, adds_none, adds_whole, at_seam, begun_stands, continues_marked, continues_unmarked, is_mark}
 use Rattle.lease.specs.Discipline.{ends_released, phase_of}
 use Rattle.lease.specs.WholeSession.{IsInner}
 use Rattle.lease.specs.Work.{NoneFailed}
@@ -21,15 +22,17 @@ use Rattle.session.proofs.Leased.{kept-same}
 use Rattle.session.specs.Saving.{kept_after_saves}
 use Rattle.session.specs.Steps.{IsStep}
 use Rattle.sync_run.proofs.Starved.{none_failed_begun, none_failed_unbegun}
-use Rattle.sync_run.proofs.Whole.{before_end}
+use Rattle.sync_run.proofs.Whole.{before_end, as_marked}
 use Rattle.target_upgrade.proofs.Courses.{course_from-last}
 use Rattle.target_upgrade.proofs.Whole.{keeps_begun, keeps_none, keeps_whole}
 use Rattle.target_upgrade.specs.Course.{KeepsVersions, course_of, outside_course}
-use Rattle.sync_session.specs.Syncing.{AddsFrom, HasBegunSync, IsOpenSync, IsSyncReleased, IsWholeSync, RunsSync, SyncAnswers, begun_at, begun_view, ended_at, has_ended_sync}
+use Rattle.jop_target.proofs.Runs.{continues_on}
+use Rattle.sync_run.specs.Sessions.{IsMarkOr}
+use Rattle.sync_session.specs.Syncing.{AddsFrom, HasBegunSync, IsOpenSync, IsSyncReleased, IsWholeSync, RunsSync, SyncAnswers, begun_at, begun_view, ended_at, has_ended_sync, LineGoesBySync, SyncGoesOn}
 use Rattle.sync_session.specs.Telling.{Tells, TellsWork}
 use Rattle.sync_session.specs.Working.{is_sync}
 use Rattle.sync_session.specs.declared.sync_err.SyncErr.{SyncErr}
-use Rattle.sync_session.specs.declared.sync_err.SyncErr.TheVariants.{Busy, LeaseLost, TargetOlder, TargetNewer, BadInfo, FailSafe, NoKey, TargetFault, KeeperFault, NoMemory}
+use Rattle.sync_session.specs.declared.sync_err.SyncErr.TheVariants.{Busy, LeaseLost, Refused, TargetFault, KeeperFault, NoMemory}
 
 -- ---- what is told of a session
 
@@ -131,11 +134,7 @@ settled : (client : List ℕ) (a b : SiteNow) (result : Result SyncReport SyncEr
 settled client a b (Ok report) ended h = h
 settled client a b (Err (Busy lock now)) ended h = h
 settled client a b (Err (LeaseLost seen)) ended h = h
-settled client a b (Err (TargetOlder version)) ended h = h
-settled client a b (Err (TargetNewer version)) ended h = h
-settled client a b (Err BadInfo) ended h = h
-settled client a b (Err (FailSafe count)) ended h = h
-settled client a b (Err (NoKey key)) ended h = h
+settled client a b (Err (Refused why)) ended h = h
 settled client a b (Err TargetFault) ended h = h
 settled client a b (Err KeeperFault) ended h = h
 settled client a b (Err NoMemory) ended h = absurd cc
@@ -169,11 +168,7 @@ not_ended : (result : Result SyncReport SyncErr) → has_ended_sync result ≡ f
 not_ended (Ok report) h = cc
 not_ended (Err (Busy lock now)) h = cc
 not_ended (Err (LeaseLost seen)) h = cc
-not_ended (Err (TargetOlder version)) h = cc
-not_ended (Err (TargetNewer version)) h = cc
-not_ended (Err BadInfo) h = cc
-not_ended (Err (FailSafe count)) h = cc
-not_ended (Err (NoKey key)) h = cc
+not_ended (Err (Refused why)) h = cc
 not_ended (Err TargetFault) h = cc
 not_ended (Err KeeperFault) h = cc
 not_ended (Err NoMemory) h = refl
@@ -230,11 +225,7 @@ pub adds_whole_from : (client : List ℕ) (old new : SiteNow)
 adds_whole_from client old new (Ok report) ended h = h
 adds_whole_from client old new (Err (Busy lock now)) ended h = h
 adds_whole_from client old new (Err (LeaseLost seen)) ended h = h
-adds_whole_from client old new (Err (TargetOlder version)) ended h = h
-adds_whole_from client old new (Err (TargetNewer version)) ended h = h
-adds_whole_from client old new (Err BadInfo) ended h = h
-adds_whole_from client old new (Err (FailSafe count)) ended h = h
-adds_whole_from client old new (Err (NoKey key)) ended h = h
+adds_whole_from client old new (Err (Refused why)) ended h = h
 adds_whole_from client old new (Err TargetFault) ended h = h
 adds_whole_from client old new (Err KeeperFault) ended h = h
 adds_whole_from client old new (Err NoMemory) ended h = absurd cc
@@ -246,39 +237,70 @@ adds_open_from client old new result ended h =
     subst (λ (r : Result SyncReport SyncErr). AddsFrom client old r new)
     (sym (not_ended result ended)) h
 
--- ---- with the begin as it was written down
+-- ---- once its begin is written down
 
--- so much stands in the trail
-abbrev pub started : SiteNow → List Event → SiteNow
-started d trail = record d { line = record d.line { trail = trail } }
-
-pub has_begun_sync : (client : List ℕ) (old : SiteNow) (trail : List Event)
-    → trail ≡ old.line.trail ++ Began ∷ [] → IsTidy old → HasBegunSync client (started old trail)
+pub has_begun_sync : (client : List ℕ) (old new : SiteNow) → new ≡ begun_at old → IsTidy old
+    → HasBegunSync client new
 unfolding calls_from
-has_begun_sync client old trail is tidy = record {
-  begun = record {
-    stands = begun_stands client old.line.trail trail is;
-    course = ap (course_of client) is ∙ course_from-last client outside_course old.line.trail Began;
-  };
-  calls = ap session_calls is ∙ calls_from-append [] old.line.trail (Began ∷ []);
-  tidy = record { sound = tidy.sound; told = tidy.told };
-}
+has_begun_sync client old new is tidy =
+    let trail = ap (λ (d : SiteNow). d.line.trail) is in
+    record {
+      begun = record {
+        stands = begun_stands client old.line.trail new.line.trail trail;
+        course =
+            ap (course_of client) trail
+            ∙ course_from-last client outside_course old.line.trail Began;
+      };
+      calls = ap session_calls trail ∙ calls_from-append [] old.line.trail (Began ∷ []);
+      tidy = subst IsTidy (sym is) (record { sound = tidy.sound; told = tidy.told });
+    }
 
-pub open_after : (client : List ℕ) (old mid : SiteNow) (begun : List Event)
+pub open_after : (client : List ℕ) (old begun mid : SiteNow)
     (result : Result SyncReport SyncErr) → has_ended_sync result ≡ false
-    → begun ≡ old.line.trail ++ Began ∷ [] → RunsSync client (started old begun) result mid
-    → AddsFrom client old result mid
-open_after client old mid begun result ended is runs =
+    → begun ≡ begun_at old → RunsSync client begun result mid → AddsFrom client old result mid
+open_after client old begun mid result ended is runs =
     adds_open_from client old mid result ended
     (open_sync client old mid result ended
-    (subst (λ (es : List Event). RunsSync client (started old es) result mid) is runs))
+    (subst (λ (d : SiteNow). RunsSync client d result mid) is runs))
 
-pub whole_after : (client : List ℕ) (old mid : SiteNow) (begun trail : List Event)
+pub whole_after : (client : List ℕ) (old begun mid new : SiteNow)
     (result : Result SyncReport SyncErr) → has_ended_sync result ≡ true
-    → begun ≡ old.line.trail ++ Began ∷ [] → RunsSync client (started old begun) result mid
-    → trail ≡ mid.line.trail ++ Ended ∷ [] → AddsFrom client old result (started mid trail)
-whole_after client old mid begun trail result ended is runs same =
-    subst (λ (es : List Event). AddsFrom client old result (started mid es)) (sym same)
+    → begun ≡ begun_at old → RunsSync client begun result mid → new ≡ ended_at mid
+    → AddsFrom client old result new
+whole_after client old begun mid new result ended is runs same =
+    subst (AddsFrom client old result) (sym same)
     (adds_whole_from client old (ended_at mid) result ended
     (whole_sync client old mid result ended
-    (subst (λ (es : List Event). RunsSync client (started old es) result mid) is runs)))
+    (subst (λ (d : SiteNow). RunsSync client d result mid) is runs)))
+
+-- ---- its line
+
+-- an event that marks a session is written down
+line_marked : (client : List ℕ) (old new : SiteNow) (e : Event) → is_mark e ≡ true
+    → IsMarkOr (IsStep is_sync client) e → new ≡ written_down e old
+    → LineGoesBySync client old.line new.line
+line_marked client old new e mark own is =
+    subst (λ (d : SiteNow). LineGoesBySync client old.line d.line) (sym is)
+    (continues_marked (IsMarkOr (IsStep is_sync client)) old.line.trail
+    (written_down e old).line.trail old.line.target e mark own refl)
+
+pub line_same : (client : List ℕ) (old new : SiteNow) → new ≡ old
+    → LineGoesBySync client old.line new.line
+line_same client old new is =
+    subst (λ (d : SiteNow). LineGoesBySync client old.line d.line) (sym is)
+    (continues_unmarked (IsMarkOr (IsStep is_sync client)) old.line.trail old.line.trail
+    old.line.target refl)
+
+pub line_open : (client : List ℕ) (old begun : SiteNow) (mid : LineNow) → begun ≡ begun_at old
+    → SyncGoesOn client begun.line mid → LineGoesBySync client old.line mid
+line_open client old begun mid is goes =
+    continues_on (IsMarkOr (IsStep is_sync client)) old.line begun.line mid
+    (line_marked client old begun Began refl tt is)
+    (as_marked (IsStep is_sync client) begun.line mid goes.goes.line)
+
+pub line_whole : (client : List ℕ) (old begun mid new : SiteNow) → begun ≡ begun_at old
+    → SyncGoesOn client begun.line mid.line → new ≡ ended_at mid
+    → LineGoesBySync client old.line new.line
+line_whole client old begun mid new is goes ended =
+    continues_on (IsMarkOr (IsStep is_sync client)) old.line mid.line new.line
+    (line_open client old begun mid.line is goes) (line_marked client mid new Ended refl tt ended)

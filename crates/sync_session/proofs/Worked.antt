@@ -4,14 +4,14 @@ use Rattle.std.proofs.Common.{◌∙◌, ap, subst, inl, inr}
 use Rattle.std.proofs.lemmas.Bool.{or_left, or_right}
 use Rattle.std.specs.List.{list_any}
 use Rattle.conflicts.specs.declared.error.StepErr.{StepErr}
-use Rattle.conflicts.specs.declared.error.StepErr.TheVariants.{Lost, TargetFault, KeeperFault, FailSafe, NoMemory}
+use Rattle.conflicts.specs.declared.error.StepErr.TheVariants.{Lost, TargetFault, KeeperFault, NoMemory}
+use Rattle.conflicts.specs.declared.refusal.Refusal.{Refusal}
 use Rattle.download.specs.Downloading.{Downloads}
-use Rattle.jop_base.specs.declared.dir.Dir.TheVariants.{Root}
+use Rattle.download.specs.Reading.{RefusesDownload}
 use Rattle.jop_base.specs.declared.lock_name.LockKind.TheVariants.{Sync}
 use Rattle.jop_base.specs.declared.path.Path.TheVariants.{Info as InfoFile, OldVersion}
 use Rattle.jop_target.specs.declared.call.Call.{Call}
-use Rattle.jop_target.specs.declared.call.Call.TheVariants.{List as ListDir, Get, Put, Delete, MakeDir}
-use Rattle.jop_target.specs.declared.reply.Reply.TheVariants.{Listed}
+use Rattle.jop_target.specs.declared.call.Call.TheVariants.{Get, Put, Delete, MakeDir}
 use Rattle.lease.specs.declared.lease.Lease.{Lease}
 use Rattle.law_licences.specs.Deeds.{Deed}
 use Rattle.law_licences.specs.Puts.{has_put}
@@ -25,27 +25,26 @@ use Rattle.local_store.specs.declared.tables.Tables.{Tables}
 use Rattle.session_opening.proofs.Merging.{merges_none, merges_on}
 use Rattle.session_opening.proofs.Unput.{unput_behind}
 use Rattle.session_opening.proofs.Versions.{MayOnceTold, stays_lawful}
-use Rattle.session_opening.specs.Opening.{IsLawful, KnowsVersion, MergesBetween, Opens, ReadsBadInfo, ReadsVersion, RefusesTarget, is_opening}
-use Rattle.session_opening.specs.declared.refusal.OpenErr.{OpenErr}
-use Rattle.session_opening.specs.declared.refusal.OpenErr.TheVariants as open_errors
-use Rattle.session.proofs.Ending.{does_as, gives_up_behind}
+use Rattle.session_opening.specs.Opening.{IsLawful, KnowsVersion, MergesBetween, Opens, RefusesTarget, is_opening}
+use Rattle.session.proofs.Ending.{does_as, does_nothing}
 use Rattle.session.proofs.Joins.{does_then}
 use Rattle.session.proofs.Recast.{ends_at_placed, gives_up_placed}
-use Rattle.session.specs.Doing.{Does, DoesTo, Finishes, GivesNothing, Went}
-use Rattle.session.specs.Parts.{ForEach, Hears, Part, Then}
+use Rattle.session.proofs.Refusing.{refuses_as, refuses_behind, refuses_within, went_refused}
+use Rattle.session.specs.Doing.{Does, DoesTo, Finishes, GivesNothing, RefusesOr, Went}
+use Rattle.session.specs.Parts.{ForEach, Nothing, Part, Then}
 use Rattle.session.specs.Work.{WorkNow, nowhere, placed, work, work_by}
 use Rattle.target_upgrade.specs.Steps.{SUPPORTED}
 use Rattle.upload.proofs.Left.{same_blobs}
 use Rattle.upload.specs.Conditions.{AreUnput, IsReadable}
 use Rattle.upload.specs.Uploading.{UploadsOne, blobs_of, pending_ids}
-use Rattle.session.proofs.Wider.{IsWithin, does_within, gives_up_within, went_within}
+use Rattle.session.proofs.Wider.{IsWithin, does_within, went_within}
 use Rattle.sync_session.proofs.Settled.{agree_begun}
-use Rattle.sync_session.specs.Errors.{of_opening, of_step}
-use Rattle.sync_session.specs.Keys.{IsActiveKey, has_waiting, needs_key}
+use Rattle.sync_session.specs.Errors.{of_step}
+use Rattle.sync_session.specs.Keys.{RefusesKeys, has_waiting, needs_key}
 use Rattle.sync_session.specs.declared.sync_err.SyncErr.{SyncErr}
-use Rattle.sync_session.specs.declared.sync_err.SyncErr.TheVariants.{Busy, LeaseLost, TargetOlder, TargetNewer, BadInfo, NoKey}
+use Rattle.sync_session.specs.declared.sync_err.SyncErr.TheVariants.{Busy, LeaseLost, Refused}
 use Rattle.sync_session.specs.declared.sync_err.SyncErr.TheVariants as sync_errors
-use Rattle.sync_session.specs.Working.{Exchanges, ExchangesOr, LacksKey, ListsBehind, Sends, SyncsTables, SyncWorks, is_exchange, is_sync}
+use Rattle.sync_session.specs.Working.{Exchanges, ExchangesOr, RefusesExchange, RefusesOpened, RefusesSync, Sends, SyncsTables, SyncWorks, is_exchange, is_sync}
 
 -- ---- sorts
 
@@ -85,30 +84,20 @@ opened_blobs a b h = same_blobs Opens is_opening a b (λ id. refl) h
 
 -- ---- the answers
 
--- a part of the session gave nothing, but not since the target looks as if it were emptied
-works_stopped : (a b : WorkNow) (e : StepErr) → GivesNothing is_sync a e b → SyncWorks a (Err (of_step e)) b
+-- a part of the session gave nothing, or was refused
+works_stopped : (a b : WorkNow) (e : StepErr)
+    → RefusesOr (RefusesSync a.site.keeper.kept) is_sync a e b → SyncWorks a (Err (of_step e)) b
 works_stopped a b (Lost seen) h = h
-works_stopped a b TargetFault h = h
-works_stopped a b KeeperFault h = h
-works_stopped a b (FailSafe count) h = absurd h
-works_stopped a b NoMemory h = h
+works_stopped a b e h = h
 
-pub works_refused : (a b : WorkNow) (e : OpenErr) → RefusesTarget is_opening a e b
-    → SyncWorks a (Err (of_opening e)) b
-works_refused a b (open_errors.Older version) h =
-    (h.0, does_within is_opening is_sync a b opening_within h.1)
-works_refused a b (open_errors.Newer version) h =
-    (h.0, does_within is_opening is_sync a b opening_within h.1)
-works_refused a b open_errors.BadInfo h = does_within is_opening is_sync a b opening_within h
-works_refused a b (open_errors.Step e) h =
-    works_stopped a b e (gives_up_within is_opening is_sync a b e opening_within h)
-
-stopped_behind : (a b c : WorkNow) (e : StepErr) → Does Opens is_sync a b
-    → GivesNothing is_exchange b e c → SyncWorks a (Err (of_step e)) c
-stopped_behind a b c e h k =
-    works_stopped a c e
-    (gives_up_behind Opens is_sync a b c e h
-    (gives_up_within is_exchange is_sync b c e exchange_within k))
+-- that was the opening
+pub works_unopened : (a b : WorkNow) (e : StepErr) → RefusesOr RefusesTarget is_opening a e b
+    → SyncWorks a (Err (of_step e)) b
+works_unopened a b e h =
+    works_stopped a b e
+    (refuses_as RefusesTarget (RefusesSync a.site.keeper.kept) is_sync a b e
+    (λ why shown ds read. inl read)
+    (refuses_within RefusesTarget is_opening is_sync a b e opening_within h))
 
 -- what came behind the opening
 works_both : (a b c : WorkNow) → Does Opens is_opening a b
@@ -122,30 +111,25 @@ works_both a b c h k =
     (λ shown ds. then_as Downloads b.site.keeper.kept a.site.keeper.kept _ ds same)
     (does_within is_exchange is_sync b c exchange_within k))
 
+-- the same is refused, by the same bytes of resources
+refused_with : (kept other : Option Kept) (why : Refusal) (v : View) (ds : List Deed)
+    → blobs_of kept ≡ blobs_of other → RefusesExchange kept why v ds → RefusesOpened other why v ds
+refused_with kept other why v ds same h = inr (then_as (RefusesDownload why) kept other v ds same h)
+
+-- or that was the exchange, behind the opening
 pub works_behind : (a b c : WorkNow) (e : StepErr) → Does Opens is_opening a b
     → ExchangesOr b (Err e) c → SyncWorks a (Err (of_step e)) c
-works_behind a b c (FailSafe count) h k =
-    let same = opened_blobs a b h in
-    let lists = Hears (ListDir Root) (Listed k.listing) in
-    record {
-      listing = k.listing;
-      listed =
-          does_then Opens (ListsBehind a.site.keeper.kept k.listing) is_sync a b c
-          (does_within is_opening is_sync a b opening_within h)
-          (does_as (ListsBehind b.site.keeper.kept k.listing)
-          (ListsBehind a.site.keeper.kept k.listing) is_sync b c
-          (λ shown ds. then_as lists b.site.keeper.kept a.site.keeper.kept _ ds same)
-          (does_within is_exchange is_sync b c exchange_within k.listed));
-      rows = k.rows;
-    }
-works_behind a b c (Lost seen) h k =
-    stopped_behind a b c (Lost seen) (does_within is_opening is_sync a b opening_within h) k
-works_behind a b c TargetFault h k =
-    stopped_behind a b c TargetFault (does_within is_opening is_sync a b opening_within h) k
-works_behind a b c KeeperFault h k =
-    stopped_behind a b c KeeperFault (does_within is_opening is_sync a b opening_within h) k
-works_behind a b c NoMemory h k =
-    stopped_behind a b c NoMemory (does_within is_opening is_sync a b opening_within h) k
+works_behind a b c e h k =
+    let had = b.site.keeper.kept in
+    let kept = a.site.keeper.kept in
+    works_stopped a c e
+    (refuses_as (λ why. Then Opens (RefusesOpened kept why)) (RefusesSync kept) is_sync a c e
+    (λ why shown ds done. inr done)
+    (refuses_behind Opens (RefusesOpened kept) is_sync a b c e
+    (does_within is_opening is_sync a b opening_within h)
+    (refuses_as (RefusesExchange had) (RefusesOpened kept) is_sync b c e
+    (λ why shown ds. refused_with had kept why _ ds (opened_blobs a b h))
+    (refuses_within (RefusesExchange had) is_exchange is_sync b c e exchange_within k))))
 
 -- the exchange was done behind the opening, of a session that had called nothing
 pub works_done : (a b c : WorkNow) → session_calls a.site.line.trail ≡ []
@@ -153,15 +137,18 @@ pub works_done : (a b c : WorkNow) → session_calls a.site.line.trail ≡ []
 works_done a b c none h k =
     let whole = works_both a b c h k.0 in (whole, (k.1, whole.agrees (agree_begun a.site none)))
 
--- rows wait that can't be sealed
-pub lacks_key : (a b : WorkNow) (t : Tables) (key : Option (List ℕ)) → Does Opens is_opening a b
-    → t ≡ b.site.tables → needs_key t ≡ true → IsActiveKey t.info.active.value key
-    → LacksKey a key b
-lacks_key a b t key h same needs active = record {
-  opened = does_within is_opening is_sync a b opening_within h;
-  needs = subst (λ (u : Tables). needs_key u ≡ true) same needs;
-  active = subst (λ (u : Tables). IsActiveKey u.info.active.value key) same active;
-}
+-- or it can't go on with its keys
+pub works_keyless : (a b : WorkNow) (t : Tables) (why : Refusal) → Does Opens is_opening a b
+    → t ≡ b.site.tables → RefusesKeys why t → SyncWorks a (Err (Refused why)) b
+works_keyless a b t why h same refuses =
+    let kept = a.site.keeper.kept in
+    let here = subst (λ (u : Tables). RefusesKeys why u) same refuses in
+    does_as (Then Opens (RefusesOpened kept why)) (RefusesSync kept why) is_sync a b
+    (λ shown ds done. inr done)
+    (does_then Opens (RefusesOpened kept why) is_sync a b b
+    (does_within is_opening is_sync a b opening_within h)
+    (does_as Nothing (RefusesOpened kept why) is_sync b b (λ shown ds none. inl (here, none))
+    (does_nothing is_sync b h.ready)))
 
 -- ---- by whatever references
 
@@ -178,19 +165,8 @@ works_nowhere : (a b : WorkNow) (result : Result (Unit {0}) SyncErr) → SyncWor
     → SyncWorks (placed nowhere a) result (placed nowhere b)
 works_nowhere a b (Ok done) h = (does_nowhere (SyncsTables a.site.keeper.kept) a b h.0, h.1)
 works_nowhere a b (Err (LeaseLost seen)) h = stopped_nowhere a b (Lost seen) h
-works_nowhere a b (Err (TargetOlder version)) h = (h.0, does_nowhere (ReadsVersion version) a b h.1)
-works_nowhere a b (Err (TargetNewer version)) h = (h.0, does_nowhere (ReadsVersion version) a b h.1)
-works_nowhere a b (Err BadInfo) h = does_nowhere ReadsBadInfo a b h
-works_nowhere a b (Err (sync_errors.FailSafe count)) h = record {
-  listing = h.listing;
-  listed = does_nowhere (Then Opens (ListsBehind a.site.keeper.kept h.listing)) a b h.listed;
-  rows = h.rows;
-}
-works_nowhere a b (Err (NoKey key)) h = record {
-  opened = does_nowhere Opens a b h.opened;
-  needs = h.needs;
-  active = h.active;
-}
+works_nowhere a b (Err (Refused why)) h =
+    does_nowhere (RefusesSync a.site.keeper.kept why) a b h
 works_nowhere a b (Err sync_errors.TargetFault) h = stopped_nowhere a b TargetFault h
 works_nowhere a b (Err sync_errors.KeeperFault) h = stopped_nowhere a b KeeperFault h
 works_nowhere a b (Err sync_errors.NoMemory) h = stopped_nowhere a b NoMemory h
@@ -209,11 +185,7 @@ works_here a b result before behind h =
 -- ---- what it keeps
 
 pub went_stopped : (a b : WorkNow) (e : StepErr) → ExchangesOr a (Err e) b → Went is_exchange a b
-went_stopped a b (FailSafe count) h = h.listed.went
-went_stopped a b (Lost seen) h = h.0.went
-went_stopped a b TargetFault h = h.0.went
-went_stopped a b KeeperFault h = h.stops.went
-went_stopped a b NoMemory h = h.went
+went_stopped a b e h = went_refused (RefusesExchange a.site.keeper.kept) is_exchange a b e h
 
 -- a client that was told the version may do all that comes behind the opening
 exchange_keeps : (call : Call) → is_exchange call ≡ true

@@ -5,10 +5,8 @@ use Rattle.lease.specs.declared.error.LeaseErr.{LeaseErr}
 use Rattle.lease.specs.declared.error.LeaseErr.TheVariants as lease_errors
 use Rattle.keeper.specs.declared.keeper_err.KeeperErr.{KeeperErr}
 use Rattle.keeper.specs.declared.keeper_err.KeeperErr.TheVariants as keeper_errors
-use Rattle.session_opening.specs.declared.refusal.OpenErr.{OpenErr}
-use Rattle.session_opening.specs.declared.refusal.OpenErr.TheVariants as open_errors
 use Rattle.sync_session.specs.declared.sync_err.SyncErr.{SyncErr}
-use Rattle.sync_session.specs.declared.sync_err.SyncErr.TheVariants.{Busy, LeaseLost, TargetOlder, TargetNewer, BadInfo, FailSafe, TargetFault, KeeperFault, NoMemory}
+use Rattle.sync_session.specs.declared.sync_err.SyncErr.TheVariants.{Busy, LeaseLost, Refused, TargetFault, KeeperFault, NoMemory}
 
 abbrev pub of_keeper : KeeperErr → SyncErr
 of_keeper keeper_errors.Fault = KeeperFault
@@ -24,11 +22,5 @@ abbrev pub of_step : StepErr → SyncErr
 of_step (step_errors.Lost seen) = LeaseLost seen
 of_step step_errors.TargetFault = TargetFault
 of_step step_errors.KeeperFault = KeeperFault
-of_step (step_errors.FailSafe count) = FailSafe count
+of_step (step_errors.Refused why) = Refused why
 of_step step_errors.NoMemory = NoMemory
-
-abbrev pub of_opening : OpenErr → SyncErr
-of_opening (open_errors.Older version) = TargetOlder version
-of_opening (open_errors.Newer version) = TargetNewer version
-of_opening open_errors.BadInfo = BadInfo
-of_opening (open_errors.Step e) = of_step e

@@ -2,7 +2,7 @@
 use Rattle.std.specs.Prelude.{ℕ, ◌≡◌, List, [], ◌∷◌, ◌++◌, Bool, true, false, Option, Some, None, Result, Ok, Err}
 use Rattle.conflicts.specs.Reports.{new_report}
 use Rattle.conflicts.specs.declared.report.SyncReport.{SyncReport}
-use Rattle.client.specs.Sites.{SiteNow, IsSameSite, IsTidy}
+use Rattle.client.specs.Sites.{SiteNow, IsSameSite, IsTidy, written_down}
 use Rattle.jop_outside.specs.Outside.{HasRisen}
 use Rattle.jop_base.specs.declared.lock_name.LockKind.TheVariants.{Sync}
 use Rattle.jop_base.specs.declared.path.Path.TheVariants.{Lock as LockFile}
@@ -141,10 +141,6 @@ sited trail target keeper tables made = record {
   made = made;
 }
 
--- once one more event is written down
-abbrev pub written_down : Event → SiteNow → SiteNow
-written_down event d = record d { line = record d.line { trail = d.line.trail ++ event ∷ [] } }
-
 -- once the session's begin is, and its end
 abbrev pub begun_at : SiteNow → SiteNow
 begun_at d = written_down Began d
@@ -180,6 +176,10 @@ AddsFrom client old result new = IsWholeSync client old result new
 -- a trail and a target went on by work of a sync and its lease's calls, and by begins and ends of sessions
 abbrev pub GoesBySync : List ℕ → List Event → List Event → TargetNow → TargetNow → Type 0
 GoesBySync client old new before after = GoesBy (IsStep is_sync) client old new before after
+
+-- a client's line did
+abbrev pub LineGoesBySync : List ℕ → LineNow → LineNow → Type 0
+LineGoesBySync client old new = GoesBySync client old.trail new.trail old.target new.target
 
 -- the lock that a busy answer names, and the moment at which it was live
 abbrev pub blocked_by : Result SyncReport SyncErr → Option (Lock × ℕ)

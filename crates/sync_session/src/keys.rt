@@ -1,6 +1,7 @@
 ghost use Rattle.std.specs.Prelude.{◌≡◌};
-ghost use Rattle.sync_session.specs.Keys.{IsActiveKey, has_waiting, is_sealed, needs_key, sealed_rows};
+ghost use Rattle.sync_session.specs.Keys.{IsActiveKey, RefusesKeysOr, has_waiting, is_sealed, needs_key, sealed_rows};
 
+use conflicts::Refusal;
 use jop_base::Id;
 use local_store::{Content, Row, Tables};
 use sync_info::Info;
@@ -18,17 +19,27 @@ fn has_waiting(rows: &[Row]) -> bool
 }
 
 /// Whether files are to be sealed while something waits to be uploaded, so that a key is needed: none is known here.
-pub(crate) fn needs_key(tables: &Tables) -> bool
+fn needs_key(tables: &Tables) -> bool
     ensures { result ≡ needs_key tables.now }
 {
     tables.info.e2ee.value && has_waiting(tables.rows.as_slice())
 }
 
 /// The key that the info names, if it names one.
-pub(crate) fn active_key(info: &Info) -> Option<Id>
+fn active_key(info: &Info) -> Option<Id>
     ensures { IsActiveKey info.now.active.value result }
 {
     Id::read(info.active.value.as_str().as_bytes())
+}
+
+/// Why a session can't go on with the keys of these tables, if it can't.
+pub(crate) fn key_refusal(tables: &Tables) -> Option<Refusal>
+    ensures { RefusesKeysOr tables.now result }
+{
+    if needs_key(tables) {
+        return Some(Refusal::NoKey(active_key(&tables.info)));
+    }
+    None
 }
 
 fn is_sealed(content: &Content) -> bool

@@ -1,11 +1,9 @@
 ghost use Rattle.std.specs.Prelude.{◌≡◌};
 ghost use Rattle.sync_session.specs.Syncing.{has_ended_sync};
 
-use conflicts::{StepErr, SyncReport};
-use jop_base::Id;
+use conflicts::{Refusal, StepErr, SyncReport};
 use keeper::KeeperErr;
 use lease::{LeaseErr, Lock, Seen};
-use session_opening::OpenErr;
 use std::alloc::AllocError;
 
 /// Why a sync ended before all was done.
@@ -15,16 +13,8 @@ pub enum SyncErr {
     Busy { lock: Lock, now: u64 },
     /// Its own lock wasn't shown in time, or was renewed too late.
     LeaseLost(Seen),
-    /// The target has this version, which is older than the supported one.
-    TargetOlder(u64),
-    /// The target has this version, which is newer than the supported one.
-    TargetNewer(u64),
-    /// `info.json` is too large, or is no info.
-    BadInfo,
-    /// The target shows no item, and the client has a base of so many.
-    FailSafe(u64),
-    /// Items are to be sealed with this key, which the client doesn't have; none if the info names none.
-    NoKey(Option<Id>),
+    /// It was refused under its lease, though nothing has failed.
+    Refused(Refusal),
     /// A call failed.
     TargetFault,
     /// The keeper failed.
@@ -91,24 +81,8 @@ impl From<StepErr> for SyncErr {
             StepErr::Lost(seen) => SyncErr::LeaseLost(seen),
             StepErr::TargetFault => SyncErr::TargetFault,
             StepErr::KeeperFault => SyncErr::KeeperFault,
-            StepErr::FailSafe(count) => SyncErr::FailSafe(count),
+            StepErr::Refused(why) => SyncErr::Refused(why),
             StepErr::NoMemory => SyncErr::NoMemory,
-        }
-    }
-}
-
-impl From<OpenErr> for SyncErr {
-    ghost use Rattle.std.specs.Prelude.{◌≡◌};
-    ghost use Rattle.sync_session.specs.Errors.{of_opening};
-
-    ghost from_gives = { λ o e. e ≡ of_opening o };
-
-    fn from(error: OpenErr) -> SyncErr {
-        match error {
-            OpenErr::Older(version) => SyncErr::TargetOlder(version),
-            OpenErr::Newer(version) => SyncErr::TargetNewer(version),
-            OpenErr::BadInfo => SyncErr::BadInfo,
-            OpenErr::Step(error) => SyncErr::from(error),
         }
     }
 }

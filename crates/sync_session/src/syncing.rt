@@ -2,7 +2,8 @@ ghost use Rattle.std.specs.Prelude.{◌≡◌, false};
 ghost use Rattle.client.specs.Sites.{IsTidy};
 ghost use Rattle.jop_base.specs.declared.lock_name.LockKind.{LockKind};
 ghost use Rattle.sync_run.specs.Leases.{KeepsLeaseFrom};
-ghost use Rattle.sync_session.specs.Syncing.{AddsFrom, EndsWork, GoesBySync, HasBegunSync, KeepsNotesIn, LicensedFrom, RunsSync, blocked_by, sited};
+ghost use Rattle.sync_session.specs.Syncing.{AddsFrom, EndsWork, GoesBySync, HasBegunSync, KeepsNotesIn, LicensedFrom};
+ghost use Rattle.sync_session.specs.Syncing.{LineGoesBySync, RunsSync, blocked_by, sited};
 ghost use Rattle.sync_session.specs.Working.{StartsSync};
 
 use crate::keys::sealed_rows;
@@ -26,10 +27,9 @@ use std::alloc::Global;
 /// here and deletes what was removed here, reads what others have done, and releases the lock. It
 /// answers what was done.
 ///
-/// `Busy` and `LeaseLost` if there is no lease, or none any more; `TargetOlder`, `TargetNewer` and
-/// `BadInfo` by what was read of the info; `NoKey` if items wait that are to be sealed; `FailSafe`
-/// if the target looks as if it were emptied; `TargetFault` and `KeeperFault` if a call of theirs
-/// failed.
+/// `Busy` and `LeaseLost` if there is no lease, or none any more; `Refused` by what was read of the
+/// target, or if items wait that are to be sealed; `TargetFault` and `KeeperFault` if a call of
+/// theirs failed.
 pub fn sync_on<T: Target, K: Keeper>(
     alloc: Global,
     target: &mut T,
@@ -73,57 +73,6 @@ pub fn sync_on<T: Target, K: Keeper>(
     exclusive();
     blocked();
     notes_are_kept_by_tables();
-    make_session(alloc, target, keeper, tables, client, diary, made)
-}
-
-/// Makes the session, and writes down where it begins and ends.
-fn make_session<T: Target, K: Keeper>(
-    alloc: Global,
-    target: &mut T,
-    keeper: &mut K,
-    tables: &mut Tables,
-    client: &ClientId,
-    diary: &mut Diary,
-    made: &mut Changes,
-) -> Result<SyncReport, SyncErr>
-    requires tidy { IsTidy (sited diary.old.events (T.state target.old) (K.state keeper.old)
-        tables.old made.old.changes) }
-
-    ensures session { AddsFrom client.now
-        (sited diary.old.events (T.state target.old) (K.state keeper.old) tables.old
-        made.old.changes) result
-        (sited diary.new.events (T.state target.new) (K.state keeper.new) tables.new
-        made.new.changes) }
-    ensures line { GoesBySync client.now diary.old.events diary.new.events (T.state target.old)
-        (T.state target.new) }
-{
-    diary.begin()?;
-    let outcome = hold(alloc, target, keeper, tables, client, diary, made);
-    if has_ended(&outcome) {
-        diary.end()?;
-    }
-    outcome
-}
-
-/// Takes the lock of a target, syncs and releases the lock, in a session that has begun.
-fn hold<T: Target, K: Keeper>(
-    alloc: Global,
-    target: &mut T,
-    keeper: &mut K,
-    tables: &mut Tables,
-    client: &ClientId,
-    diary: &mut Diary,
-    made: &mut Changes,
-) -> Result<SyncReport, SyncErr>
-    requires begun { HasBegunSync client.now
-        (sited diary.old.events (T.state target.old) (K.state keeper.old) tables.old
-        made.old.changes) }
-    ensures runs { RunsSync client.now
-        (sited diary.old.events (T.state target.old) (K.state keeper.old) tables.old
-        made.old.changes) result
-        (sited diary.new.events (T.state target.new) (K.state keeper.new) tables.new
-        made.new.changes) }
-{
     let mut site = Site {
         target,
         keeper,
@@ -131,7 +80,27 @@ fn hold<T: Target, K: Keeper>(
         diary,
         made,
     };
-    take_and_sync(alloc, &mut site, client)
+    make_session(alloc, &mut site, client)
+}
+
+/// Makes the session, and writes down where it begins and ends.
+fn make_session<S: Client>(
+    alloc: Global,
+    site: &mut S,
+    client: &ClientId,
+) -> Result<SyncReport, SyncErr>
+    requires tidy { IsTidy (S.site site.old) }
+
+    ensures session { AddsFrom client.now (S.site site.old) result (S.site site.new) }
+    ensures line { LineGoesBySync client.now (S.site site.old).line (S.site site.new).line }
+    ensures stays { S.place site.new ≡ S.place site.old }
+{
+    site.begin()?;
+    let outcome = take_and_sync(alloc, site, client);
+    if has_ended(&outcome) {
+        site.end()?;
+    }
+    outcome
 }
 
 /// Takes the lease, and syncs under it.

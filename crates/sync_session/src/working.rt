@@ -2,7 +2,7 @@ ghost use Rattle.session_opening.specs.Opening.{IsLawful, MergesBetween};
 ghost use Rattle.sync_session.specs.Working.{StartsSync, SyncWorks};
 
 use crate::exchanging::exchange;
-use crate::keys::{active_key, needs_key};
+use crate::keys::key_refusal;
 use crate::sync_err::SyncErr;
 use session::Session;
 use session_opening::open_session;
@@ -17,8 +17,8 @@ pub(crate) fn work<W: Session>(alloc: Global, s: &mut W) -> Result<(), SyncErr>
     ensures lawful { IsLawful (W.now s.new).lease (W.now s.new).site }
 {
     open_session(alloc, s)?;
-    if needs_key(s.tables()) {
-        return Err(SyncErr::NoKey(active_key(&s.tables().info)));
+    if let Some(why) = key_refusal(s.tables()) {
+        return Err(SyncErr::Refused(why));
     }
     exchange(alloc, s)?;
     Ok(())

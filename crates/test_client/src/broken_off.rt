@@ -1,4 +1,4 @@
-use conflicts::StepErr;
+use conflicts::{Refusal, StepErr};
 use keeper::KeeperErr;
 use lease::LeaseErr;
 use std::alloc::AllocError;
@@ -12,8 +12,10 @@ pub enum BrokenOff {
     Keeper,
     /// No lease was given.
     Lease,
-    /// A part of the session ended so.
-    Step(StepErr),
+    /// The target showed no item, while the client has a base of so many.
+    Emptied(u64),
+    /// A part of the session ended otherwise.
+    Step,
     /// The target seals, and no key is known.
     Sealed,
     NoMemory,
@@ -23,7 +25,7 @@ impl BrokenOff {
     /// Whether the target showed no item while the client has a base of so many.
     pub fn is_emptied(&self, count: u64) -> bool {
         match self {
-            BrokenOff::Step(StepErr::FailSafe(bases)) => *bases == count,
+            BrokenOff::Emptied(bases) => *bases == count,
             _ => false,
         }
     }
@@ -51,7 +53,8 @@ impl From<StepErr> for BrokenOff {
     fn from(error: StepErr) -> BrokenOff {
         match error {
             StepErr::NoMemory => BrokenOff::NoMemory,
-            _ => BrokenOff::Step(error),
+            StepErr::Refused(Refusal::FailSafe(count)) => BrokenOff::Emptied(count),
+            _ => BrokenOff::Step,
         }
     }
 }

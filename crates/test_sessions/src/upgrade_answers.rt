@@ -1,4 +1,5 @@
-use crate::upgraded::{Outcome, TWO, holds, id, place, upgrade, upgrade_noted};
+use crate::upgraded::{Outcome, TWO, holds, id, place, upgrade, upgrade_noted, version_after};
+use conflicts::Refusal;
 use jop_base::{Bytes, LockKind, LockName, Path};
 use jop_target::{Diary, MemTarget};
 use lease::{Lock, Seen};
@@ -28,16 +29,20 @@ fn lock(digits: &[u8]) -> Result<LockName, Fail> {
     })
 }
 
+const NEWER: Outcome = Err(SessionErr::Refused(Refusal::TargetNewer(4)));
+
+const BAD_INFO: Outcome = Err(SessionErr::Refused(Refusal::BadInfo));
+
 /// What `info.json` says, the number of the call that fails, and what an upgrade comes to.
 const INFOS: [(&[u8], u64, Outcome); 8] = [
     (b"{\"version\":3}", 0, Ok(3)),
     (b"{\"version\":3}", 6, Err(SessionErr::TargetFault)),
-    (b"{\"version\":4}", 0, Err(SessionErr::TargetNewer(4))),
-    (b"{\"version\":4}", 6, Err(SessionErr::TargetNewer(4))),
-    (b"{}", 0, Err(SessionErr::BadInfo)),
-    (b"{}", 6, Err(SessionErr::BadInfo)),
-    (b"{\"version\":-1}", 0, Err(SessionErr::BadInfo)),
-    (b"", 0, Err(SessionErr::BadInfo)),
+    (b"{\"version\":4}", 0, NEWER),
+    (b"{\"version\":4}", 6, NEWER),
+    (b"{}", 0, BAD_INFO),
+    (b"{}", 6, BAD_INFO),
+    (b"{\"version\":-1}", 0, BAD_INFO),
+    (b"", 0, BAD_INFO),
 ];
 
 #[test]
@@ -102,8 +107,8 @@ fn is_free(alloc: Global, next: u64) -> Result<bool, Fail> {
     let mut target = MemTarget::new(alloc, next, 1);
     let own = Path::Lock(lock(TWO)?);
     target.place(own, Bytes::new(alloc), 2)?;
-    let (outcome, _) = upgrade(alloc, &mut target)?;
-    Ok(outcome.is_ok())
+    let (version, _) = version_after(alloc, &mut target)?;
+    Ok(version.is_some())
 }
 
 /// A lock whose put failed, and landed, is in the way of another client as long as it lives.

@@ -58,6 +58,17 @@ pub(crate) fn upgrade<T: Target>(alloc: Global, target: &mut T) -> Result<(Outco
     Ok((outcome, diary.events().len()))
 }
 
+/// The version that it comes to, none if it ends otherwise, and the number of its events.
+pub(crate) fn version_after<T: Target>(
+    alloc: Global,
+    target: &mut T,
+) -> Result<(Option<u64>, usize), Fail> {
+    let mut diary = Diary::new(alloc);
+    let client = id(ONE)?;
+    let version = upgrade_on(alloc, target, &client, &mut diary).ok();
+    Ok((version, diary.events().len()))
+}
+
 fn is_whole(content: &Content, wanted: &[u8]) -> bool {
     match content {
         Content::Whole(bytes) => bytes.as_slice() == wanted,
@@ -85,8 +96,8 @@ fn is_new(tree: &Tree) -> bool {
 /// Whether an upgrade of an empty target leaves one that is new.
 fn is_set_up(alloc: Global) -> Result<bool, Fail> {
     let mut target = MemTarget::new(alloc, 0, 9000);
-    let (outcome, _) = upgrade(alloc, &mut target)?;
-    Ok(outcome == Ok(3) && is_new(target.tree()))
+    let (version, _) = version_after(alloc, &mut target)?;
+    Ok(version == Some(3) && is_new(target.tree()))
 }
 
 #[test]

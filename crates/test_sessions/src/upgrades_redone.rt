@@ -1,4 +1,4 @@
-use crate::upgraded::{TWO, holds, id, place, upgrade};
+use crate::upgraded::{TWO, holds, id, place, version_after};
 use jop_base::Path;
 use jop_target::MemTarget;
 use std::alloc::Global;
@@ -39,8 +39,8 @@ fn is_upgraded(target: &MemTarget) -> Result<bool, Fail> {
 
 /// Whether an upgrade of a target that keeps a key succeeds, with so many events.
 fn succeeds(alloc: Global, target: &mut MemTarget, events: usize) -> Result<bool, Fail> {
-    let outcome = upgrade(alloc, target)?;
-    Ok(outcome == (Ok(3), events) && is_upgraded(target)?)
+    let after = version_after(alloc, target)?;
+    Ok(after == (Some(3), events) && is_upgraded(target)?)
 }
 
 fn takes_a_key(alloc: Global) -> Result<bool, Fail> {
@@ -56,9 +56,9 @@ fn takes_the_keys_of_items_into_the_info(rt: HostRuntime) -> Result<(), Fail> {
 
 /// Whether an upgrade fails, and the next one succeeds.
 fn fails_once(alloc: Global, target: &mut MemTarget) -> Result<bool, Fail> {
-    let (first, _) = upgrade(alloc, target)?;
-    let (second, _) = upgrade(alloc, target)?;
-    Ok(first.is_err() && second == Ok(3) && is_upgraded(target)?)
+    let (first, _) = version_after(alloc, target)?;
+    let (second, _) = version_after(alloc, target)?;
+    Ok(first.is_none() && second == Some(3) && is_upgraded(target)?)
 }
 
 fn is_redone(alloc: Global, nth: u64, landed: bool) -> Result<bool, Fail> {

@@ -53,11 +53,7 @@ report_text r = bad_text r.bad ++ counts_text r
 abbrev pub sync_status : SyncErr → Status
 sync_status (sync_errors.Busy lock now) = statuses.Busy lock now
 sync_status (sync_errors.LeaseLost seen) = statuses.LeaseLost seen
-sync_status (sync_errors.TargetOlder version) = statuses.TargetOlder version
-sync_status (sync_errors.TargetNewer version) = statuses.TargetNewer version
-sync_status sync_errors.BadInfo = statuses.BadInfo
-sync_status (sync_errors.FailSafe count) = statuses.FailSafe count
-sync_status (sync_errors.NoKey key) = statuses.NoKey key
+sync_status (sync_errors.Refused why) = statuses.Refused why
 sync_status sync_errors.TargetFault = statuses.TargetFault
 sync_status sync_errors.KeeperFault = statuses.KeeperFault
 sync_status sync_errors.NoMemory = statuses.NoMemory

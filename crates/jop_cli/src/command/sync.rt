@@ -38,11 +38,7 @@ fn sync_status(error: SyncErr) -> Status
     match error {
         SyncErr::Busy { lock, now } => Status::Busy { lock, now },
         SyncErr::LeaseLost(seen) => Status::LeaseLost(seen),
-        SyncErr::TargetOlder(version) => Status::TargetOlder(version),
-        SyncErr::TargetNewer(version) => Status::TargetNewer(version),
-        SyncErr::BadInfo => Status::BadInfo,
-        SyncErr::FailSafe(count) => Status::FailSafe(count),
-        SyncErr::NoKey(key) => Status::NoKey(key),
+        SyncErr::Refused(why) => Status::Refused(why),
         SyncErr::TargetFault => Status::TargetFault,
         SyncErr::KeeperFault => Status::KeeperFault,
         SyncErr::NoMemory => Status::NoMemory,

@@ -1,10 +1,12 @@
 use Rattle.std.specs.Prelude.{refl}
 use Rattle.std.proofs.Common.{◌∙◌}
 use Rattle.std.proofs.lemmas.Result.{err_from_is_err_and}
-use Rattle.download.proofs.Paged.{listed_by, lists, page_at, refuses}
+use Rattle.download.proofs.Paged.{listed_by, lists, page_at}
 use Rattle.download.specs.Downloading.{is_download}
+use Rattle.download.specs.Reading.{RefusesDownload}
 use Rattle.jop_base.specs.declared.dir.Dir.TheVariants.{Root}
 use Rattle.jop_target.specs.declared.call.Call.TheVariants.{List as ListDir}
+use Rattle.session.proofs.Refusing.{not_refused}
 use Rattle.download.proofs.paging.list.Goals as goal
 
 pub last-requires : goal.last-requires
@@ -22,7 +24,8 @@ pub returns-in_err-ask : goal.returns-in_err-ask
 returns-in_err-ask g c = record {
   ends =
       let p = err_from_is_err_and c.from_residual.result c.from_residual.ensures.1 in
-      rw (p.1, p.2) (refuses _ _ _ (c.in_err-ask.ensures.ends is_download refl));
+      rw (p.1, p.2) (not_refused RefusesDownload is_download _ _ _
+      (c.in_err-ask.ensures.ends is_download refl));
 }
 
 pub returns : goal.returns

@@ -1,7 +1,7 @@
-use Rattle.std.proofs.Common.{Ok, refl}
-use Rattle.jop_cli.proofs.Runs.{acts_as, acts_emitted, comes_printed}
-use Rattle.jop_status.specs.Statuses.{usage_line}
-use Rattle.jop_words.specs.declared.verb.Verb.TheVariants.{Check, Help, Local, Sync, Tidy, Upgrade}
+use Rattle.std.proofs.Common.{ap}
+use Rattle.jop_cli.proofs.Runs.{acts_as}
+use Rattle.jop_cli.specs.Commands.Constants.{constant_of}
+use Rattle.jop_words.specs.declared.verb.Verb.TheVariants.{Check, Local, Sync, Tidy, Upgrade}
 use Rattle.jop_cli.proofs.program.obey.Goals as goal
 
 pub returns-in-Check-clause-acts : goal.returns-in-Check-clause-acts
@@ -11,9 +11,7 @@ returns-in-Check-clause-acts g c =
 
 pub returns-in-Help-clause-acts : goal.returns-in-Help-clause-acts
 returns-in-Help-clause-acts g c =
-    acts_as _ Help _ _ _ c.in-Help.is
-    (acts_emitted Help _ _ _ (Ok usage_line) _
-    (comes_printed Help _ usage_line c.requires.fresh refl (refl, refl)) c.emit.ensures.emits)
+    c.obey-in-Help.ensures.acts _ (ap constant_of c.in-Help.is)
 
 pub returns-in-Local-clause-acts : goal.returns-in-Local-clause-acts
 returns-in-Local-clause-acts g c =

@@ -1,27 +1,30 @@
 use Rattle.std.specs.Prelude.{refl}
 use Rattle.std.proofs.lemmas.Result.{err_from_is_err_and}
-use Rattle.session_opening.proofs.Going.{went_refused, went_up}
-use Rattle.session_opening.proofs.Opened.{lawful_joined, lawful_read, merges_joined, merges_read, opened, refuses, stops_joining}
-use Rattle.session_opening.specs.Opening.{is_joining, is_reading}
+use Rattle.session_opening.proofs.Opened.{lawful_joined, lawful_read, merges_joined, merges_read, opened, reading_within, stops_joining}
+use Rattle.session_opening.specs.Opening.{RefusesTarget, is_joining, is_opening, is_reading}
+use Rattle.session.proofs.Behind.{went_given_up}
+use Rattle.session.proofs.Refusing.{refuses_within, went_refused}
 use Rattle.session_opening.proofs.opening.open_session.Goals as goal
 
 pub returns-in_err-remote-clause-opens : goal.returns-in_err-remote-clause-opens
 returns-in_err-remote-clause-opens g c =
     let p = err_from_is_err_and c.from_residual.result c.from_residual.ensures.1 in
-    rw (p.1, p.2) (refuses _ _ _ c.in_err-remote.ensures.reads)
+    rw (p.1, p.2)
+    (refuses_within RefusesTarget is_reading is_opening _ _ _ reading_within
+    c.in_err-remote.ensures.reads)
 
 pub returns-in_err-remote-clause-lawful : goal.returns-in_err-remote-clause-lawful
 returns-in_err-remote-clause-lawful g c =
     let a = g.W.Session.now c.args.s.now in
     let b = g.W.Session.now c.read_supported.new.s in
     lawful_read a b c.requires.ready.held c.requires.sync c.requires.lawful
-    (went_refused is_reading a b _ c.in_err-remote.ensures.reads)
+    (went_refused RefusesTarget is_reading a b _ c.in_err-remote.ensures.reads)
 
 pub returns-in_err-remote-clause-merges : goal.returns-in_err-remote-clause-merges
 returns-in_err-remote-clause-merges g c =
     let a = g.W.Session.now c.args.s.now in
     let b = g.W.Session.now c.read_supported.new.s in
-    merges_read a b (went_refused is_reading a b _ c.in_err-remote.ensures.reads)
+    merges_read a b (went_refused RefusesTarget is_reading a b _ c.in_err-remote.ensures.reads)
 
 pub returns-in_err-join_info-clause-opens : goal.returns-in_err-join_info-clause-opens
 returns-in_err-join_info-clause-opens g c =
@@ -36,7 +39,8 @@ returns-in_err-join_info-clause-lawful g c =
     let b = now c.read_supported.new.s in
     let d = now c.join_info.new.s in
     (lawful_joined _ (now c.args.s.now) b d c.requires.ready c.requires.sync c.requires.lawful
-    c.in_ok-remote.ensures.reads (went_up is_joining b d _ c.in_err-join_info.ensures.ends.0)).lawful
+    c.in_ok-remote.ensures.reads
+    (went_given_up is_joining b d _ c.in_err-join_info.ensures.ends.0)).lawful
 
 pub returns-in_err-join_info-clause-merges : goal.returns-in_err-join_info-clause-merges
 returns-in_err-join_info-clause-merges g c =

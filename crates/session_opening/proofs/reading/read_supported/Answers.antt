@@ -4,7 +4,8 @@ use Rattle.std.proofs.lemmas.Result.{err_from_is_err_and}
 use Rattle.jop_base.specs.declared.path.Path.TheVariants.{Info as InfoFile}
 use Rattle.jop_target.specs.declared.call.Call.TheVariants.{Get}
 use Rattle.session_opening.proofs.Gets.{absent_refuses, absent_stops, takes, told_refuses}
-use Rattle.session_opening.specs.Opening.{is_reading}
+use Rattle.session_opening.specs.Opening.{RefusesTarget, is_reading}
+use Rattle.session.proofs.Refusing.{not_refused}
 use Rattle.session.specs.Asking.{IsAnswer}
 use Rattle.target_upgrade.specs.Reading.{Gives}
 use Rattle.session_opening.proofs.reading.read_supported.Goals as goal
@@ -22,7 +23,8 @@ told-requires g c =
 pub returns-in_err-ask : goal.returns-in_err-ask
 returns-in_err-ask g c = record {
   reads = let p = err_from_is_err_and c.from_residual.result c.from_residual.ensures.1 in
-      rw (p.1, p.2) (c.in_err-ask.ensures.ends is_reading refl);
+      rw (p.1, p.2) (not_refused RefusesTarget is_reading _ _ _
+      (c.in_err-ask.ensures.ends is_reading refl));
 }
 
 pub returns-in_err-info : goal.returns-in_err-info

@@ -1,22 +1,37 @@
+use Rattle.std.proofs.Common.{◌≡◌, ap, rules, sym}
+use Rattle.client.specs.Sites.{Place}
 use Rattle.sync_run.proofs.Leases.{Laws}
 use Rattle.sync_session.proofs.Promised.{keeps_from, licensed_from}
+use Rattle.sync_session.proofs.Ran.{adds_as, is_site, line_as}
 use Rattle.sync_session.proofs.syncing.sync_on.Goals as goal
 
-pub returns-clause-keeps : goal.returns-clause-keeps
-returns-clause-keeps g c =
+-- what it works on stays where it is
+pub returns : goal.returns
+returns g c =
+    let client = c.args.client.now in
+    let made = c.make_session.ensures in
+    let stays = sym made.stays in
+    let site = c.make_session.new.site in
+    let target : _ ≡ site.target.ghost_name = ap (λ (p : Place). p.target) stays in
+    let keeper : _ ≡ site.keeper.ghost_name = ap (λ (p : Place). p.keeper) stays in
+    let tables : _ ≡ site.tables.ghost_name = ap (λ (p : Place). p.tables) stays in
+    let diary : _ ≡ site.diary.ghost_name = ap (λ (p : Place). p.diary) stays in
+    let changes : _ ≡ site.made.ghost_name = ap (λ (p : Place). p.made) stays in
+    let is = is_site _ _ (search rules) (search rules) (search rules) (search rules)
+    (search rules) in
+    let session = adds_as client _ _ _ _ made.session is in
     let laws : Laws = record {
       apart = c.held_apart.ensures.joined;
       exclusive = c.exclusive.ensures.joined;
       named = c.blocked.ensures.named;
     } in
-    keeps_from c.args.client.now _ _ _ laws c.make_session.ensures.session
-
-pub returns-clause-licensed : goal.returns-clause-licensed
-returns-clause-licensed g c =
-    licensed_from c.args.client.now _ _ _ c.make_session.ensures.session
-
-pub returns-clause-kept : goal.returns-clause-kept
-returns-clause-kept g c = λ added changes trail made.
-    let licensed = licensed_from c.args.client.now _ _ _ c.make_session.ensures.session added
-    changes trail made in
-    c.notes_are_kept_by_tables.ensures.joined c.args.client.now _ added changes licensed.0
+    let licensed = licensed_from client _ _ _ session in
+    record {
+      session = session;
+      line = line_as client _ _ _ made.line is;
+      keeps = keeps_from client _ _ _ laws session;
+      licensed = licensed;
+      kept = λ added changes trail made.
+          c.notes_are_kept_by_tables.ensures.joined client _ added changes
+          (licensed added changes trail made).0;
+    }

@@ -1,21 +1,20 @@
-use Rattle.std.proofs.Common.{◌∙◌, ap, sym}
+use Rattle.std.proofs.Common.{◌∙◌, Option, ap, subst, sym}
 use Rattle.std.proofs.lemmas.Result.{err_from_is_err_and}
-use Rattle.sync_session.proofs.Worked.{can_put, lacks_key, lawful_behind, merges_behind, opened, unput_opened, went_stopped, works_behind, works_done, works_refused}
-use Rattle.sync_session.specs.Keys.{needs_key}
+use Rattle.conflicts.specs.declared.refusal.Refusal.{Refusal}
+use Rattle.sync_session.proofs.Worked.{can_put, lawful_behind, merges_behind, opened, unput_opened, went_stopped, works_behind, works_done, works_keyless, works_unopened}
+use Rattle.sync_session.specs.Keys.{RefusesKeysOr, needs_key}
 use Rattle.sync_session.proofs.working.work.Goals as goal
 
 pub returns-in_err-open_session-clause-ends : goal.returns-in_err-open_session-clause-ends
 returns-in_err-open_session-clause-ends g c =
     let p = err_from_is_err_and c.from_residual.result c.from_residual.ensures.1 in
-    rw (p.1, p.2) (works_refused _ _ _ c.in_err-open_session.ensures.opens)
+    rw (p.1, p.2) (works_unopened _ _ _ c.in_err-open_session.ensures.opens)
 
-pub returns-then-needs_key-clause-ends : goal.returns-then-needs_key-clause-ends
-returns-then-needs_key-clause-ends g c =
-    lacks_key _ _ c.tables-then-needs_key.result.now _ c.in_ok-open_session.ensures.opens
-    c.tables-then-needs_key.ensures
-    (ap needs_key (c.tables-then-needs_key.ensures ∙ sym c.tables.ensures)
-    ∙ (sym c.needs_key.ensures ∙ c.if-needs_key.true))
-    c.active_key.ensures
+pub returns-in-Some-clause-ends : goal.returns-in-Some-clause-ends
+returns-in-Some-clause-ends g c =
+    works_keyless _ _ c.tables.result.now _ c.in_ok-open_session.ensures.opens c.tables.ensures
+    (subst (λ (o : Option Refusal). RefusesKeysOr c.tables.result.now o) c.in-Some.is
+    c.key_refusal.ensures)
 
 pub exchange-requires : goal.exchange-requires
 exchange-requires g c =
@@ -27,7 +26,8 @@ exchange-requires g c =
         readable =
             can_put b.site.tables
             (ap needs_key (sym c.tables.ensures)
-            ∙ (sym c.needs_key.ensures ∙ c.if-needs_key.false));
+            ∙ subst (λ (o : Option Refusal). RefusesKeysOr c.tables.result.now o) c.in_default.is
+            c.key_refusal.ensures);
         first = unput_opened (now c.args.s.now) b c.requires.starts.first c.in_ok-open_session.ensures.opens;
       };
     }

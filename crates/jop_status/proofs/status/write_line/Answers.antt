@@ -1,7 +1,4 @@
-use Rattle.jop_status.proofs.status_line.write_line.Goals as goal
-
-pub returns-in-FailSafe : goal.returns-in-FailSafe
-returns-in-FailSafe g c = rw (c.in-FailSafe.is) c.write_within.ensures
+use Rattle.jop_status.proofs.status.write_line.Goals as goal
 
 pub returns-in-TargetFault : goal.returns-in-TargetFault
 returns-in-TargetFault g c = rw (c.in-TargetFault.is) c.write_word-in-TargetFault.ensures
