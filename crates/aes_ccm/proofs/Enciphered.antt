@@ -3,7 +3,7 @@ use Rattle.std.proofs.Common.{◌≡◌, ℕ, zero, suc, ◌+◌, ◌-◌, ◌*�
 use Rattle.std.proofs.lemmas.List.{drop-take, take-take}
 use Rattle.aes_ccm.specs.Lists.{xored}
 use Rattle.aes_ccm.specs.Aes.{aes, after_rounds, mix_columns, round_key, rounds_of, schedule, shift_rows, state_after, sub_bytes}
-use Rattle.aes_ccm.specs.Schedule.{key_in, IsSchedule}
+use Rattle.aes_ccm.specs.Schedule.{scheduled_key, IsSchedule}
 use Rattle.aes_ccm.specs.declared.aes.Aes.TheInside.{Inside}
 
 -- one round more
@@ -42,9 +42,9 @@ after_rounds-take words block rounds m some lt =
     ∙ ap (xored (shift_rows (sub_bytes (state_after words block (rounds - 1))))) (round_key-take words rounds m lt)
 
 -- the rounds of the words that an `Aes` holds are those of its key
-pub enciphered : (a : Inside) (block : List ℕ) → IsSchedule a → 1 ≤ a.rounds → after_rounds a.words block a.rounds ≡ aes (key_in a) block
+pub enciphered : (a : Inside) (block : List ℕ) → IsSchedule a → 1 ≤ a.rounds → after_rounds a.words block a.rounds ≡ aes (scheduled_key a) block
 unfolding aes
 enciphered a block held some =
     sym (after_rounds-take a.words block a.rounds (a.rounds + 1) some (omega arith))
     ∙ ap (λ (ws : List ℕ). after_rounds ws block a.rounds) held.words
-    ∙ ap (after_rounds (schedule (key_in a)) block) held.rounds
+    ∙ ap (after_rounds (schedule (scheduled_key a)) block) held.rounds

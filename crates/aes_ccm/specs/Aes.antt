@@ -6,8 +6,8 @@ use Rattle.aes_ccm.specs.Lists.{xored}
 -- ---- a state of 16 bytes: four rows, which stand column by column (3.4)
 
 -- the byte in a row and a column
-abbrev pub at : List ℕ → ℕ → ℕ → ℕ
-at s row column = slice_index s (row + 4 * column)
+abbrev pub byte_at : List ℕ → ℕ → ℕ → ℕ
+byte_at s row column = slice_index s (row + 4 * column)
 
 -- the state whose byte in each row and column is that of f
 abbrev pub state_of : (ℕ → ℕ → ℕ) → List ℕ
@@ -21,7 +21,7 @@ sub_bytes s = map substituted s
 
 -- row r turned left by r places (5.1.2)
 abbrev pub shift_rows : List ℕ → List ℕ
-shift_rows s = state_of (λ r c. at s r ((c + r) % 4))
+shift_rows s = state_of (λ r c. byte_at s r ((c + r) % 4))
 
 -- one byte of a mixed column, from the column's bytes from that place on
 abbrev pub mixed : ℕ → ℕ → ℕ → ℕ → ℕ
@@ -30,7 +30,8 @@ mixed a b c d = bit_xor (bit_xor (bit_xor (product 2 a) (product 3 b)) c) d
 -- each column multiplied by the fixed matrix (5.1.3)
 abbrev pub mix_columns : List ℕ → List ℕ
 mix_columns s = state_of (λ r c.
-    mixed (at s r c) (at s ((r + 1) % 4) c) (at s ((r + 2) % 4) c) (at s ((r + 3) % 4) c))
+    mixed (byte_at s r c) (byte_at s ((r + 1) % 4) c)
+    (byte_at s ((r + 2) % 4) c) (byte_at s ((r + 3) % 4) c))
 
 -- ---- the key schedule (5.2), a list of words of four bytes, one behind the other
 

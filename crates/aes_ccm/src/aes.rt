@@ -17,9 +17,9 @@ impl Model for Aes {
 
     ghost Value = { List ℕ };
 
-    ghost use Rattle.aes_ccm.specs.Schedule.{key_in, IsSchedule};
+    ghost use Rattle.aes_ccm.specs.Schedule.{scheduled_key, IsSchedule};
 
-    ghost view = { key_in };
+    ghost view = { scheduled_key };
 
     ghost invariant = { IsSchedule };
 }

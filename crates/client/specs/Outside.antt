@@ -10,7 +10,7 @@ use Rattle.jop_outside.specs.declared.failed.Failed.{Failed}
 use Rattle.jop_outside.specs.declared.reading.ReadErr.{ReadErr}
 use Rattle.jop_target.specs.Trail.{LineNow}
 use Rattle.jop_target.specs.declared.event.Event.TheVariants.{Made}
-use Rattle.keeper.specs.Keepers.{IsOfKept, KeeperNow, changed, with_blob}
+use Rattle.keeper.specs.Keepers.{IsOfKept, KeeperNow, changed, with_saved_blob}
 use Rattle.keeper.specs.declared.keeper_err.KeeperErr.{KeeperErr}
 use Rattle.keeper.specs.declared.keeper_err.KeeperErr.TheVariants.{Fault, NoMemory}
 use Rattle.local_store.specs.Sound.{IsSound}
@@ -44,7 +44,7 @@ pub record OutsidePlace : Type 0 where
 -- ---- the keeper
 
 -- these are the tables that are kept, if that is told, and they are sound
-pub record AreKept (keeper : KeeperNow) (t : Tables) : Type 0 where
+pub record AreKeptTables (keeper : KeeperNow) (t : Tables) : Type 0 where
   pub told : IsOfKept keeper.kept t
   pub sound : IsSound t
 
@@ -55,7 +55,7 @@ pub record HasKeeperFailed (old new : OutsideNow) : Type 0 where
 
 -- what a reading of the tables comes to
 abbrev pub ReadsTables : OutsideNow → Result Tables KeeperErr → OutsideNow → Type 0
-ReadsTables old (Ok t) new = AreKept old.keeper t × (new ≡ old)
+ReadsTables old (Ok t) new = AreKeptTables old.keeper t × (new ≡ old)
 ReadsTables old (Err Fault) new = HasKeeperFailed old new
 ReadsTables old (Err NoMemory) new = new ≡ old
 
@@ -70,8 +70,9 @@ with_change change o = record o {
 
 -- the bytes of a resource are saved, if the keeper tells
 abbrev pub with_bytes : List ℕ → List ℕ → OutsideNow → OutsideNow
-with_bytes id bytes o =
-    record o { keeper = record o.keeper { kept = option_map (with_blob id bytes) o.keeper.kept } }
+with_bytes id bytes o = record o {
+  keeper = record o.keeper { kept = option_map (with_saved_blob id bytes) o.keeper.kept };
+}
 
 -- what is done to the keeper is done whole, or nothing is
 abbrev pub DoesOr : (OutsideNow → OutsideNow) → OutsideNow → Result (Unit {0}) KeeperErr → OutsideNow → Type 0

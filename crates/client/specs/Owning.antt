@@ -31,14 +31,14 @@ pub record WasNamed (client : List ℕ) (before after : OutsideNow) : Type 0 whe
   pub same : after ≡ before
 
 -- the tables named none; its id was drawn, and they name it now
-pub record IsNamed (client : List ℕ) (before after : OutsideNow) : Type 0 where
+pub record BecomesNamed (client : List ℕ) (before after : OutsideNow) : Type 0 where
   pub unnamed : NamesClient before.keeper.kept None
   pub drawn : Draws before.entropy.left (Ok client) after.entropy.left
   pub made : after ≡ with_change (Named client) (record before { entropy = after.entropy })
 
 -- Each answer, by its cause. What is refused changes nothing; an id may have been drawn by then.
 abbrev pub Owns : OutsideNow → Result (List ℕ) OwnErr → OutsideNow → Type 0
-Owns before (Ok client) after = WasNamed client before after ⊎ IsNamed client before after
+Owns before (Ok client) after = WasNamed client before after ⊎ BecomesNamed client before after
 Owns before (Err KeeperFault) after =
     HasKeeperFailed (record before { entropy = after.entropy }) after
 Owns before (Err EntropyFault) after =

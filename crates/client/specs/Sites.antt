@@ -5,7 +5,7 @@ use Rattle.jop_target.specs.Trail.{LineNow}
 use Rattle.jop_target.specs.declared.event.Event.{Event}
 use Rattle.jop_target.specs.declared.event.Event.TheVariants.{Made}
 use Rattle.local_store.specs.Changing.{after}
-use Rattle.keeper.specs.Keepers.{KeeperNow, Kept, IsOfKept, changed, with_blob}
+use Rattle.keeper.specs.Keepers.{KeeperNow, Kept, IsOfKept, changed, with_saved_blob}
 use Rattle.local_store.specs.Sound.{IsSound}
 use Rattle.local_store.specs.declared.change.Change.{Change}
 use Rattle.keeper.specs.declared.keeper_err.KeeperErr.{KeeperErr}
@@ -70,7 +70,7 @@ AddsOr change old (Err e) new = new ≡ old
 
 -- The change is kept, if the keeper tells, is the last of those that were made, and the trail ends with its number,
 -- counted from 0.
-pub record IsMade (change : Change) (old new : SiteNow) : Type 0 where
+pub record IsMadeChange (change : Change) (old new : SiteNow) : Type 0 where
   pub kept : new.keeper.kept ≡ option_map (changed change) old.keeper.kept
   pub line : new.line ≡ record old.line { trail = old.line.trail ++ Made (length old.made) ∷ [] }
   pub made : new.made ≡ old.made ++ change ∷ []
@@ -89,7 +89,8 @@ IsSameButKeeper old new =
 
 -- the bytes of a resource are kept, in place of those that were
 abbrev pub KeepsBytes : List ℕ → List ℕ → SiteNow → SiteNow → Type 0
-KeepsBytes id bytes old new = new.keeper.kept ≡ option_map (with_blob id bytes) old.keeper.kept
+KeepsBytes id bytes old new =
+    new.keeper.kept ≡ option_map (with_saved_blob id bytes) old.keeper.kept
 
 -- so it is of the last of these changes, if there are any
 abbrev pub IfLast : List Change → (Change → Type 0) → Type 0
@@ -98,7 +99,7 @@ IfLast changes So =
 
 -- the change was made, and the tables are those after it
 pub record IsChanged (change : Change) (old new : SiteNow) : Type 0 where
-  pub made : IsMade change old new
+  pub made : IsMadeChange change old new
   pub tables : new.tables ≡ after old.tables change
   pub tidy : IsTidy new
 
@@ -107,4 +108,4 @@ pub record IsChanged (change : Change) (old new : SiteNow) : Type 0 where
 abbrev pub Commits : Change → SiteNow → Result (Unit {0}) KeeperErr → SiteNow → Type 0
 Commits change old (Ok done) new = IsChanged change old new
 Commits change old (Err Fault) new = IsUnmade old new
-Commits change old (Err NoMemory) new = IsUnmade old new ⊎ IsMade change old new
+Commits change old (Err NoMemory) new = IsUnmade old new ⊎ IsMadeChange change old new

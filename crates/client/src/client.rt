@@ -3,7 +3,7 @@ ghost use Rattle.client.specs.Sites.{Commits, IsSameButKeeper, IsSameSite, IsTid
 ghost use Rattle.client.specs.Sites.{Place, SiteNow, WritesDown};
 ghost use Rattle.jop_target.specs.Running.{is_running};
 ghost use Rattle.jop_target.specs.declared.event.Event.TheVariants.{Began, Ended};
-ghost use Rattle.keeper.specs.Keepers.{HasCause, IsBlobOfKept};
+ghost use Rattle.keeper.specs.Keepers.{HasKeeperCause, IsBlobOfKept};
 ghost use Rattle.local_store.specs.Sound.{IsAllowed};
 
 use jop_base::{Bytes, Id};
@@ -40,14 +40,16 @@ pub trait Client: Line {
         requires tidy { IsTidy (site self.old) }
         requires allowed { IsAllowed change }
         ensures commits { Commits change (site self.old) result (site self.new) }
-        ensures cause { HasCause (site self.old).keeper.faults result (site self.new).keeper.faults }
+        ensures cause { HasKeeperCause
+            (site self.old).keeper.faults result (site self.new).keeper.faults }
         ensures stays { place self.new ≡ place self.old };
 
     /// The bytes of the resource of this id that the keeper has. None if it has none.
     fn load_blob(&mut self, alloc: Global, id: &Id) -> Result<Option<Bytes>, KeeperErr>
         ensures told { IfOk result (λ bytes. IsBlobOfKept (site self.old).keeper.kept id.now bytes) }
         ensures same { IsUnmade (site self.old) (site self.new) }
-        ensures cause { HasCause (site self.old).keeper.faults result (site self.new).keeper.faults }
+        ensures cause { HasKeeperCause
+            (site self.old).keeper.faults result (site self.new).keeper.faults }
         ensures stays { place self.new ≡ place self.old };
 
     /// Has the keeper save the bytes of a resource, in place of those that are there.
@@ -55,7 +57,8 @@ pub trait Client: Line {
         ensures ok { OnOk result (KeepsBytes id.now bytes.now (site self.old) (site self.new)) }
         ensures err { OnErr result ((site self.new).keeper.kept ≡ (site self.old).keeper.kept) }
         ensures same { IsSameButKeeper (site self.old) (site self.new) }
-        ensures cause { HasCause (site self.old).keeper.faults result (site self.new).keeper.faults }
+        ensures cause { HasKeeperCause
+            (site self.old).keeper.faults result (site self.new).keeper.faults }
         ensures stays { place self.new ≡ place self.old };
 
     ghost same_line: { (a : Self) → (site a).line ≡ Self.state a };

@@ -1,6 +1,6 @@
 ghost use Rattle.std.specs.Prelude.{◌≡◌, OnErr, OnOk, length, option_map};
 ghost use Rattle.client.specs.Sites.{KeepsOr, NotesOr, AddsOr};
-ghost use Rattle.keeper.specs.Keepers.{HasCause, changed};
+ghost use Rattle.keeper.specs.Keepers.{HasKeeperCause, changed};
 ghost use Rattle.local_store.specs.Sound.{IsAllowed};
 ghost use Rattle.std.specs.Prelude.{◌++◌, ◌∷◌, [], ◌≤◌};
 ghost use Rattle.jop_target.specs.declared.event.Event.TheVariants.{Made};
@@ -24,7 +24,7 @@ pub fn commit<K: Keeper>(
     ensures kept { KeepsOr change (K.state keeper.old).kept result (K.state keeper.new).kept }
     ensures trail { NotesOr made.old.changes diary.old.events result diary.new.events }
     ensures made { AddsOr change made.old.changes result made.new.changes }
-    ensures cause { HasCause (K.state keeper.old).faults result (K.state keeper.new).faults }
+    ensures cause { HasKeeperCause (K.state keeper.old).faults result (K.state keeper.new).faults }
 {
     match keep(alloc, keeper, diary, made, &change) {
         Ok(()) => Ok(note(diary, made, change)),
@@ -45,7 +45,7 @@ fn keep<K: Keeper>(
 ) -> Result<(), KeeperErr>
     requires { IsAllowed change.now }
     ensures kept { KeepsOr change.now (K.state keeper.old).kept result (K.state keeper.new).kept }
-    ensures cause { HasCause (K.state keeper.old).faults result (K.state keeper.new).faults }
+    ensures cause { HasKeeperCause (K.state keeper.old).faults result (K.state keeper.new).faults }
     ensures same { (diary.new.events ≡ diary.old.events) × (made.new.changes ≡ made.old.changes) }
     ensures room { OnOk result ((1 ≤ diary.new.room) × (1 ≤ made.new.room)) }
 {

@@ -1,5 +1,5 @@
 ghost use Rattle.std.specs.Prelude.{◌≡◌, IfOk, None, OnOk};
-ghost use Rattle.client.specs.Outside.{AreKept};
+ghost use Rattle.client.specs.Outside.{AreKeptTables};
 ghost use Rattle.client.specs.Owning.{NamesClient, Owns, client_of};
 ghost use Rattle.local_store.specs.Sound.{IsSound};
 
@@ -20,7 +20,7 @@ pub struct Known {
 /// else is changed; what is refused changes nothing.
 pub fn known_client<O: Outside>(alloc: Global, outside: &mut O) -> Result<Known, OwnErr>
     ensures owns { Owns (O.now outside.old) (client_of result) (O.now outside.new) }
-    ensures kept { IfOk result (λ known. AreKept (O.now outside.new).keeper known.tables) }
+    ensures kept { IfOk result (λ known. AreKeptTables (O.now outside.new).keeper known.tables) }
     ensures stays { O.place outside.new ≡ O.place outside.old }
 {
     let mut tables = outside.read_tables(alloc)?;
@@ -43,10 +43,10 @@ fn name_client<O: Outside>(
     outside: &mut O,
     tables: &mut Tables,
 ) -> Result<ClientId, OwnErr>
-    requires kept { AreKept (O.now outside.old).keeper tables.old }
+    requires kept { AreKeptTables (O.now outside.old).keeper tables.old }
     requires unnamed { NamesClient (O.now outside.old).keeper.kept None }
     ensures owns { Owns (O.now outside.old) result (O.now outside.new) }
-    ensures kept { OnOk result (AreKept (O.now outside.new).keeper tables.new) }
+    ensures kept { OnOk result (AreKeptTables (O.now outside.new).keeper tables.new) }
     ensures sound { IsSound tables.new }
     ensures stays { O.place outside.new ≡ O.place outside.old }
 {

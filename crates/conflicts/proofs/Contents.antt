@@ -3,10 +3,10 @@ use Rattle.std.specs.Prelude.{ℕ, ◌≡◌, List, Bool, true, false, codes, if
 use Rattle.std.proofs.Common.{sym, ap, ◌∙◌}
 use Rattle.jop_base.proofs.KeyedLaws.{same_text, bytes_eq-refl}
 use Rattle.jop_base.specs.Id.{IsIdText}
-use Rattle.item_text.specs.Props.{value_of}
+use Rattle.item_text.specs.Props.{value_of, is_text}
 use Rattle.item_text.specs.Valid.{IsItem}
 use Rattle.item_text.specs.declared.item.Item.{Item}
-use Rattle.law_licences.specs.Items.{content_without_keys, is_text, says}
+use Rattle.law_licences.specs.Items.{content_without_keys, says}
 use Rattle.local_store.specs.Sound.{IsContentOf, IsItemOf}
 use Rattle.local_store.specs.declared.content.Content.TheVariants.{Plain, Sealed}
 

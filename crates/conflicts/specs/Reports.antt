@@ -1,6 +1,6 @@
 -- What a session has done, in numbers.
 use Rattle.std.specs.Prelude.{ℕ, ◌+◌, ◌-◌, ◌^◌, min, List, [], ◌∷◌, ◌++◌, Bool, true, false, if◌then◌else◌}
-use Rattle.delta.specs.Order.{has}
+use Rattle.delta.specs.Order.{includes}
 use Rattle.local_store.specs.declared.change.Change.{Change}
 use Rattle.local_store.specs.declared.change.Change.TheVariants.{Uploaded, Dropped, Taken, Conflict, Moved, Gone}
 use Rattle.conflicts.specs.declared.report.SyncReport.{SyncReport}
@@ -51,7 +51,7 @@ counted r change = with_tally r (tally_of change)
 
 -- the ids with this one behind them, unless it stands there
 abbrev pub with_bad_id : List (List ℕ) → List ℕ → List (List ℕ)
-with_bad_id ids id = if has ids id then ids else ids ++ id ∷ []
+with_bad_id ids id = if includes ids id then ids else ids ++ id ∷ []
 
 -- the report once the file of this id can't be read
 abbrev pub with_bad : SyncReport → List ℕ → SyncReport

@@ -1,5 +1,5 @@
 ghost use Rattle.std.specs.Prelude.{◌≡◌, OnOk, OnErr, bytes_eq};
-ghost use Rattle.delta.specs.Order.{has};
+ghost use Rattle.delta.specs.Order.{includes};
 ghost use Rattle.conflicts.specs.Reports.{new_report, with_bad, with_tally};
 
 use crate::tally::Tally;
@@ -33,7 +33,7 @@ fn is_same(id: &Id, other: &Id) -> bool
 
 /// Whether the id stands among these.
 fn has(ids: &[Id], id: &Id) -> bool
-    ensures { result ≡ has ids.now id.now }
+    ensures { result ≡ includes ids.now id.now }
 {
     for other in ids {
         if is_same(id, other) {

@@ -7,10 +7,11 @@ use Rattle.httpdate.specs.Date.{unix_secs, date_text}
 use Rattle.httpdate.specs.declared.date.HttpDate.{HttpDate}
 use Rattle.jop_base.specs.Paths.{file_name}
 use Rattle.jop_base.specs.declared.dir.Dir.{Dir}
+use Rattle.jop_base.proofs.PathTexts.{path_unique}
 use Rattle.jop_target.specs.declared.reply.Entry.{Entry}
 use Rattle.dav_parts.specs.Targets.{dir_target}
-use Rattle.dav_parts.specs.Multistatus.{has_open, href_open, date_open, entry_close, ending, heading, folder_close, with_line, with_date, with_folder, AreLines, AreListable, IsMultistatus, IsFileAt, IsLineOf, Follows, ReadsLines, ReadsMultistatus}
-use Rattle.dav_parts.proofs.PathLemmas.{open_append, name_opens_not, path_unique}
+use Rattle.dav_parts.specs.Multistatus.{has_open, href_open, date_open, entry_close, ending, heading, folder_close, with_line, with_date, folder_lines, AreLines, AreListable, IsMultistatus, IsFileAt, IsLineOf, ComesAfter, ReadsLines, ReadsMultistatus}
+use Rattle.dav_parts.proofs.PathLemmas.{open_append, name_opens_not}
 use Rattle.dav_parts.proofs.DateLemmas.{date_long, same_secs}
 
 -- what a missing value says, said otherwise
@@ -119,11 +120,11 @@ no_line dir before rest goes none [] h = goes h
 no_line dir before rest goes none (e ∷ more) h = none e h.0 h.1
 
 pub no_follower : (dir : Dir) (before : Option Entry) (rest : List ℕ) (e : Entry) (r : List ℕ)
-    → (rest ≡ ending → ⊥) → IsLineOf dir e rest r → (Follows before e → ⊥) → (more : List Entry)
+    → (rest ≡ ending → ⊥) → IsLineOf dir e rest r → (ComesAfter before e → ⊥) → (more : List Entry)
     → ReadsLines dir before more rest → ⊥
 no_follower dir before rest e r goes line not [] h = goes h
 no_follower dir before rest e r goes line not (f ∷ more) h =
-    not (subst (λ (x : Entry). Follows before x) (line_unique dir f e rest h.0 r h.1 line).0 h.2)
+    not (subst (λ (x : Entry). ComesAfter before x) (line_unique dir f e rest h.0 r h.1 line).0 h.2)
 
 pub one_line : (dir : Dir) (before : Option Entry) (rest : List ℕ) (e : Entry) (r : List ℕ)
     → (rest ≡ ending → ⊥) → IsLineOf dir e rest r → (more : List Entry)
@@ -160,13 +161,13 @@ same_front a b x y text t u x-is y-is e f =
     let whole : a ++ (b ++ t) ≡ a ++ (b ++ u) = sym (e ∙ (λ i. x-is i ++ (y-is i ++ t))) ∙ f in
     append_cancel_left b t u (append_cancel_left a (b ++ t) (b ++ u) whole)
 
-pub folder_unique : (dir : Dir) (a b : List ℕ) → with_folder dir a ≡ with_folder dir b → a ≡ b
+pub folder_unique : (dir : Dir) (a b : List ℕ) → folder_lines dir a ≡ folder_lines dir b → a ≡ b
 folder_unique dir a b e = append_cancel_left folder_close a b (append_cancel_left (dir_target dir)
     (folder_close ++ a) (folder_close ++ b) (append_cancel_left href_open _ _
     (append_cancel_left heading _ _ e)))
 
 pub read_whole : (dir : Dir) (body lines : List ℕ) (found : Option (List Entry))
-    → body ≡ with_folder dir lines → MatchOption found ((entries : List Entry)
+    → body ≡ folder_lines dir lines → MatchOption found ((entries : List Entry)
     → ReadsLines dir None entries lines → ⊥) (λ entries. ReadsLines dir None entries lines)
     → MatchOption found ((entries : List Entry) → ReadsMultistatus dir entries body → ⊥) (λ entries.
     ReadsMultistatus dir entries body)

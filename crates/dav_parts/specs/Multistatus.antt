@@ -39,8 +39,8 @@ ending = codes "</d:multistatus>\n"
 -- ---- the lines
 
 -- the lines that stand for the folder itself, before a rest
-abbrev pub with_folder : Dir → List ℕ → List ℕ
-with_folder dir rest = heading ++ (href_open ++ (dir_target dir ++ (folder_close ++ rest)))
+abbrev pub folder_lines : Dir → List ℕ → List ℕ
+folder_lines dir rest = heading ++ (href_open ++ (dir_target dir ++ (folder_close ++ rest)))
 
 -- the first half of a file's line, before a rest
 abbrev pub with_name : Dir → List ℕ → List ℕ → List ℕ
@@ -64,7 +64,7 @@ AreLines dir (entry ∷ entries) text =
 
 -- the body that lists these files of the folder
 abbrev pub IsMultistatus : Dir → List Entry → List ℕ → Type 0
-IsMultistatus dir entries text = (rest : List ℕ) × (text ≡ with_folder dir rest)
+IsMultistatus dir entries text = (rest : List ℕ) × (text ≡ folder_lines dir rest)
     × AreLines dir entries rest
 
 -- ---- reading
@@ -89,21 +89,21 @@ IsLineOf dir entry text rest =
     × IsFileAt dir entry behind rest
 
 -- the file comes after the one before it, by the texts of their paths
-abbrev pub Follows : Option Entry → Entry → Type 0
-Follows None entry = Unit {0}
-Follows (Some before) entry = path_cmp before.path entry.path ≡ Less
+abbrev pub ComesAfter : Option Entry → Entry → Type 0
+ComesAfter None entry = Unit {0}
+ComesAfter (Some before) entry = path_cmp before.path entry.path ≡ Less
 
 -- the lines of these files, which come after one before them, in rising order and so each once; and
 -- the end
 abbrev pub ReadsLines : Dir → Option Entry → List Entry → List ℕ → Type 0
 ReadsLines dir before [] text = text ≡ ending
 ReadsLines dir before (entry ∷ entries) text =
-    (rest : List ℕ) × IsLineOf dir entry text rest × Follows before entry
+    (rest : List ℕ) × IsLineOf dir entry text rest × ComesAfter before entry
     × ReadsLines dir (Some entry) entries rest
 
 -- the body from which these files are read
 abbrev pub ReadsMultistatus : Dir → List Entry → List ℕ → Type 0
-ReadsMultistatus dir entries text = (rest : List ℕ) × (text ≡ with_folder dir rest)
+ReadsMultistatus dir entries text = (rest : List ℕ) × (text ≡ folder_lines dir rest)
     × ReadsLines dir None entries rest
 
 -- files of the folder, with whole seconds, that come after the one before, in rising order and so
@@ -112,5 +112,5 @@ abbrev pub AreListable : Dir → Option Entry → List Entry → Type 0
 AreListable dir before [] = Unit {0}
 AreListable dir before (entry ∷ entries) =
     (entry.stamp ≡ entry.stamp / 1_000 * 1_000) × (dir_of entry.path ≡ dir) × IsPath entry.path
-    × Follows before entry
+    × ComesAfter before entry
     × AreListable dir (Some entry) entries

@@ -2,7 +2,7 @@ ghost use Rattle.std.specs.Prelude.{◌≡◌, ◌++◌, ◌↔◌, ℕ, List, I
 ghost use Rattle.httpdate.specs.Date.{date_text};
 ghost use Rattle.httpdate.specs.declared.date.HttpDate.{HttpDate as Date};
 ghost use Rattle.jop_target.specs.declared.reply.Entry.{Entry};
-ghost use Rattle.dav_parts.specs.Multistatus.{date_open, entry_close, with_folder, has_open, IsFileAt, IsLineOf, Follows, ReadsLines, ReadsMultistatus};
+ghost use Rattle.dav_parts.specs.Multistatus.{date_open, entry_close, folder_lines, has_open, IsFileAt, IsLineOf, ComesAfter, ReadsLines, ReadsMultistatus};
 
 use crate::date::read_date;
 use crate::layout::{date_open, ending, entry_close, folder_close, heading, href_open};
@@ -123,7 +123,7 @@ fn line_at(dir: Dir, text: &[u8]) -> Option<(Entry, &[u8])>
 
 /// Whether a file comes after the one before it, in the order of paths.
 fn follows(before: &Option<Entry>, entry: &Entry) -> bool
-    ensures { IsTrue result ↔ Follows before.now entry.now }
+    ensures { IsTrue result ↔ ComesAfter before.now entry.now }
 {
     match before {
         None => true,
@@ -156,8 +156,8 @@ fn lines_at(alloc: Global, dir: Dir, text: &[u8]) -> Result<Option<Seq<Entry>>, 
 
 /// What comes after the lines of the folder itself.
 fn after_folder(dir: Dir, text: &[u8]) -> Option<&[u8]>
-    ensures some { IfSome result (λ rest. text.now ≡ with_folder dir rest.now) }
-    ensures none { IfNone result ((rest : List ℕ) → ¬ (text.now ≡ with_folder dir rest)) }
+    ensures some { IfSome result (λ rest. text.now ≡ folder_lines dir rest.now) }
+    ensures none { IfNone result ((rest : List ℕ) → ¬ (text.now ≡ folder_lines dir rest)) }
 {
     match after_both(text, heading(), href_open()) {
         None => None,

@@ -3,7 +3,7 @@ ghost use Rattle.httpdate.specs.Date.{unix_secs, date_text};
 ghost use Rattle.httpdate.specs.declared.date.HttpDate.{HttpDate as Date};
 ghost use Rattle.jop_base.specs.Paths.{file_name};
 ghost use Rattle.jop_base.specs.declared.time.TheConstants.{MAX_TIME};
-ghost use Rattle.dav_parts.specs.Multistatus.{with_folder, with_name, with_date, with_line, IsMultistatus};
+ghost use Rattle.dav_parts.specs.Multistatus.{folder_lines, with_name, with_date, with_line, IsMultistatus};
 
 use crate::date::date_of;
 use crate::layout::{date_open, ending, entry_close, folder_close, heading, href_open};
@@ -50,7 +50,7 @@ fn append_line(alloc: Global, text: &mut Bytes, dir: Dir, entry: &Entry) -> Resu
 
 /// The lines of the folder itself.
 fn folder_lines(alloc: Global, dir: Dir) -> Result<Bytes, AllocError>
-    ensures { IfOk result (λ text. (rest : List ℕ) → text ++ rest ≡ with_folder dir rest) }
+    ensures { IfOk result (λ text. (rest : List ℕ) → text ++ rest ≡ folder_lines dir rest) }
 {
     let mut text = Bytes::new(alloc);
     text.append(heading())?;

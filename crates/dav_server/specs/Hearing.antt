@@ -4,13 +4,13 @@ use Rattle.dav_link.specs.Awaiting.{MessageNow}
 use Rattle.dav_link.specs.Links.{LinkNow, IsAtEnd}
 use Rattle.dav_link.specs.Receiving.{HasKept, FailsReading}
 use Rattle.dav_link.specs.declared.error.LinkErr.{LinkErr}
-use Rattle.dav_wire.specs.RequestReading.{RequestReadsAs, IsMissing}
+use Rattle.dav_wire.specs.RequestReading.{RequestReadsAs, IsRequestMissing}
 use Rattle.dav_wire.specs.declared.request_reader.ReadRequest.{ReadRequest}
 use Rattle.dav_wire.specs.declared.request_reader.ReadRequest.TheVariants.{More}
 
 -- how a request is read in the bytes that came so far
 abbrev pub request_now : MessageNow
-request_now = record { misses = IsMissing; more = λ bytes. RequestReadsAs bytes More }
+request_now = record { misses = IsRequestMissing; more = λ bytes. RequestReadsAs bytes More }
 
 -- the bytes that were kept read so, and as too little only if the link ended
 pub record HasHeardRequest (old : LinkNow) (before : List ℕ) (read : ReadRequest) (new : LinkNow)

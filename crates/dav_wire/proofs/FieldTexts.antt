@@ -1,6 +1,6 @@
 -- Texts of visible characters, and fields that have them as values.
 use Rattle.std.proofs.Common.{◌≡◌, ℕ, zero, suc, ◌+◌, ◌-◌, ◌<◌, ◌≤◌, List, [], ◌∷◌, ◌++◌, length, get_or, reverse, true, false, refl, ap, ◌∙◌, arith}
-use Rattle.std.specs.Prelude.{codes, decimal, ◌^◌, IsTrue, All}
+use Rattle.std.specs.Prelude.{codes, decimal, ◌^◌, IsTrue}
 use Rattle.std.specs.Char.{is_ascii_digit}
 use Rattle.std.specs.List.{list_all}
 use Rattle.std.specs.Str.{IsAscii}
@@ -8,71 +8,31 @@ use Rattle.std.proofs.lemmas.Bool.{and_from, and_parts, cond-false}
 use Rattle.std.proofs.lemmas.Bool.Decides.{nat_tests}
 use Rattle.std.proofs.lemmas.Fmt.{length-decimal-le}
 use Rattle.std.proofs.lemmas.List.{length-append, get_or-reverse, reverse-reverse, length-reverse}
-use Rattle.std.proofs.lemmas.List.Elements.{All-cons, All-nil, All-head, All-tail}
+use Rattle.std.proofs.lemmas.List.Elements.{All-cons, All-nil}
 use Rattle.std.proofs.lemmas.List.Sums.{AllPass-from_list_all}
 use Rattle.httparse.specs.Grammar.{is_token_byte, is_uri_byte, is_value_byte, is_ows, skip_ows, trim_ows, AllPass, IsToken, crlf, Field, IsField}
-use Rattle.jop_base.specs.Id.{is_digit}
-use Rattle.jop_base.specs.LockNames.{Name, IsName, kind_digit, file_name as lock_file_name}
-use Rattle.jop_base.specs.Paths.{IsPath}
+use Rattle.jop_base.specs.Paths.{IsPath, dir_prefix, path_text}
 use Rattle.jop_base.specs.declared.dir.Dir.{Dir}
-use Rattle.jop_base.specs.declared.dir.Dir.TheVariants as dirs
-use Rattle.jop_base.specs.declared.lock_name.LockKind.{LockKind}
-use Rattle.jop_base.specs.declared.lock_name.LockKind.TheVariants.{Sync, Exclusive}
 use Rattle.jop_base.specs.declared.path.Path.{Path}
-use Rattle.jop_base.specs.declared.path.Path.TheVariants.{Info, OldVersion, Item, Blob, Lock, Temp as TempFile, Tomb}
+use Rattle.jop_base.specs.declared.path.Path.TheVariants.{Blob}
 use Rattle.jop_target.specs.declared.call.Call.{Call}
 use Rattle.jop_target.specs.declared.call.Call.TheVariants as calls
 use Rattle.dav_parts.specs.Targets.{path_target, dir_target, target_of}
 use Rattle.dav_wire.specs.Requests.{length_lines, HasIds}
 use Rattle.dav_wire.specs.RequestBack.{is_visible}
 use Rattle.jop_base.proofs.DecimalLaws.{decimal_digits}
+use Rattle.jop_base.proofs.PathTexts.{is_plain, plain_so, prefix_plain, text_plain}
 
 -- ---- visible characters
 
-pub all_append : (s t : List ℕ) → list_all is_visible s ≡ true → list_all is_visible t ≡ true
-    → list_all is_visible (s ++ t) ≡ true
-all_append [] t h k = k
-all_append (b ∷ s) t h k = let p = and_parts (is_visible b) (list_all is_visible s) h in
-    and_from (is_visible b) (list_all is_visible (s ++ t)) p.0 (all_append s t p.1 k)
+plain_visible : (b : ℕ) → is_plain b ≡ true → is_visible b ≡ true
+plain_visible b h = grind (arith, nat_tests)
 
-pub digit_visible : (d : ℕ) → is_digit d ≡ true → is_visible d ≡ true
-digit_visible d h = grind (arith, nat_tests)
+path_visible : (path : Path) → IsPath path → list_all is_visible (path_target path) ≡ true
+path_visible path h = plain_so is_visible plain_visible (path_text path) (text_plain path h)
 
-pub digits_visible : (ds : List ℕ) → All (λ d. is_digit d ≡ true) ds → list_all is_visible ds ≡ true
-digits_visible [] h = refl
-digits_visible (d ∷ ds) h = and_from (is_visible d) (list_all is_visible ds)
-    (digit_visible d (All-head (λ x. is_digit x ≡ true) d ds h))
-    (digits_visible ds (All-tail (λ x. is_digit x ≡ true) d ds h))
-
-pub kind_visible : (kind : LockKind) → is_visible (kind_digit kind) ≡ true
-kind_visible Sync = refl
-kind_visible Exclusive = refl
-
-pub type_visible : (t : ℕ) → t ≤ 9 → is_visible (48 + t) ≡ true
-type_visible t h = grind (arith, nat_tests)
-
-pub lock_visible : (name : Name) → IsName name → list_all is_visible (lock_file_name name) ≡ true
-lock_visible name h =
-    and_from (is_visible (kind_digit name.kind)) _ (kind_visible name.kind)
-    (and_from (is_visible (48 + name.client_type)) _ (type_visible name.client_type h.client_type)
-    (all_append name.client (codes ".json") (digits_visible name.client h.client.digits) refl))
-
-pub path_visible : (path : Path) → IsPath path → list_all is_visible (path_target path) ≡ true
-path_visible Info h = refl
-path_visible OldVersion h = refl
-path_visible (Item id) h = all_append id (codes ".md") (digits_visible id h.digits) refl
-path_visible (Blob id) h = digits_visible id h.digits
-path_visible (Tomb id) h = digits_visible id h.digits
-path_visible (Lock name) h = lock_visible name h
-path_visible (TempFile id) h = all_append id (codes ".tmp") (digits_visible id h.digits) refl
-
-pub dir_visible : (dir : Dir) → list_all is_visible (dir_target dir) ≡ true
-dir_visible dirs.Root = refl
-dir_visible dirs.Resources = refl
-dir_visible dirs.OldSync = refl
-dir_visible dirs.Locks = refl
-dir_visible dirs.Temp = refl
-dir_visible dirs.Tombs = refl
+dir_visible : (dir : Dir) → list_all is_visible (dir_target dir) ≡ true
+dir_visible dir = plain_so is_visible plain_visible (dir_prefix dir) (prefix_plain dir)
 
 pub target_visible : (call : Call) → HasIds call → list_all is_visible (target_of call) ≡ true
 target_visible (calls.List dir) h = dir_visible dir
@@ -80,8 +40,8 @@ target_visible (calls.Get path) h = path_visible path h
 target_visible (calls.Put path content) h = path_visible path h
 target_visible (calls.Delete path) h = path_visible path h
 target_visible (calls.MakeDir dir) h = dir_visible dir
-target_visible (calls.GetBlob id) h = digits_visible id h.digits
-target_visible (calls.PutBlob id len) h = digits_visible id h.digits
+target_visible (calls.GetBlob id) h = path_visible (Blob id) h
+target_visible (calls.PutBlob id len) h = path_visible (Blob id) h
 
 pub uri_visible : (xs : List ℕ) → list_all is_visible xs ≡ true → AllPass is_uri_byte xs
 uri_visible [] h = All-nil (λ b. IsTrue (is_uri_byte b))

@@ -9,9 +9,9 @@ use Rattle.httparse.specs.Grammar.{is_token_byte, IsToken, crlf, print_end, prin
 use Rattle.httparse.proofs.GrammarLemmas.{print_request-append, cons-append}
 use Rattle.jop_base.specs.Paths.{IsPath}
 use Rattle.jop_base.specs.declared.dir.Dir.{Dir}
-use Rattle.jop_base.specs.declared.dir.Dir.TheVariants as dirs
 use Rattle.jop_base.specs.declared.path.Path.{Path}
-use Rattle.jop_base.specs.declared.path.Path.TheVariants.{Info, OldVersion, Item, Blob, Lock, Temp as TempFile, Tomb}
+use Rattle.jop_base.specs.declared.path.Path.TheVariants.{Blob}
+use Rattle.jop_base.proofs.PathTexts.{prefix_short, text_short}
 use Rattle.jop_target.specs.declared.call.Call.{Call}
 use Rattle.jop_target.specs.declared.call.Call.TheVariants as calls
 use Rattle.dav_parts.specs.declared.method.Method.{Method}
@@ -172,22 +172,11 @@ head_fits host call count h ids small =
 
 -- ---- the head is short
 
-pub path_short : (path : Path) → IsPath path → length (path_target path) ≤ 60
-path_short Info h = omega arith
-path_short OldVersion h = omega arith
-path_short (Item id) h = omega (arith, length-append id (codes ".md"), h.long)
-path_short (Blob id) h = omega (arith, h.long)
-path_short (Tomb id) h = omega (arith, h.long)
-path_short (Lock name) h = omega (arith, length-append name.client (codes ".json"), h.client.long)
-path_short (TempFile id) h = omega (arith, length-append id (codes ".tmp"), h.long)
+path_short : (path : Path) → IsPath path → length (path_target path) ≤ 60
+path_short path h = omega (arith, text_short path h)
 
-pub dir_short : (dir : Dir) → length (dir_target dir) ≤ 60
-dir_short dirs.Root = omega arith
-dir_short dirs.Resources = omega arith
-dir_short dirs.OldSync = omega arith
-dir_short dirs.Locks = omega arith
-dir_short dirs.Temp = omega arith
-dir_short dirs.Tombs = omega arith
+dir_short : (dir : Dir) → length (dir_target dir) ≤ 60
+dir_short dir = omega (arith, prefix_short dir)
 
 pub target_short : (call : Call) → HasIds call → length (target_of call) ≤ 60
 target_short (calls.List dir) h = dir_short dir

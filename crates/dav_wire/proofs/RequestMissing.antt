@@ -5,7 +5,7 @@ use Rattle.httparse.specs.Grammar.{RequestHead, print_request, HasNoRequest}
 use Rattle.httparse.specs.Spans.{RequestOverflows, name_and_value}
 use Rattle.httparse.proofs.GrammarLemmas.{request_unique}
 use Rattle.dav_wire.specs.Requests.{framing_of}
-use Rattle.dav_wire.specs.RequestReading.{BeginsWith, IsMissing, RequestReadsAs, fields_of}
+use Rattle.dav_wire.specs.RequestReading.{BeginsWith, IsRequestMissing, RequestReadsAs, fields_of}
 use Rattle.dav_wire.specs.declared.framing.Framing.TheVariants.{Refused}
 use Rattle.dav_wire.proofs.FramingLemmas.{framing_crowded}
 use Rattle.dav_wire.specs.declared.request_reader.ReadRequest.TheVariants.{More}
@@ -20,20 +20,20 @@ framed_alike bytes a b r q x y =
 
 pub refused_misses_nothing : (bytes : List ℕ) (h : RequestHead) (rest : List ℕ) (status : ℕ)
     → BeginsWith bytes h rest → framing_of h.method h.target (fields_of h) ≡ Refused status
-    → (missing : ℕ) → IsMissing bytes missing → ⊥
+    → (missing : ℕ) → IsRequestMissing bytes missing → ⊥
 refused_misses_nothing bytes h rest status begun refused missing m =
     let same = framed_alike bytes m.0 h m.1 rest m.2 begun in
     let body = m.4 in
     cc
 
 pub none_misses_nothing : (bytes : List ℕ) → HasNoRequest (take 16384 bytes)
-    → (missing : ℕ) → IsMissing bytes missing → ⊥
+    → (missing : ℕ) → IsRequestMissing bytes missing → ⊥
 none_misses_nothing bytes none missing m =
     none m.0 (take (16384 - length (print_request m.0)) m.1)
     (m.2.reads.0, ap (take 16384) m.2.reads.1 ∙ take_both 16384 (print_request m.0) m.1 m.2.short)
 
 pub crowded_misses_nothing : (bytes : List ℕ) → RequestOverflows 128 (take 16384 bytes)
-    → (missing : ℕ) → IsMissing bytes missing → ⊥
+    → (missing : ℕ) → IsRequestMissing bytes missing → ⊥
 crowded_misses_nothing bytes over missing m =
     let whole : take 16384 bytes ++ drop 16384 bytes ≡ bytes = take-append-drop 16384 bytes in
     let many : 128 < length m.0.fields =
@@ -45,13 +45,14 @@ crowded_misses_nothing bytes over missing m =
 
 -- ---- what is missing and what is read
 
-pub more_while_missing : (bytes : List ℕ) (missing : ℕ) → IsMissing bytes missing → 0 < missing
+pub more_while_missing : (bytes : List ℕ) (missing : ℕ) → IsRequestMissing bytes missing
+    → 0 < missing
     → RequestReadsAs bytes More
 more_while_missing bytes missing m some =
     inl (m.0, m.1, m.2, (m.3, m.4, omega (arith, m.5, some)))
 
-pub missing_falls : (bytes more : List ℕ) (missing : ℕ) → IsMissing bytes missing
-    → IsMissing (bytes ++ more) (missing - length more)
+pub missing_falls : (bytes more : List ℕ) (missing : ℕ) → IsRequestMissing bytes missing
+    → IsRequestMissing (bytes ++ more) (missing - length more)
 missing_falls bytes more missing m = (
   m.0,
   m.1 ++ more,
@@ -61,7 +62,7 @@ missing_falls bytes more missing m = (
   omega (arith, m.5, length-append m.1 more),
 )
 
-pub none_missing : (bytes : List ℕ) → IsMissing bytes 0 → RequestReadsAs bytes More → ⊥
+pub none_missing : (bytes : List ℕ) → IsRequestMissing bytes 0 → RequestReadsAs bytes More → ⊥
 none_missing bytes m (inl h) =
     let same = request_unique bytes m.0 h.0 m.1 h.1 m.2.reads h.2.reads in
     let framed = framed_alike bytes m.0 h.0 m.1 h.1 m.2 h.2 in

@@ -15,7 +15,7 @@ use Rattle.httpdate.specs.declared.date.HttpDate.{HttpDate}
 use Rattle.dav_parts.proofs.DateLemmas.{date_long}
 use Rattle.dav_parts.specs.Fields.{Fields, values_of}
 use Rattle.dav_wire.specs.Requests.{length_lines}
-use Rattle.dav_wire.specs.ResponseFrames.{body_count, count_of}
+use Rattle.dav_wire.specs.ResponseFrames.{body_count, single_length}
 use Rattle.dav_wire.specs.ResponseReading.{fields_of}
 use Rattle.dav_wire.specs.ResponseTexts.{status_text, status_line, date_line, type_line, end_lines, response_text}
 use Rattle.dav_wire.proofs.DateTexts.{date_values, date_trimmed, values_pass}
@@ -143,15 +143,15 @@ length_fits count small = field_fits (codes "Content-Length") (decimal count) le
     (decimal_visible count small)
 
 counted_by : (count : ℕ) (values : List (List ℕ)) → count < 2 ^ 64
-    → values ≡ trim_ows (32 ∷ decimal count) ∷ [] → count_of values ≡ Some count
+    → values ≡ trim_ows (32 ∷ decimal count) ∷ [] → single_length values ≡ Some count
 counted_by count values small is =
-    ap count_of is ∙ ap (λ (t : List ℕ). count_of (t ∷ []))
+    ap single_length is ∙ ap (λ (t : List ℕ). single_length (t ∷ []))
     (trimmed (decimal count) (decimal_visible count small)) ∙ decimal_in-decimal count small
 
 module _ (count : ℕ) (small : count < 2 ^ 64) where
   plain_fields : (status : ℕ) → type_line status ≡ [] → end_lines status count ≡ length_lines count
       → body_count status ((codes "Date", []) ∷ map name_and_value (length_field count ∷ []))
-      ≡ count_of (trim_ows (32 ∷ decimal count) ∷ [])
+      ≡ single_length (trim_ows (32 ∷ decimal count) ∷ [])
       → AreFields status count (length_field count ∷ [])
   unfolding length_field field values_of
   plain_fields status untyped ended by = record {

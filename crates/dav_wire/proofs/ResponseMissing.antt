@@ -6,7 +6,7 @@ use Rattle.httparse.specs.Spans.{ResponseOverflows, name_and_value}
 use Rattle.httparse.proofs.GrammarLemmas.{response_unique}
 use Rattle.jop_target.specs.declared.call.Call.{Call}
 use Rattle.dav_wire.specs.ResponseFrames.{frame_of}
-use Rattle.dav_wire.specs.ResponseReading.{BeginsWith, IsMissing, ResponseBodyReadsAs, ResponseHeadReadsAs, ResponseReadsAs, fields_of}
+use Rattle.dav_wire.specs.ResponseReading.{BeginsWith, IsResponseMissing, ResponseBodyReadsAs, ResponseHeadReadsAs, ResponseReadsAs, fields_of}
 use Rattle.dav_wire.proofs.FrameLemmas.{frame_crowded}
 use Rattle.dav_wire.specs.declared.frame.Frame.{Frame}
 use Rattle.dav_wire.specs.declared.response_reader.ReadResponse.TheVariants.{Whole, More, Bad}
@@ -27,19 +27,19 @@ pub other_misses_nothing : (call : Call) (bytes : List ℕ) (h : ResponseHead) (
     → BeginsWith bytes h rest
     → ((now : ℕ) (outcome : Outcome) (n : ℕ)
     → frame_of call (status_code h) (fields_of h) ≡ Body now outcome n → ⊥)
-    → (missing : ℕ) → IsMissing call bytes missing → ⊥
+    → (missing : ℕ) → IsResponseMissing call bytes missing → ⊥
 other_misses_nothing call bytes h rest begun other missing m =
     other m.3 m.4 m.5 (framed_alike call bytes h m.0 rest m.1 begun m.2 ∙ m.6)
 
 pub none_misses_nothing : (call : Call) (bytes : List ℕ) → HasNoResponse (take 16384 bytes)
-    → (missing : ℕ) → IsMissing call bytes missing → ⊥
+    → (missing : ℕ) → IsResponseMissing call bytes missing → ⊥
 none_misses_nothing call bytes none missing m =
     none m.0 (take (16384 - length (print_response m.0)) m.1)
     (m.2.reads.0, ap (take 16384) m.2.reads.1 ∙ take_both 16384 (print_response m.0) m.1 m.2.short)
 
 pub crowded_misses_nothing : (call : Call) (bytes : List ℕ)
     → ResponseOverflows 128 (take 16384 bytes)
-    → (missing : ℕ) → IsMissing call bytes missing → ⊥
+    → (missing : ℕ) → IsResponseMissing call bytes missing → ⊥
 crowded_misses_nothing call bytes over missing m =
     let whole : take 16384 bytes ++ drop 16384 bytes ≡ bytes = take-append-drop 16384 bytes in
     let many : 128 < length m.0.fields =
@@ -52,14 +52,15 @@ crowded_misses_nothing call bytes over missing m =
 -- ---- what is missing and what is read
 
 pub more_while_missing : (call : Call) (bytes : List ℕ) (missing : ℕ)
-    → IsMissing call bytes missing → 0 < missing → ResponseReadsAs call bytes More
+    → IsResponseMissing call bytes missing → 0 < missing → ResponseReadsAs call bytes More
 more_while_missing call bytes missing m some =
     let len = length (print_response m.0) in
     let short : length m.1 < m.5 = omega (arith, m.7, some) in
     inl (m.0, m.1, m.2, subst (λ (x : Frame). ResponseBodyReadsAs x m.1 len More) (sym m.6) short)
 
 pub missing_falls : (call : Call) (bytes more : List ℕ) (missing : ℕ)
-    → IsMissing call bytes missing → IsMissing call (bytes ++ more) (missing - length more)
+    → IsResponseMissing call bytes missing
+    → IsResponseMissing call (bytes ++ more) (missing - length more)
 missing_falls call bytes more missing m = (
   m.0,
   m.1 ++ more,
@@ -71,7 +72,7 @@ missing_falls call bytes more missing m = (
   omega (arith, m.7, length-append m.1 more),
 )
 
-pub none_missing : (call : Call) (bytes : List ℕ) → IsMissing call bytes 0
+pub none_missing : (call : Call) (bytes : List ℕ) → IsResponseMissing call bytes 0
     → ResponseReadsAs call bytes More → ⊥
 none_missing call bytes m (inl h) =
     let same = response_unique bytes m.0 h.0 m.1 h.1 m.2.reads h.2.reads in
@@ -92,14 +93,14 @@ no_more_whole count len h = cc
 
 headed : (call : Call) (bytes : List ℕ) (h : ResponseHead) (rest : List ℕ) (frame : Frame) (len : ℕ)
     → BeginsWith bytes h rest → frame_of call (status_code h) (fields_of h) ≡ frame
-    → ResponseBodyReadsAs frame rest len More → (missing : ℕ) × IsMissing call bytes missing
+    → ResponseBodyReadsAs frame rest len More → (missing : ℕ) × IsResponseMissing call bytes missing
 headed call bytes h rest Unreadable len begun is read = absurd (no_more_bad read)
 headed call bytes h rest (TooLong count) len begun is read = absurd (no_more_whole count len read)
 headed call bytes h rest (Body now outcome n) len begun is read =
     (n - length rest, (h, rest, begun, now, outcome, n, is, refl))
 
 headed_misses : (call : Call) (bytes : List ℕ)
-    → ((missing : ℕ) → ¬ (IsMissing call bytes missing))
+    → ((missing : ℕ) → ¬ (IsResponseMissing call bytes missing))
     → ResponseHeadReadsAs call bytes More → ⊥
 headed_misses call bytes none h =
     let found = headed call bytes h.0 h.1 (frame_of call (status_code h.0) (fields_of h.0))
@@ -108,7 +109,7 @@ headed_misses call bytes none h =
 
 -- without a head that tells what is missing, too little is less than a head
 pub open_is_short : (call : Call) (bytes : List ℕ)
-    → ((missing : ℕ) → ¬ (IsMissing call bytes missing))
+    → ((missing : ℕ) → ¬ (IsResponseMissing call bytes missing))
     → ResponseReadsAs call bytes More → length bytes < 16_384
 open_is_short call bytes none more = elim more [
   | inl head ↦ absurd (headed_misses call bytes none head)

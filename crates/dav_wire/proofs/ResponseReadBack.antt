@@ -22,11 +22,11 @@ use Rattle.jop_target.specs.declared.reply.Entry.{Entry}
 use Rattle.jop_target.specs.declared.reply.Reply.{Reply}
 use Rattle.jop_target.specs.declared.reply.Reply.TheVariants as replies
 use Rattle.dav_parts.proofs.LineLemmas.{body_read}
-use Rattle.dav_parts.specs.Multistatus.{AreListable, Follows}
+use Rattle.dav_parts.specs.Multistatus.{AreListable, ComesAfter}
 use Rattle.dav_wire.specs.ResponseBack.{IsWholeSecond, IsTellable, got_bytes}
 use Rattle.dav_wire.specs.ResponseFrames.{outcome_of, now_of, body_count, is_too_long, frame_from, frame_of}
 use Rattle.dav_wire.specs.ResponseReading.{IsReplyOf, ResponseBodyReadsAs, ResponseReadsAs, fields_of}
-use Rattle.dav_wire.specs.ResponseTexts.{status_line, date_line, type_line, end_lines, response_text, status_of, moment_of, IsResponseTo}
+use Rattle.dav_wire.specs.ResponseTexts.{status_line, date_line, type_line, end_lines, response_text, status_of, moment_or, IsResponseTo}
 use Rattle.dav_wire.specs.declared.frame.Frame.{Frame}
 use Rattle.dav_wire.specs.declared.frame.Frame.TheVariants.{TooLong, Body}
 use Rattle.dav_wire.specs.declared.outcome.Outcome.{Outcome}
@@ -112,7 +112,7 @@ module _ (call : Call) (status : ℕ) (digits phrase body : List ℕ) (fields : 
 
 FollowsFirst : Option Entry → List Entry → Type 0
 FollowsFirst before [] = Unit {0}
-FollowsFirst before (e ∷ es) = Follows before e
+FollowsFirst before (e ∷ es) = ComesAfter before e
 
 less : (o : Ordering) → is_lt o ≡ true → o ≡ Less
 less Less h = refl
@@ -180,9 +180,9 @@ finish call status now digits phrase body text fields s w f outcome reply blob t
     outcome reply blob told more)
 
 wrote : (call : Call) (reply : Reply) (blob : List ℕ) (date : ℕ) (text : List ℕ)
-    → length text < 2 ^ 64 → IsWholeSecond (moment_of reply date)
+    → length text < 2 ^ 64 → IsWholeSecond (moment_or reply date)
     → (h : IsResponseTo call reply blob date text)
-    → Wrote (status_of call reply) (moment_of reply date) h.0 text
+    → Wrote (status_of call reply) (moment_or reply date) h.0 text
 wrote call reply blob date text small whole h = record {
   date = h.2.0;
   second = ap (λ (s : ℕ). s * 1_000) h.2.1 ∙ sym whole;

@@ -8,39 +8,41 @@ use Rattle.httparse.specs.Grammar.{is_token_byte, is_uri_byte, AllPass, IsToken,
 use Rattle.httparse.proofs.PieceLemmas.{token_is_no_newline, space_ends_token}
 use Rattle.dav_wire.specs.declared.target_stage.Stage.{Stage}
 use Rattle.dav_wire.specs.declared.target_stage.Stage.TheVariants.{Blank, Return, Method, Target, Other}
-use Rattle.dav_wire.specs.TargetStages.{after_byte, after}
+use Rattle.dav_wire.specs.TargetStages.{after_byte, after_bytes}
 
 -- ---- step by step
 
 pub after_more : (stage : Stage) (bytes : List ℕ) (i d : ℕ) → i < length bytes
-    → after stage (drop i bytes) ≡ after (after_byte stage (get_or bytes i d)) (drop (i + 1) bytes)
-unfolding after
-after_more stage bytes i d inside = ap (after stage) (drop_more bytes i d inside)
+    → after_bytes stage (drop i bytes)
+    ≡ after_bytes (after_byte stage (get_or bytes i d)) (drop (i + 1) bytes)
+unfolding after_bytes
+after_more stage bytes i d inside = ap (after_bytes stage) (drop_more bytes i d inside)
 
 pub after_all : (stage : Stage) (bytes : List ℕ) (i : ℕ) → length bytes ≤ i
-    → after stage (drop i bytes) ≡ stage
-unfolding after
-after_all stage bytes i done = ap (after stage) (drop_all i bytes done)
+    → after_bytes stage (drop i bytes) ≡ stage
+unfolding after_bytes
+after_all stage bytes i done = ap (after_bytes stage) (drop_all i bytes done)
 
-after_append : (stage : Stage) (xs ys : List ℕ) → after stage (xs ++ ys) ≡ after (after stage xs) ys
-unfolding after
+after_append : (stage : Stage) (xs ys : List ℕ)
+    → after_bytes stage (xs ++ ys) ≡ after_bytes (after_bytes stage xs) ys
+unfolding after_bytes
 after_append stage [] ys = refl
 after_append stage (x ∷ xs) ys = after_append (after_byte stage x) xs ys
 
 -- ---- from the stages to the grammar
 
-never_target : (bytes : List ℕ) → after Other bytes ≡ Target → ⊥
-unfolding after
+never_target : (bytes : List ℕ) → after_bytes Other bytes ≡ Target → ⊥
+unfolding after_bytes
 never_target [] h = cc
 never_target (b ∷ bytes) h = never_target bytes h
 
-in_target : (bytes : List ℕ) → after Target bytes ≡ Target → AllPass is_uri_byte bytes
-unfolding after
+in_target : (bytes : List ℕ) → after_bytes Target bytes ≡ Target → AllPass is_uri_byte bytes
+unfolding after_bytes
 in_target [] h = All-nil (λ b. IsTrue (is_uri_byte b))
 in_target (b ∷ bytes) h = go (is_uri_byte b) refl h (in_target bytes)
   where
-    go : (u : Bool) → is_uri_byte b ≡ u → after (cond u Target Other) bytes ≡ Target
-        → (after Target bytes ≡ Target → AllPass is_uri_byte bytes)
+    go : (u : Bool) → is_uri_byte b ≡ u → after_bytes (cond u Target Other) bytes ≡ Target
+        → (after_bytes Target bytes ≡ Target → AllPass is_uri_byte bytes)
         → AllPass is_uri_byte (b ∷ bytes)
     go true is h rest = All-cons (λ c. IsTrue (is_uri_byte c)) b bytes is (rest h)
     go false is h rest = absurd (never_target bytes h)
@@ -52,13 +54,14 @@ record InMethod (bytes : List ℕ) : Type 0 where
   uri : AllPass is_uri_byte target
   text : bytes ≡ method ++ 32 ∷ target
 
-in_method : (bytes : List ℕ) → after Method bytes ≡ Target → InMethod bytes
-unfolding after
+in_method : (bytes : List ℕ) → after_bytes Method bytes ≡ Target → InMethod bytes
+unfolding after_bytes
 in_method [] h = absurd (cc)
 in_method (b ∷ bytes) h = go (b == 32) (is_token_byte b) refl refl h (in_method bytes)
   where
     go : (s t : Bool) → (b == 32) ≡ s → is_token_byte b ≡ t
-        → after (cond s Target (cond t Method Other)) bytes ≡ Target → (after Method bytes ≡ Target
+        → after_bytes (cond s Target (cond t Method Other)) bytes ≡ Target
+        → (after_bytes Method bytes ≡ Target
         → InMethod bytes) → InMethod (b ∷ bytes)
     go true t space is h rest = record {
       method = [];
@@ -113,8 +116,8 @@ begun b bytes is r = record {
   text = ap (λ (t : List ℕ). b ∷ t) r.text;
 }
 
-in_line : (bytes : List ℕ) → after Blank bytes ≡ Target → InLine bytes
-unfolding after
+in_line : (bytes : List ℕ) → after_bytes Blank bytes ≡ Target → InLine bytes
+unfolding after_bytes
 in_line [] h = absurd (cc)
 in_line (b ∷ []) h = go (b == 13) (b == 10) (is_token_byte b) h
   where
@@ -127,15 +130,16 @@ in_line (b ∷ []) h = go (b == 13) (b == 10) (is_token_byte b) h
 in_line (b ∷ c ∷ bytes) h = go (b == 13) (b == 10) (is_token_byte b) refl refl refl h
     (in_line (c ∷ bytes)) (in_line bytes)
   where
-    returned : (l : Bool) → (c == 10) ≡ l → after (cond l Blank Other) bytes ≡ Target
-        → (after Blank bytes ≡ Target → InLine bytes) → (b ≡ 13) → InLine (b ∷ c ∷ bytes)
+    returned : (l : Bool) → (c == 10) ≡ l → after_bytes (cond l Blank Other) bytes ≡ Target
+        → (after_bytes Blank bytes ≡ Target → InLine bytes) → (b ≡ 13) → InLine (b ∷ c ∷ bytes)
     returned true is h rest cr = subst InLine (λ i. sym cr i ∷ sym (eqb-true c 10 is) i ∷ bytes)
         (behind_end crlf bytes (rest h))
     returned false is h rest cr = absurd (never_target bytes h)
 
     go : (r l t : Bool) → (b == 13) ≡ r → (b == 10) ≡ l → is_token_byte b ≡ t
-        → after (cond r Return (cond l Blank (cond t Method Other))) (c ∷ bytes) ≡ Target
-        → (after Blank (c ∷ bytes) ≡ Target → InLine (c ∷ bytes)) → (after Blank bytes ≡ Target
+        → after_bytes (cond r Return (cond l Blank (cond t Method Other))) (c ∷ bytes) ≡ Target
+        → (after_bytes Blank (c ∷ bytes) ≡ Target → InLine (c ∷ bytes))
+        → (after_bytes Blank bytes ≡ Target
         → InLine bytes) → InLine (b ∷ c ∷ bytes)
     go true l t cr nl is h rest later = returned (c == 10) refl h later (eqb-true b 13 cr)
     go false true t cr nl is h rest later = subst InLine (λ i. sym (eqb-true b 10 nl) i ∷ c ∷ bytes)
@@ -143,7 +147,7 @@ in_line (b ∷ c ∷ bytes) h = go (b == 13) (b == 10) (is_token_byte b) refl re
     go false false true cr nl is h rest later = begun b (c ∷ bytes) is (in_method (c ∷ bytes) h)
     go false false false cr nl is h rest later = absurd (never_target (c ∷ bytes) h)
 
-pub target_from_stage : (bytes : List ℕ) → after Blank bytes ≡ Target → EndsInTarget bytes
+pub target_from_stage : (bytes : List ℕ) → after_bytes Blank bytes ≡ Target → EndsInTarget bytes
 target_from_stage bytes h =
     let r = in_line bytes h in (
       r.blank,
@@ -157,8 +161,8 @@ target_from_stage bytes h =
 
 -- ---- from the grammar to the stages
 
-blanks_stay : (ends : List LineEnd) → after Blank (print_blank ends) ≡ Blank
-unfolding after
+blanks_stay : (ends : List LineEnd) → after_bytes Blank (print_blank ends) ≡ Blank
+unfolding after_bytes
 blanks_stay [] = refl
 blanks_stay (crlf ∷ ends) = blanks_stay ends
 blanks_stay (lf ∷ ends) = blanks_stay ends
@@ -177,36 +181,36 @@ token_stays b is =
     cond-false (b == 32) Target (cond (is_token_byte b) Method Other) not
     ∙ cond-true (is_token_byte b) Method Other is
 
-method_stays : (method : List ℕ) → AllPass is_token_byte method → after Method method ≡ Method
-unfolding after
+method_stays : (method : List ℕ) → AllPass is_token_byte method → after_bytes Method method ≡ Method
+unfolding after_bytes
 method_stays [] h = refl
-method_stays (b ∷ method) h = ap (λ (s : Stage). after s method)
+method_stays (b ∷ method) h = ap (λ (s : Stage). after_bytes s method)
     (token_stays b (All-head (λ c. IsTrue (is_token_byte c)) b method h))
     ∙ method_stays method (All-tail (λ c. IsTrue (is_token_byte c)) b method h)
 
-method_begins : (method : List ℕ) → IsToken method → after Blank method ≡ Method
-unfolding after
+method_begins : (method : List ℕ) → IsToken method → after_bytes Blank method ≡ Method
+unfolding after_bytes
 method_begins [] h = absurd (omega (arith, h.0))
-method_begins (b ∷ method) h = ap (λ (s : Stage). after s method)
+method_begins (b ∷ method) h = ap (λ (s : Stage). after_bytes s method)
     (token_begins b (All-head (λ c. IsTrue (is_token_byte c)) b method h.1))
     ∙ method_stays method (All-tail (λ c. IsTrue (is_token_byte c)) b method h.1)
 
-target_stays : (target : List ℕ) → AllPass is_uri_byte target → after Target target ≡ Target
-unfolding after
+target_stays : (target : List ℕ) → AllPass is_uri_byte target → after_bytes Target target ≡ Target
+unfolding after_bytes
 target_stays [] h = refl
-target_stays (b ∷ target) h = ap (λ (s : Stage). after s target)
+target_stays (b ∷ target) h = ap (λ (s : Stage). after_bytes s target)
     (cond-true (is_uri_byte b) Target Other (All-head (λ c. IsTrue (is_uri_byte c)) b target h))
     ∙ target_stays target (All-tail (λ c. IsTrue (is_uri_byte c)) b target h)
 
-pub stage_from_target : (bytes : List ℕ) → EndsInTarget bytes → after Blank bytes ≡ Target
-unfolding after
+pub stage_from_target : (bytes : List ℕ) → EndsInTarget bytes → after_bytes Blank bytes ≡ Target
+unfolding after_bytes
 stage_from_target bytes h =
     let blank = h.0 in
     let method = h.1 in
     let target = h.2 in
-    ap (after Blank) (h.5 ∙ append_assoc (print_blank blank) method (32 ∷ target))
+    ap (after_bytes Blank) (h.5 ∙ append_assoc (print_blank blank) method (32 ∷ target))
     ∙ after_append Blank (print_blank blank) (method ++ 32 ∷ target)
-    ∙ ap (λ (s : Stage). after s (method ++ 32 ∷ target)) (blanks_stay blank)
+    ∙ ap (λ (s : Stage). after_bytes s (method ++ 32 ∷ target)) (blanks_stay blank)
     ∙ after_append Blank method (32 ∷ target)
-    ∙ ap (λ (s : Stage). after s (32 ∷ target)) (method_begins method h.3)
+    ∙ ap (λ (s : Stage). after_bytes s (32 ∷ target)) (method_begins method h.3)
     ∙ target_stays target h.4

@@ -61,8 +61,8 @@ RequestReadsAs bytes (Bad status) =
     RequestHeadReadsAs bytes (Bad status) ⊎ (IsUnreadable bytes × (status ≡ 400))
 
 -- so many bytes are missing, by a head that is whole and isn't refused
-abbrev pub IsMissing : List ℕ → ℕ → Type 0
-IsMissing bytes missing =
+abbrev pub IsRequestMissing : List ℕ → ℕ → Type 0
+IsRequestMissing bytes missing =
     (head : RequestHead) × (rest : List ℕ) × BeginsWith bytes head rest
     × (n : ℕ) × (framing_of head.method head.target (fields_of head) ≡ Body n)
     × (missing ≡ n - length rest)

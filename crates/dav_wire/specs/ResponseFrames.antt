@@ -13,15 +13,15 @@ use Rattle.dav_wire.specs.declared.outcome.Outcome.{Outcome}
 use Rattle.dav_wire.specs.declared.outcome.Outcome.TheVariants as outcomes
 
 -- a file that may be absent
-abbrev got : ℕ → Outcome → Outcome
-got status content =
+abbrev got_outcome : ℕ → Outcome → Outcome
+got_outcome status content =
     if status == 200 then content else (if status == 404 then outcomes.Absent else outcomes.Other)
 
 -- what a status means in the response to a call (RFC 9110, 15, and RFC 4918, 9 and 11)
 abbrev pub outcome_of : Call → ℕ → Outcome
 outcome_of (calls.List dir) status =
     if status == 207 then outcomes.Listing dir else outcomes.Other
-outcome_of (calls.Get path) status = got status (outcomes.Content (limit_of path))
+outcome_of (calls.Get path) status = got_outcome status (outcomes.Content (limit_of path))
 outcome_of (calls.Put path content) status =
     if (status == 201) || (status == 204) then outcomes.Done else outcomes.Other
 outcome_of (calls.Delete path) status =
@@ -29,7 +29,7 @@ outcome_of (calls.Delete path) status =
     else (if status == 404 then outcomes.Absent else outcomes.Other)
 outcome_of (calls.MakeDir dir) status =
     if (status == 201) || (status == 405) then outcomes.Done else outcomes.Other
-outcome_of (calls.GetBlob id) status = got status outcomes.Blob
+outcome_of (calls.GetBlob id) status = got_outcome status outcomes.Blob
 outcome_of (calls.PutBlob id len) status =
     if (status == 201) || (status == 204) then outcomes.Done else outcomes.Other
 
@@ -40,15 +40,15 @@ now_of (value ∷ []) = option_map (λ secs. secs * 1_000) (parse_secs value)
 now_of (value ∷ other ∷ values) = None
 
 -- the one length
-abbrev pub count_of : List (List ℕ) → Option ℕ
-count_of [] = None
-count_of (value ∷ []) = decimal_in value
-count_of (value ∷ other ∷ values) = None
+abbrev pub single_length : List (List ℕ) → Option ℕ
+single_length [] = None
+single_length (value ∷ []) = decimal_in value
+single_length (value ∷ other ∷ values) = None
 
 -- a response of status 204 has no body, whatever its fields say
 abbrev pub body_count : ℕ → Fields → Option ℕ
 body_count status fields =
-    if status == 204 then Some 0 else count_of (values_of (codes "content-length") fields)
+    if status == 204 then Some 0 else single_length (values_of (codes "content-length") fields)
 
 -- whether a file of that length is longer than its limit: a blob's is 64 MiB
 abbrev pub is_too_long : Outcome → ℕ → Bool

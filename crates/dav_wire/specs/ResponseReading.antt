@@ -92,8 +92,8 @@ ResponseReadsAs call bytes More = ResponseHeadReadsAs call bytes More ⊎ IsUnfi
 ResponseReadsAs call bytes Bad = ResponseHeadReadsAs call bytes Bad ⊎ IsUnreadable bytes
 
 -- so many bytes are missing, by a head that is whole and tells a body
-abbrev pub IsMissing : Call → List ℕ → ℕ → Type 0
-IsMissing call bytes missing =
+abbrev pub IsResponseMissing : Call → List ℕ → ℕ → Type 0
+IsResponseMissing call bytes missing =
     (head : ResponseHead) × (rest : List ℕ) × BeginsWith bytes head rest
     × (now : ℕ) × (outcome : Outcome) × (n : ℕ)
     × (frame_of call (status_code head) (fields_of head) ≡ Body now outcome n)

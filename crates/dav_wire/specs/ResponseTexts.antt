@@ -68,14 +68,14 @@ status_of call replies.Failed = 500
 status_of call (replies.TooLarge len) = 413
 
 -- the moment of a reply, or the one that is handed in
-abbrev pub moment_of : Reply → ℕ → ℕ
-moment_of (replies.Listed listing) date = listing.now
-moment_of (replies.Got now content) date = now
-moment_of (replies.GotBlob now len) date = now
-moment_of (replies.Absent now) date = now
-moment_of (replies.Done now) date = now
-moment_of replies.Failed date = date
-moment_of (replies.TooLarge len) date = date
+abbrev pub moment_or : Reply → ℕ → ℕ
+moment_or (replies.Listed listing) date = listing.now
+moment_or (replies.Got now content) date = now
+moment_or (replies.GotBlob now len) date = now
+moment_or (replies.Absent now) date = now
+moment_or (replies.Done now) date = now
+moment_or replies.Failed date = date
+moment_or (replies.TooLarge len) date = date
 
 -- the body by which any reply but a listing is told
 abbrev pub plain_body : Reply → List ℕ → List ℕ
@@ -97,4 +97,4 @@ IsBodyOf call reply blob body = body ≡ plain_body reply blob
 abbrev pub IsResponseTo : Call → Reply → List ℕ → ℕ → List ℕ → Type 0
 IsResponseTo call reply blob date text =
     (body : List ℕ) × IsBodyOf call reply blob body
-    × IsResponse (status_of call reply) (moment_of reply date) body text
+    × IsResponse (status_of call reply) (moment_or reply date) body text

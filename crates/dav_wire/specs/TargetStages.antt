@@ -16,6 +16,6 @@ after_byte Target b = if is_uri_byte b then Target else Other
 after_byte Other b = Other
 
 -- all bytes further
-unfoldable pub after : Stage → List ℕ → Stage
-after stage [] = stage
-after stage (b ∷ bytes) = after (after_byte stage b) bytes
+unfoldable pub after_bytes : Stage → List ℕ → Stage
+after_bytes stage [] = stage
+after_bytes stage (b ∷ bytes) = after_bytes (after_byte stage b) bytes

@@ -1,7 +1,7 @@
 ghost use Rattle.std.specs.Prelude.{◌≡◌, length, map, All, codes};
 ghost use Rattle.httparse.specs.Spans.{IsHeaderWithin, header_bytes};
 ghost use Rattle.dav_parts.specs.Fields.{values_of};
-ghost use Rattle.dav_wire.specs.ResponseFrames.{now_of, count_of, body_count, is_too_long, frame_from, frame_of};
+ghost use Rattle.dav_wire.specs.ResponseFrames.{now_of, single_length, body_count, is_too_long, frame_from, frame_of};
 
 use crate::limits::FIELD_LIMIT;
 use crate::outcome::{Outcome, outcome_of};
@@ -35,7 +35,7 @@ fn now_of(text: &[u8], fields: &[HeaderSpan]) -> Option<u64>
 /// The one length of a head.
 fn count_of(text: &[u8], fields: &[HeaderSpan]) -> Option<u64>
     requires { All (IsHeaderWithin (length text.now)) fields.now }
-    ensures { result ≡ count_of
+    ensures { result ≡ single_length
         (values_of (codes "content-length") (map (header_bytes text.now) fields.now)) }
 {
     match field_value(text, fields, b"content-length") {

@@ -1,7 +1,7 @@
 ghost use Rattle.std.specs.Prelude.{◌≡◌, ◌≤◌, ℕ, IfSome, IfNone, length, take};
 ghost use Rattle.httparse.specs.Spans.{IsRequestWithin, IsRequestOf, IsResponseWithin, IsResponseOf};
-ghost use Rattle.dav_wire.specs.RequestReading.{IsMissing as IsRequestMissing};
-ghost use Rattle.dav_wire.specs.ResponseReading.{IsMissing as IsResponseMissing};
+ghost use Rattle.dav_wire.specs.RequestReading.{IsRequestMissing};
+ghost use Rattle.dav_wire.specs.ResponseReading.{IsResponseMissing};
 
 use crate::frame::{Frame, frame_of};
 use crate::framing::{Framing, framing_of};

@@ -3,7 +3,7 @@ ghost use Rattle.httpdate.specs.Date.{date_text};
 ghost use Rattle.jop_base.specs.declared.time.TheConstants.{MAX_TIME};
 ghost use Rattle.jop_target.specs.Replies.{IsReplyTo};
 ghost use Rattle.jop_target.specs.declared.reply.Reply.{Reply};
-ghost use Rattle.dav_wire.specs.ResponseTexts.{status_text, status_line, date_line, type_line, end_lines, IsResponse, status_of, moment_of, plain_body, IsListingBody, IsResponseTo};
+ghost use Rattle.dav_wire.specs.ResponseTexts.{status_text, status_line, date_line, type_line, end_lines, IsResponse, status_of, moment_or, plain_body, IsListingBody, IsResponseTo};
 
 use crate::request_writer::append_length;
 use dav_parts::{date_of, write_multistatus};
@@ -124,7 +124,7 @@ fn done_status(call: &Call) -> u16
 }
 
 fn moment_of(reply: &Reply, date: u64) -> u64
-    ensures { result ≡ moment_of reply.now date }
+    ensures { result ≡ moment_or reply.now date }
 {
     match reply {
         Reply::Listed(listing) => listing.now,

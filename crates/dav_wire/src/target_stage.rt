@@ -1,6 +1,6 @@
 ghost use Rattle.std.specs.Prelude.{◌≡◌, ◌↔◌, IsTrue};
 ghost use Rattle.httparse.specs.Grammar.{EndsInTarget};
-ghost use Rattle.dav_wire.specs.TargetStages.{after_byte, after};
+ghost use Rattle.dav_wire.specs.TargetStages.{after_byte, after_bytes};
 
 use httparse::{is_method_token, is_uri_token};
 
@@ -60,7 +60,7 @@ fn after_byte(stage: Stage, byte: u8) -> Stage
 }
 
 fn stage_of(bytes: &[u8]) -> Stage
-    ensures { result ≡ after Stage.Blank bytes.now }
+    ensures { result ≡ after_bytes Stage.Blank bytes.now }
 {
     let mut stage = Stage::Blank;
     for byte in bytes {

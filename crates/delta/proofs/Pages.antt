@@ -8,9 +8,9 @@ use Rattle.std.proofs.lemmas.Map.Made.{is_member-Decides}
 use Rattle.std.proofs.lemmas.Slice.Eq.{bytes_eq-Decides}
 use Rattle.jop_base.specs.declared.context.Context.{Context}
 use Rattle.jop_target.specs.declared.reply.Listing.{Listing}
-use Rattle.delta.specs.Marks.{id_of, ids_of, is_at, is_new, latest, marks_of}
-use Rattle.delta.specs.Order.{IsInOrder, IsSetOf, Lists, has, id_cmp, mark_cmp}
-use Rattle.delta.specs.Page.{IsGoneOf, IsNext, IsPageOf, IsSeenAt, IsTaken, Shows}
+use Rattle.delta.specs.Marks.{mark_id, ids_of, is_at, is_new, latest, marks_of}
+use Rattle.delta.specs.Order.{IsInOrder, IsSetOf, Lists, includes, id_cmp, mark_cmp}
+use Rattle.delta.specs.Page.{IsGoneOf, IsNext, IsPageOf, IsSeenAt, IsTaken, ShowsFile}
 use Rattle.delta.specs.Sets.{IsRecord, is_deleted, is_gone, is_out, is_past}
 use Rattle.delta.specs.Tombs.{counts_as_deleted, recorded_in}
 use Rattle.delta.specs.declared.mark.Mark.{Mark}
@@ -22,12 +22,12 @@ use Rattle.delta.proofs.Sorting.{has-by_cmp, lists-as, lists-ids, lists-marks, l
 
 -- a set of ids contains those that stand among them
 contains-is : (ids : List (List ℕ)) (set : BTreeSet (List ℕ)) (id : List ℕ) → IsSetOf id_cmp ids set
-    → contains id_cmp set id ≡ has ids id
+    → contains id_cmp set id ≡ includes ids id
 contains-is ids set id h = h.0 id ∙ has-by_cmp ids id
 
 -- what is out of a set of ids isn't one of them
 out-is : (ids : List (List ℕ)) (set : BTreeSet (List ℕ)) (id : List ℕ) → IsSetOf id_cmp ids set
-    → is_out set id ≡ not (has ids id)
+    → is_out set id ≡ not (includes ids id)
 out-is ids set id h = ap not (contains-is ids set id h)
 
 past-is : (context : Context) (seen : BTreeSet (List ℕ)) (m : Mark) → IsSetOf id_cmp context.seen seen
@@ -85,7 +85,7 @@ marked moment id m s i = λ k. record { stamp = s k; id = i k }
 seen-to : (now moment : ℕ) (marks : List Mark) (id : List ℕ) → moment < now
     → Contains (ids_of (filter (is_at moment) marks)) id → IsSeenAt now moment marks id
 seen-to now moment marks id l c =
-    let k = made-from id_of (filter (is_at moment) marks) id c in (
+    let k = made-from mark_id (filter (is_at moment) marks) id c in (
       l,
       subst (λ m. Contains marks m)
           (marked moment id k.x (eqb-true _ _ (kept-passes (is_at moment) marks k.x k.stood)) k.is)
@@ -95,7 +95,7 @@ seen-to now moment marks id l c =
 seen-from : (now moment : ℕ) (marks : List Mark) (id : List ℕ)
     → IsSeenAt now moment marks id → Contains (ids_of (filter (is_at moment) marks)) id
 seen-from now moment marks id h =
-    made-in id_of (filter (is_at moment) marks) (record { stamp = moment; id = id })
+    made-in mark_id (filter (is_at moment) marks) (record { stamp = moment; id = id })
     (kept-in (is_at moment) marks _ h.1 (eq-eqb moment moment refl))
 
 pub seen-is : (now moment : ℕ) (marks : List Mark) (seen : List (List ℕ)) → moment < now
@@ -129,29 +129,29 @@ latest-all moment (n ∷ ns) m h = elim (in-cases n ns m h) [
 
 -- ---- over two listings
 
-has-contains : (ids : List (List ℕ)) (id : List ℕ) → Decides (has ids id) (Contains ids id)
+has-contains : (ids : List (List ℕ)) (id : List ℕ) → Decides (includes ids id) (Contains ids id)
 has-contains = is_member-Decides bytes_eq-Decides
 
 not-has : (b : Bool) → (b ≡ true → ⊥) → b ≡ false
 not-has true h = absurd (h refl)
 not-has false h = refl
 
-has-none : (ids : List (List ℕ)) (id : List ℕ) → (Contains ids id → ⊥) → has ids id ≡ false
-has-none ids id h = not-has (has ids id) (λ e. h ((has-contains ids id).0 e))
+has-none : (ids : List (List ℕ)) (id : List ℕ) → (Contains ids id → ⊥) → includes ids id ≡ false
+has-none ids id h = not-has (includes ids id) (λ e. h ((has-contains ids id).0 e))
 
 taken-has : (context : Context) (marks : List Mark) (taken : List (List ℕ)) (m : Mark)
     → IsTaken context marks taken → Contains marks m → is_new context m ≡ true → Contains taken m.id
 taken-has context marks taken m h c n =
-    subst (λ ids. Contains ids m.id) (sym h.ids) (made-in id_of h.new m (h.lists.whole m (c, n)))
+    subst (λ ids. Contains ids m.id) (sym h.ids) (made-in mark_id h.new m (h.lists.whole m (c, n)))
 
 -- an item that was written when the earlier listing was taken or later is new to the later one
 next-new : (now : ℕ) (before next : Context) (marks : List Mark) (m : Mark) → IsNext now before marks next
     → now ≤ m.stamp → next.moment ≤ m.stamp → is_new next m ≡ true
 next-new now before next marks m h l k = elim (cases_order next.moment m.stamp) [
-  | inl e ↦ or_right (nat_lt next.moment m.stamp) (nat_eq next.moment m.stamp && not (has next.seen m.id))
+  | inl e ↦ or_right (nat_lt next.moment m.stamp) (nat_eq next.moment m.stamp && not (includes next.seen m.id))
       (rw (eq-eqb _ _ e, has-none next.seen m.id (λ c. omega (arith, (h.seen.only m.id c).0, e, l))) refl)
   | inr o ↦ elim o [
-    | inl s ↦ or_left (nat_lt next.moment m.stamp) (nat_eq next.moment m.stamp && not (has next.seen m.id)) (lt-ltb _ _ s)
+    | inl s ↦ or_left (nat_lt next.moment m.stamp) (nat_eq next.moment m.stamp && not (includes next.seen m.id)) (lt-ltb _ _ s)
     | inr s ↦ absurd (omega (arith, s, k))
   ]
 ]
@@ -161,12 +161,12 @@ next-old : (now : ℕ) (before next : Context) (marks : List Mark) (m n : Mark) 
     → Contains marks m → m.stamp < now → n.id ≡ m.id → n.stamp ≡ m.stamp → is_new next n ≡ true → ⊥
 next-old now before next marks m n h c l i s new =
     let last : m.stamp ≤ next.moment = subst (λ x. m.stamp ≤ x) (sym h.moment) (latest-all before.moment marks m c) in
-    elim (or_cases (nat_lt next.moment n.stamp) (nat_eq next.moment n.stamp && not (has next.seen n.id)) new) [
+    elim (or_cases (nat_lt next.moment n.stamp) (nat_eq next.moment n.stamp && not (includes next.seen n.id)) new) [
       | inl k ↦ omega (arith, ltb-true _ _ k, last, s)
       | inr k ↦
-          let both = and_parts (nat_eq next.moment n.stamp) (not (has next.seen n.id)) k in
+          let both = and_parts (nat_eq next.moment n.stamp) (not (includes next.seen n.id)) k in
           let e : next.moment ≡ n.stamp = eqb-true _ _ both.0 in
-          both_ways (has next.seen n.id) (not-true (has next.seen n.id) both.1)
+          both_ways (includes next.seen n.id) (not-true (includes next.seen n.id) both.1)
           ((has-contains next.seen n.id).1 (h.seen.whole n.id
           (omega (arith, e, s, l), subst (λ x. Contains marks x) (marked next.moment n.id m (sym (e ∙ s)) (sym i)) c)))
     ]
@@ -174,7 +174,8 @@ next-old now before next marks m n h c l i s new =
 pub misses : (first later : Listing) (tombs later_tombs : Option Listing) (context : Context)
     (synced ids : List (List ℕ)) (page next : Page) (m : Mark)
     → IsPageOf first tombs context synced page → IsPageOf later later_tombs page.next ids next
-    → Shows later m → first.now ≤ m.stamp → page.next.moment ≤ m.stamp → Contains next.taken m.id
+    → ShowsFile later m → first.now ≤ m.stamp → page.next.moment ≤ m.stamp
+    → Contains next.taken m.id
 misses first later tombs later_tombs context synced ids page next m p q c h k =
     taken-has page.next (marks_of later.entries) next.taken m q.taken c
     (next-new first.now context page.next (marks_of first.entries) m p.next h k)
@@ -182,11 +183,12 @@ misses first later tombs later_tombs context synced ids page next m p q c h k =
 pub fetches : (first later : Listing) (tombs later_tombs : Option Listing) (context : Context)
     (synced ids : List (List ℕ)) (page next : Page) (m : Mark)
     → IsPageOf first tombs context synced page → IsPageOf later later_tombs page.next ids next
-    → Shows first m → m.stamp < first.now
-    → ((n : Mark) → Shows later n → n.id ≡ m.id → n.stamp ≡ m.stamp)
+    → ShowsFile first m → m.stamp < first.now
+    → ((n : Mark) → ShowsFile later n → n.id ≡ m.id → n.stamp ≡ m.stamp)
     → Contains next.taken m.id → ⊥
 fetches first later tombs later_tombs context synced ids page next m p q c l same taken =
-    let k = made-from id_of q.taken.new m.id (subst (λ ids. Contains ids m.id) q.taken.ids taken) in
+    let k = made-from mark_id q.taken.new m.id
+    (subst (λ ids. Contains ids m.id) q.taken.ids taken) in
     let is = q.taken.lists.only k.x k.stood in
     next-old first.now context page.next (marks_of first.entries) m k.x p.next c l k.is (same k.x is.0 k.is) is.1
 
@@ -223,8 +225,8 @@ gone-recorded listing tombs context synced page id p c =
 
 pub gone-unshown : (listing : Listing) (tombs : Option Listing) (context : Context)
     (synced : List (List ℕ)) (page : Page) (m : Mark) → IsPageOf listing tombs context synced page
-    → Shows listing m → Contains page.gone m.id → ⊥
+    → ShowsFile listing m → Contains page.gone m.id → ⊥
 gone-unshown listing tombs context synced page m p shows c =
     let ids = ids_of (marks_of listing.entries) in
-    both_ways (has ids m.id) (not-true (has ids m.id) (p.gone.only m.id c).1)
-    ((has-contains ids m.id).1 (made-in id_of (marks_of listing.entries) m shows))
+    both_ways (includes ids m.id) (not-true (includes ids m.id) (p.gone.only m.id c).1)
+    ((has-contains ids m.id).1 (made-in mark_id (marks_of listing.entries) m shows))

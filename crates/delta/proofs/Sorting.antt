@@ -11,7 +11,7 @@ use Rattle.std.proofs.lemmas.Cmp.{nat_cmp_total, nat_list_cmp_total, on_total, t
 use Rattle.std.proofs.lemmas.Map.Lookups.{CmpEqualImpliesEq, btree_set_from_contains, exact_bytes, exact_pairs, exact_unsigned}
 use Rattle.std.proofs.lemmas.Map.Text.{is_eq-slice_cmp}
 use Rattle.std.proofs.lemmas.Map.Views.{btree_set_contains_from_list, btree_set_contains_iff}
-use Rattle.delta.specs.Order.{IsInOrder, Lists, has, id_cmp, mark_cmp}
+use Rattle.delta.specs.Order.{IsInOrder, Lists, includes, id_cmp, mark_cmp}
 use Rattle.delta.specs.declared.mark.Mark.{Mark}
 
 -- tests that follow from each other are one
@@ -22,7 +22,7 @@ alike true false f g = sym (f refl)
 alike false true f g = g refl
 
 -- the order of ids and the test agree on what stands among ids
-pub has-by_cmp : (ids : List (List ℕ)) (id : List ℕ) → is_member (eq_by_cmp id_cmp) ids id ≡ has ids id
+pub has-by_cmp : (ids : List (List ℕ)) (id : List ℕ) → is_member (eq_by_cmp id_cmp) ids id ≡ includes ids id
 has-by_cmp [] id = refl
 has-by_cmp (x ∷ xs) id = rw (is_eq-slice_cmp id x, has-by_cmp xs id) refl
 

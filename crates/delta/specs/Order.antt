@@ -32,5 +32,5 @@ pub record IsInOrder {T : Type 0} (cmp : T → T → Ordering) (items xs : List 
   pub are : xs ≡ set.keys
 
 -- whether an id stands among these
-abbrev pub has : List (List ℕ) → List ℕ → Bool
-has = is_member bytes_eq
+abbrev pub includes : List (List ℕ) → List ℕ → Bool
+includes = is_member bytes_eq

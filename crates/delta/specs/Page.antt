@@ -42,8 +42,8 @@ pub record IsPageOf (listing : Listing) (tombs : Option Listing) (context : Cont
   pub next : IsNext listing.now context (marks_of listing.entries) page.next
 
 -- a listing shows an item's file, written at this moment
-abbrev pub Shows : Listing → Mark → Type 0
-Shows listing m = Contains (marks_of listing.entries) m
+abbrev pub ShowsFile : Listing → Mark → Type 0
+ShowsFile listing m = Contains (marks_of listing.entries) m
 
 -- How many items a client has a base of, where there are some, and the target shows none at all,
 -- nor records that one was deleted.

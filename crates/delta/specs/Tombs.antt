@@ -4,7 +4,7 @@ use Rattle.jop_base.specs.declared.path.Path.{Path}
 use Rattle.jop_base.specs.declared.path.Path.TheVariants.{Tomb}
 use Rattle.jop_target.specs.declared.reply.Entry.{Entry}
 use Rattle.jop_target.specs.declared.reply.Listing.{Listing}
-use Rattle.delta.specs.Order.{has}
+use Rattle.delta.specs.Order.{includes}
 
 abbrev pub with_tomb : Path → List (List ℕ) → List (List ℕ)
 with_tomb (Tomb id) ids = id ∷ ids
@@ -23,4 +23,4 @@ recorded_by (Some tombs) = recorded_in tombs.entries
 -- an id counts as deleted: where deletions are recorded only if it is, else by absence alone
 abbrev pub counts_as_deleted : Option Listing → List ℕ → Bool
 counts_as_deleted None id = true
-counts_as_deleted (Some tombs) id = has (recorded_in tombs.entries) id
+counts_as_deleted (Some tombs) id = includes (recorded_in tombs.entries) id

@@ -3,7 +3,7 @@
 ghost use Rattle.std.specs.Prelude.{◌≡◌, ◌≤◌, ◌<◌, ℕ, List, Contains, Option, Some};
 ghost use Rattle.jop_base.specs.declared.context.Context.{Context};
 ghost use Rattle.jop_target.specs.declared.reply.Listing.{Listing};
-ghost use Rattle.delta.specs.Page.{IsPageOf, Shows};
+ghost use Rattle.delta.specs.Page.{IsPageOf, ShowsFile};
 ghost use Rattle.delta.specs.Tombs.{recorded_in};
 ghost use Rattle.delta.specs.declared.mark.Mark.{Mark};
 ghost use Rattle.delta.specs.declared.page.Page.{Page};
@@ -22,7 +22,7 @@ pub fn misses_nothing()
     ensures { (first later : Listing) (tombs later_tombs : Option Listing) (context : Context)
         (synced ids : List (List ℕ)) (page next : Page) (m : Mark)
         → IsPageOf first tombs context synced page → IsPageOf later later_tombs page.next ids next
-        → Shows later m → first.now ≤ m.stamp → page.next.moment ≤ m.stamp
+        → ShowsFile later m → first.now ≤ m.stamp → page.next.moment ≤ m.stamp
         → Contains next.taken m.id }
 {}
 
@@ -32,8 +32,8 @@ pub fn fetches_once()
     ensures { (first later : Listing) (tombs later_tombs : Option Listing) (context : Context)
         (synced ids : List (List ℕ)) (page next : Page) (m : Mark)
         → IsPageOf first tombs context synced page → IsPageOf later later_tombs page.next ids next
-        → Shows first m → m.stamp < first.now
-        → ((n : Mark) → Shows later n → n.id ≡ m.id → n.stamp ≡ m.stamp)
+        → ShowsFile first m → m.stamp < first.now
+        → ((n : Mark) → ShowsFile later n → n.id ≡ m.id → n.stamp ≡ m.stamp)
         → Contains next.taken m.id → ⊥ }
 {}
 
@@ -46,6 +46,6 @@ pub fn absence_alone_deletes_nothing()
         → Contains (recorded_in tombs.entries) id }
     ensures stays { (listing : Listing) (tombs : Option Listing) (context : Context)
         (synced : List (List ℕ)) (page : Page) (m : Mark)
-        → IsPageOf listing tombs context synced page → Shows listing m
+        → IsPageOf listing tombs context synced page → ShowsFile listing m
         → Contains page.gone m.id → ⊥ }
 {}

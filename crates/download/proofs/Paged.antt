@@ -8,9 +8,9 @@ use Rattle.conflicts.specs.declared.error.StepErr.TheVariants.{NoMemory, Refused
 use Rattle.conflicts.specs.declared.refusal.Refusal.TheVariants.{FailSafe}
 use Rattle.delta.specs.declared.page.Page.{Page}
 use Rattle.client.specs.Sites.{SiteNow}
-use Rattle.download.specs.Asked.{AsksFor, AsksForAll, EndsShown}
+use Rattle.download.specs.Asked.{PageAsksFor, AsksForAll, EndsShown}
 use Rattle.download.specs.Downloading.{Applies, Downloads, LeavesGone, is_download, is_listing}
-use Rattle.download.specs.Reading.{EndsDownload, HasListed, Lacks, Lists, PageIn, PageOf, RefusesDownload, EndsIfAllGone}
+use Rattle.download.specs.Reading.{EndsDownload, HasListed, Lacks, ListsPage, PageIn, PageOf, RefusesDownload, EndsIfAllGone}
 use Rattle.download.specs.Taking.{TakesOne, is_taking}
 use Rattle.jop_base.specs.declared.dir.Dir.TheVariants.{Root}
 use Rattle.jop_target.specs.Replies.{IsReplyTo}
@@ -41,10 +41,10 @@ own : (xs : List (List ℕ)) (i : ℕ) → i < length xs → Contains xs (get_or
 own xs i within = All-get_or (Contains xs) xs i [] within (All-contains_itself xs)
 
 pub all_asked : (known : Shown) (page : Page) (ids : List (List ℕ)) → IsPage known page
-    → ids ≡ page.taken → All (AsksFor known) ids
+    → ids ≡ page.taken → All (PageAsksFor known) ids
 all_asked known page ids is same =
-    subst (λ (xs : List (List ℕ)). All (AsksFor known) xs) (sym same)
-    (All-from_get_or (AsksFor known) page.taken []
+    subst (λ (xs : List (List ℕ)). All (PageAsksFor known) xs) (sym same)
+    (All-from_get_or (PageAsksFor known) page.taken []
     (λ i within. record { page = page; is = is; taken = own page.taken i within }))
 
 pub all_lack : (known : Shown) (page : Page) (ids : List (List ℕ)) → IsPage known page
@@ -114,7 +114,7 @@ page_at t own reply heard result same is h =
 
 pub lists : (a b : WorkNow) (result : Result Page StepErr)
     → (h : HasHeard (ListDir Root) is_download a b) → PageOf a.site.tables h.reply result
-    → Lists a result b
+    → ListsPage a result b
 lists a b result h page =
     let l = listed_by h.reply h.answer.0 h.answer.1 in
     by result l.0
@@ -122,7 +122,7 @@ lists a b result h page =
     (subst (λ (reply : Reply). Does (Hears (ListDir Root) reply) is_download a b) l.1 h.does) where
       by : (result : Result Page StepErr) (listing : Listing) → PageIn a.site.tables listing result
           → Does (Hears (ListDir Root) (Listed listing)) is_download a b
-          → Lists a result b
+          → ListsPage a result b
       by (Ok page) listing is h = record {
         listing = listing;
         is = is.0;

@@ -5,7 +5,7 @@ use Rattle.conflicts.specs.Rules.{conflict_change}
 use Rattle.conflicts.specs.declared.error.StepErr.{StepErr}
 use Rattle.client.specs.Sites.{SiteNow}
 use Rattle.download.proofs.Fetched.{Keeps}
-use Rattle.download.specs.Asked.{AsksFor}
+use Rattle.download.specs.Asked.{PageAsksFor}
 use Rattle.download.specs.Taking.{Meets, MeetsUnlessKey, MeetsFound, TakesOne, is_taking}
 use Rattle.law_licences.specs.Checks.{IsOther, is_pending}
 use Rattle.law_licences.specs.Conflicts.{MayConflict}
@@ -46,7 +46,7 @@ still_found id finding a b keeps h = record {
 
 -- another file that the page asks for may be taken
 pub may_take : (id : List ℕ) (remote : List ℕ × Content) (d : SiteNow) (known : Shown)
-    → AsksFor known id → IsFound id (Other remote) d → is_pending (row_at d.tables id) ≡ false
+    → PageAsksFor known id → IsFound id (Other remote) d → is_pending (row_at d.tables id) ≡ false
     → MayMakeBy (Some known) d (Taken id remote.0 remote.1)
 may_take id remote d known asks h unchanged shown fits = record {
   page = asks.page;

@@ -17,14 +17,14 @@ use Rattle.session.specs.Work.{WorkNow, knowing}
 use Rattle.session.specs.declared.finding.Finding.{Finding}
 
 -- the page asks for this file
-pub record AsksFor (known : Shown) (id : List ℕ) : Type 0 where
+pub record PageAsksFor (known : Shown) (id : List ℕ) : Type 0 where
   pub page : Page
   pub is : IsPage known page
   pub taken : Contains page.taken id
 
 -- it asks for all of these
 abbrev pub AsksForAll : List (List ℕ) → Shown → Type 0
-AsksForAll ids known = All (AsksFor known) ids
+AsksForAll ids known = All (PageAsksFor known) ids
 
 -- for each listing that the session was shown, if it was, and from which this was asked, it was this part, or gave
 -- nothing
@@ -37,7 +37,7 @@ EndsShown Asked sort P old result new =
 -- if the session's last listing asks for this file, it was this part, or gave nothing
 abbrev pub EndsIfAsked : List ℕ → Part → WorkNow → Result (Unit {0}) StepErr → WorkNow → Type 0
 EndsIfAsked id P old result new =
-    EndsShown (λ known. AsksFor known id) is_taking P old result new
+    EndsShown (λ known. PageAsksFor known id) is_taking P old result new
 
 -- if it asks for this file, which holds this, the row of its id met it, or that gave nothing
 abbrev pub EndsMet : List ℕ → List ℕ × Content → WorkNow → Result (Unit {0}) StepErr → WorkNow →

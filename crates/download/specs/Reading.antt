@@ -16,7 +16,7 @@ use Rattle.law_licences.specs.Deeds.{Deed}
 use Rattle.law_licences.specs.Pages.{IsPage, emptied_by}
 use Rattle.law_licences.specs.Views.{Finished, Shown, View, shown_to}
 use Rattle.local_store.specs.declared.tables.Tables.{Tables}
-use Rattle.session.specs.Doing.{Does, EndsAt, Finishes, RefusesOr}
+use Rattle.session.specs.Doing.{Does, EndsAt, DoesLast, RefusesOr}
 use Rattle.session.specs.Parts.{Hears, Part}
 use Rattle.session.specs.Work.{WorkNow, knowing}
 
@@ -86,11 +86,11 @@ RefusesDownload (FailSafe count) v ds = FindsEmptied count v ds
 RefusesDownload why v ds = ⊥
 
 -- each answer of the listing, by its cause
-abbrev pub Lists : WorkNow → Result Page StepErr → WorkNow → Type 0
-Lists old (Ok page) new = HasListed old page new
-Lists old (Err e) new = RefusesOr RefusesDownload is_download old e new
+abbrev pub ListsPage : WorkNow → Result Page StepErr → WorkNow → Type 0
+ListsPage old (Ok page) new = HasListed old page new
+ListsPage old (Err e) new = RefusesOr RefusesDownload is_download old e new
 
 -- the page was applied, which is the session's last part, or it gave nothing
 abbrev pub EndsDownload : {R : Type 0} → WorkNow → Result R StepErr → WorkNow → Type 0
-EndsDownload old (Ok value) new = Finishes Downloads is_download old new
+EndsDownload old (Ok value) new = DoesLast Downloads is_download old new
 EndsDownload old (Err e) new = RefusesOr RefusesDownload is_download old e new

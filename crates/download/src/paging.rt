@@ -1,5 +1,5 @@
 ghost use Rattle.std.specs.Prelude.{◌≡◌, IfOk, OnOk};
-ghost use Rattle.download.specs.Reading.{EndsDownload, EndsPage, Lists, PageIn, PageOf};
+ghost use Rattle.download.specs.Reading.{EndsDownload, EndsPage, ListsPage, PageIn, PageOf};
 ghost use Rattle.jop_target.specs.declared.reply.Reply.TheVariants.{Listed};
 ghost use Rattle.jop_target.specs.declared.reply.Listing.{Listing as Shows};
 ghost use Rattle.lease.specs.Standing.{IsSameBut};
@@ -59,7 +59,7 @@ fn page_of(alloc: Global, tables: &Tables, reply: &Reply) -> Result<Page, StepEr
 fn list<W: Session>(alloc: Global, s: &mut W) -> Result<Page, StepErr>
     requires ready { IsAtWork (W.now s.old) }
 
-    ensures ends { Lists (W.now s.old) result (W.now s.new) }
+    ensures ends { ListsPage (W.now s.old) result (W.now s.new) }
 {
     s.ask(alloc, Call::List(Dir::Root))?;
     page_of(alloc, s.tables(), s.last())

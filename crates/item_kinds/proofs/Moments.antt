@@ -5,7 +5,7 @@ use Rattle.jiff.specs.Words.{epoch_day, civil_nanos, time_nanos, IsYmd, IsHms}
 use Rattle.jiff.proofs.SpanFacts.{signed_arith}
 use Rattle.jiff.proofs.Family.{civil_nanos-parts, time_nanos_bound}
 use Rattle.item_kinds.specs.Calendar.{date_after}
-use Rattle.item_kinds.specs.Moment.{Shows}
+use Rattle.item_kinds.specs.Moment.{ShowsDate}
 use Rattle.item_kinds.proofs.Days.{date_of_day, day_of_date}
 
 -- the beginning of 1970
@@ -43,7 +43,7 @@ milli_part : (c : Time) (r : ℕ) → time_nanos c ≡ r * 1_000_000
 milli_part c r h = omega (arith, h)
 
 pub shows : (dt : DateTime) (t : ℕ) → t ≤ 253_402_300_799_999 → civil_nanos dt ≡ pos (t * 1_000_000)
-    → Shows dt t
+    → ShowsDate dt t
 shows dt t fits h =
     let days : t / 86_400_000 ≤ 2_932_896 = omega (arith, fits) in
     let date = date_of_day dt.date (t / 86_400_000) days (day_part dt t h) in

@@ -1,5 +1,5 @@
 -- What the pairs of an item say. Of a repeated key the topmost pair counts.
-use Rattle.std.specs.Prelude.{◌≡◌, ℕ, List, Option, Some, None, MatchOption, ◌⊎◌, if◌then◌else◌, codes, option_and_then}
+use Rattle.std.specs.Prelude.{◌≡◌, ℕ, Bool, false, nat_eq, List, Option, Some, None, MatchOption, ◌⊎◌, if◌then◌else◌, codes, option_and_then}
 use Rattle.std.specs.Str.Parse.{digits_value}
 use Rattle.jop_base.specs.Id.{IsIdText}
 use Rattle.item_text.specs.declared.item.Prop.{Prop}
@@ -11,6 +11,11 @@ use Rattle.item_kinds.specs.Times.{IsTime}
 -- the number that one to three digits write
 abbrev pub type_number : List ℕ → Option ℕ
 type_number value = if is_type_value value then Some (digits_value 10 value) else None
+
+-- whether it is there, and is this number
+abbrev pub is_number : ℕ → Option ℕ → Bool
+is_number number None = false
+is_number number (Some found) = nat_eq found number
 
 -- the number of the kind is that of the `type_`
 abbrev pub IsKind : List Prop → Option Kind → Type 0

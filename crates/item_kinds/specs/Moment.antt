@@ -4,7 +4,7 @@ use Rattle.jiff.specs.Types.{DateTime}
 use Rattle.item_kinds.specs.Calendar.{date_after}
 
 -- they show the date of that day, and how long the day has lasted
-pub record Shows (moment : DateTime) (time : ℕ) : Type 0 where
+pub record ShowsDate (moment : DateTime) (time : ℕ) : Type 0 where
   pub year : moment.date.year ≡ pos (date_after (time / 86_400_000)).year
   pub month : moment.date.month ≡ (date_after (time / 86_400_000)).month
   pub day : moment.date.day ≡ (date_after (time / 86_400_000)).day

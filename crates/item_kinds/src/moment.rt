@@ -1,7 +1,7 @@
 ghost use Rattle.std.specs.Prelude.{◌≡◌, ◌≤◌, ◌*◌, ℕ, pos, Some, IfSome};
 ghost use Rattle.jop_base.specs.Times.{last_time};
 ghost use Rattle.jiff.specs.Words.{civil_nanos};
-ghost use Rattle.item_kinds.specs.Moment.{Shows};
+ghost use Rattle.item_kinds.specs.Moment.{ShowsDate};
 
 use jiff::SignedDuration;
 use jiff::civil::{DateTime, datetime};
@@ -17,7 +17,7 @@ fn beginning() -> DateTime
 /// What a calendar and a clock in UTC show at the time.
 pub(crate) fn moment_at(time: u64) -> DateTime
     requires { time ≤ last_time }
-    ensures { Shows result time }
+    ensures { ShowsDate result time }
 {
     match beginning().checked_add(SignedDuration::from_millis(time as i64)) {
         Ok(moment) => moment,

@@ -11,7 +11,7 @@ use Rattle.item_text.specs.declared.bad_item.BadWhy.TheVariants.{TypeValue}
 use Rattle.item_text.specs.Lines.{has, lines, joined, is_blank, trimmed_end, trimmed, has_text}
 use Rattle.item_text.specs.Props.{type_key, value_of}
 use Rattle.item_text.specs.Valid.{is_type_value, IsProp, IsItem}
-use Rattle.item_text.specs.Grammar.{title_text, body_text, prop_text, written, is_colon, pair_of, AreParts, title_of, item_of, Reads, type_fault, first_fault}
+use Rattle.item_text.specs.Grammar.{title_text, body_text, prop_text, written, is_colon, pair_of, AreParts, title_of, item_of_lines, ReadsAs, type_fault, first_fault}
 use Rattle.item_text.proofs.Cut.{Lacks, lines_append, lines_first, lines_one}
 use Rattle.item_text.proofs.Head.{joined-lines}
 use Rattle.item_text.proofs.Blanks.{text_at}
@@ -192,8 +192,8 @@ parts_again (Some t) (b ∷ bs) ls one none same text =
     (t ∷ [] ∷ lines body, (text, inl ([], nothing, whole)), refl, sym (joined-lines body))
 
 pub reads_again : (item : Item) → IsItem item → IsUtf8 (written item)
-    → Reads (written item) item × (first_fault (written item) ≡ None)
-unfolding written Reads item_of
+    → ReadsAs (written item) item × (first_fault (written item) ≡ None)
+unfolding written ReadsAs item_of_lines
 reads_again item h utf8 =
     let ls : List (List ℕ) = map prop_text item.props in
     let p = parts_again item.title item.body ls h.title h.no_title

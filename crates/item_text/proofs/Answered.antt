@@ -10,8 +10,8 @@ use Rattle.item_text.specs.declared.bad_item.BadItem.{BadItem}
 use Rattle.item_text.specs.declared.bad_item.BadWhy.TheVariants.{NotText}
 use Rattle.item_text.specs.declared.bad_item.ItemErr.TheVariants as errors
 use Rattle.item_text.specs.Lines.{has, lines}
-use Rattle.item_text.specs.Grammar.{AreParts, pair_of, item_of, Reads, block, or_else, type_fault, block_fault, lines_fault, first_fault}
-use Rattle.item_text.specs.Answers.{Answers}
+use Rattle.item_text.specs.Grammar.{AreParts, pair_of, item_of_lines, ReadsAs, block, or_else, type_fault, block_fault, lines_fault, first_fault}
+use Rattle.item_text.specs.Answers.{ReadsOrRefuses}
 use Rattle.item_text.specs.Steps.{lines_of, IsBlock}
 use Rattle.item_text.proofs.Walked.{block_of_parts, colon_none}
 
@@ -58,8 +58,8 @@ fault_parts all above below parts colons =
 -- a text of lines that nothing refuses
 pub reads_parts : (bytes : List ℕ) (above block : Option (Bor (List ℕ))) → IsUtf8 bytes
     → IsBlock (lines bytes) above block
-    → Reads bytes (item_of (lines_of above) (lines_of block))
-unfolding Reads
+    → ReadsAs bytes (item_of_lines (lines_of above) (lines_of block))
+unfolding ReadsAs
 reads_parts bytes above block utf8 b = (utf8, (lines_of above, lines_of block, b.0, refl))
 
 -- the refusal of the type, whatever it is, is that of the text
@@ -75,16 +75,16 @@ fault_type bytes above block bad utf8 b is =
 
 pub answered_bad : (bytes : List ℕ) (bad : BadItem) → IsUtf8 bytes
     → lines_fault (lines bytes) ≡ Some bad
-    → Answers bytes (Err (errors.Bad bad))
-unfolding Answers
+    → ReadsOrRefuses bytes (Err (errors.Bad bad))
+unfolding ReadsOrRefuses
 answered_bad bytes bad utf8 h = fault_text bytes utf8 ∙ h
 
 pub answered_ok : (bytes : List ℕ) (above block : Option (Bor (List ℕ))) (item : Item)
     → IsUtf8 bytes
-    → IsBlock (lines bytes) above block → item ≡ item_of (lines_of above) (lines_of block)
+    → IsBlock (lines bytes) above block → item ≡ item_of_lines (lines_of above) (lines_of block)
     → first_fault bytes ≡ None
-    → Answers bytes (Ok item)
-unfolding Answers
+    → ReadsOrRefuses bytes (Ok item)
+unfolding ReadsOrRefuses
 answered_ok bytes above block item utf8 b is good =
-    let P : Item → Type 0 = Reads bytes in
+    let P : Item → Type 0 = ReadsAs bytes in
     (subst P (sym is) (reads_parts bytes above block utf8 b), good)

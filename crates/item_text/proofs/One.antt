@@ -5,8 +5,8 @@ use Rattle.item_text.specs.declared.item.Item.{Item}
 use Rattle.item_text.specs.declared.bad_item.ItemErr.{ItemErr}
 use Rattle.item_text.specs.declared.bad_item.ItemErr.TheVariants as errors
 use Rattle.item_text.specs.Lines.{lines}
-use Rattle.item_text.specs.Grammar.{AreParts, item_of, Reads, first_fault}
-use Rattle.item_text.specs.Answers.{Answers, IsOrMemory}
+use Rattle.item_text.specs.Grammar.{AreParts, item_of_lines, ReadsAs, first_fault}
+use Rattle.item_text.specs.Answers.{ReadsOrRefuses, IsOrMemory}
 use Rattle.item_text.proofs.Walked.{block_of_parts}
 
 -- the lines below are one list, and so are those above
@@ -46,21 +46,21 @@ above_one all a b c d p q =
       ]
     ]
 
-pub reads_one : (bytes : List ℕ) (item other : Item) → Reads bytes item → Reads bytes other
+pub reads_one : (bytes : List ℕ) (item other : Item) → ReadsAs bytes item → ReadsAs bytes other
     → item ≡ other
-unfolding Reads
+unfolding ReadsAs
 reads_one bytes item other r s =
     let all : List (List ℕ) = lines bytes in
     r.1.3
-    ∙ ap (λ (a : List (List ℕ)). item_of a r.1.1)
+    ∙ ap (λ (a : List (List ℕ)). item_of_lines a r.1.1)
     (above_one all r.1.0 r.1.1 s.1.0 s.1.1 r.1.2 s.1.2)
-    ∙ ap (λ (b : List (List ℕ)). item_of s.1.0 b)
+    ∙ ap (λ (b : List (List ℕ)). item_of_lines s.1.0 b)
     (below_one all r.1.0 r.1.1 s.1.0 s.1.1 r.1.2 s.1.2)
     ∙ sym s.1.3
 
-pub answers_only : (bytes : List ℕ) (result : Result Item ItemErr) → Answers bytes result
-    → (item : Item) → Reads bytes item → first_fault bytes ≡ None → IsOrMemory item result
-unfolding Answers IsOrMemory
+pub answers_only : (bytes : List ℕ) (result : Result Item ItemErr) → ReadsOrRefuses bytes result
+    → (item : Item) → ReadsAs bytes item → first_fault bytes ≡ None → IsOrMemory item result
+unfolding ReadsOrRefuses IsOrMemory
 answers_only bytes (Ok found) h item r good = reads_one bytes found item h.0 r
 answers_only bytes (Err (errors.Bad refusal)) h item r good = absurd (let e = sym h ∙ good in cc)
 answers_only bytes (Err errors.NoMemory) h item r good = tt

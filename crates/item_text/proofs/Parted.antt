@@ -7,9 +7,9 @@ use Rattle.std.proofs.lemmas.Str.{IsUtf8-from_is_utf8}
 use Rattle.item_text.specs.declared.bad_item.BadItem.{BadItem}
 use Rattle.item_text.specs.declared.bad_item.ItemErr.{ItemErr}
 use Rattle.item_text.specs.declared.item.Item.{Item}
-use Rattle.item_text.specs.Answers.{Answers}
+use Rattle.item_text.specs.Answers.{ReadsOrRefuses}
 use Rattle.item_text.specs.Lines.{lines, has_text}
-use Rattle.item_text.specs.Grammar.{AreParts, item_of, Reads, block, above_block, first_fault, unless_bad, item_in}
+use Rattle.item_text.specs.Grammar.{AreParts, item_of_lines, ReadsAs, block, above_block, first_fault, unless_bad, item_in}
 use Rattle.item_text.proofs.Walked.{block_whole}
 use Rattle.item_text.proofs.One.{reads_one}
 
@@ -57,10 +57,10 @@ bytes_are_text bytes good =
 
 -- the parts of the text make an item that it reads as
 abbrev whole_of : List ℕ → Item
-whole_of bytes = item_of (above_block (lines bytes)) (block (lines bytes))
+whole_of bytes = item_of_lines (above_block (lines bytes)) (block (lines bytes))
 
-whole : (bytes : List ℕ) → first_fault bytes ≡ None → Reads bytes (whole_of bytes)
-unfolding Reads
+whole : (bytes : List ℕ) → first_fault bytes ≡ None → ReadsAs bytes (whole_of bytes)
+unfolding ReadsAs
 whole bytes good =
     let ls : Lines = lines bytes in
     (bytes_are_text bytes good, (above_block ls, block ls, parts_of ls, refl))
@@ -71,14 +71,14 @@ unless_some None made item is = (refl, cc)
 unless_some (Some bad) made item is = absurd (cc)
 
 pub reads_from_item_in : (bytes : List ℕ) (item : Item) → item_in bytes ≡ Some item
-    → Reads bytes item × (first_fault bytes ≡ None)
+    → ReadsAs bytes item × (first_fault bytes ≡ None)
 unfolding item_in
 reads_from_item_in bytes item is =
     let parts = unless_some (first_fault bytes) (whole_of bytes) item is in
-    let P : Item → Type 0 = Reads bytes in
+    let P : Item → Type 0 = ReadsAs bytes in
     (subst P parts.1 (whole bytes parts.0), parts.0)
 
-pub item_in-reads : (bytes : List ℕ) (item : Item) → Reads bytes item → first_fault bytes ≡ None
+pub item_in-reads : (bytes : List ℕ) (item : Item) → ReadsAs bytes item → first_fault bytes ≡ None
     → item_in bytes ≡ Some item
 unfolding item_in
 item_in-reads bytes item reads good =
@@ -90,8 +90,8 @@ pub item_in-refused : (bytes : List ℕ) (bad : BadItem) → first_fault bytes �
 unfolding item_in
 item_in-refused bytes bad is = ap (λ o. unless_bad o (whole_of bytes)) is
 
-pub answer_item : (bytes : List ℕ) (result : Result Item ItemErr) → Answers bytes result
+pub answer_item : (bytes : List ℕ) (result : Result Item ItemErr) → ReadsOrRefuses bytes result
     → IfOk result (λ item. item_in bytes ≡ Some item)
-unfolding Answers
+unfolding ReadsOrRefuses
 answer_item bytes (Ok item) h = item_in-reads bytes item h.0 h.1
 answer_item bytes (Err e) h = tt

@@ -11,8 +11,8 @@ use Rattle.item_text.specs.declared.bad_item.ItemErr.{ItemErr}
 use Rattle.item_text.specs.Lines.{has, lines, joined, trimmed_front, trimmed}
 use Rattle.item_text.specs.Props.{type_key, value_of}
 use Rattle.item_text.specs.Valid.{is_type_value, IsField, IsProp, IsItem}
-use Rattle.item_text.specs.Grammar.{is_colon, pair_of, AreParts, title_of, item_of, Reads, block, or_else, colon_fault, type_fault, block_fault, lines_fault, first_fault}
-use Rattle.item_text.specs.Answers.{Answers}
+use Rattle.item_text.specs.Grammar.{is_colon, pair_of, AreParts, title_of, item_of_lines, ReadsAs, block, or_else, colon_fault, type_fault, block_fault, lines_fault, first_fault}
+use Rattle.item_text.specs.Answers.{ReadsOrRefuses}
 use Rattle.item_text.proofs.Cut.{lines_clean}
 use Rattle.item_text.proofs.Blanks.{trimmed-trimmed}
 use Rattle.item_text.proofs.Walked.{block_of_parts}
@@ -125,9 +125,9 @@ unfolding joined
 head_valid [] h = (tt, refl)
 head_valid (l ∷ ls) h = (h.0, tt)
 
-pub reads_valid : (bytes : List ℕ) (item : Item) → Reads bytes item → first_fault bytes ≡ None
+pub reads_valid : (bytes : List ℕ) (item : Item) → ReadsAs bytes item → first_fault bytes ≡ None
     → IsItem item
-unfolding Reads item_of lines_fault block_fault
+unfolding ReadsAs item_of_lines lines_fault block_fault
 reads_valid bytes item r good =
     let above = r.1.0 in
     let below = r.1.1 in
@@ -149,8 +149,8 @@ reads_valid bytes item r good =
       typed = kind;
     })
 
-pub answer_valid : (bytes : List ℕ) (result : Result Item ItemErr) → Answers bytes result
+pub answer_valid : (bytes : List ℕ) (result : Result Item ItemErr) → ReadsOrRefuses bytes result
     → IfOk result IsItem
-unfolding Answers
+unfolding ReadsOrRefuses
 answer_valid bytes (Ok item) h = reads_valid bytes item h.0 h.1
 answer_valid bytes (Err e) h = tt

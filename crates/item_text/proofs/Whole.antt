@@ -1,7 +1,7 @@
 -- The canonical text, part by part.
 use Rattle.std.proofs.Common.{◌≡◌, ℕ, List, [], ◌∷◌, ◌++◌, drop, Option, refl, sym, ap, ◌∙◌, append_assoc}
 use Rattle.item_text.specs.Lines.{lines, joined}
-use Rattle.item_text.specs.Grammar.{title_text, gap_behind, body_text, prop_text, pair_of, written, title_of, item_of}
+use Rattle.item_text.specs.Grammar.{title_text, gap_behind, body_text, prop_text, pair_of, written, title_of, item_of_lines}
 use Rattle.item_text.specs.Steps.{block_text}
 use Rattle.item_text.proofs.Cut.{some_first}
 
@@ -59,8 +59,8 @@ pub written_parts : (before body behind : List ℕ) (title : Option (List ℕ))
     (above below : List (List ℕ))
     → before ≡ title_text title → title ≡ title_of above → body ≡ joined (drop 2 above)
     → behind ≡ gap_behind body ++ block_text below
-    → before ++ (body ++ behind) ≡ written (item_of above below)
-unfolding written item_of
+    → before ++ (body ++ behind) ≡ written (item_of_lines above below)
+unfolding written item_of_lines
 written_parts before body behind title above below a b d e =
     ap (λ (x : List ℕ). x ++ (body ++ behind)) (a ∙ ap title_text b)
     ∙ ap (λ (x : List ℕ). title_text (title_of above) ++ x)

@@ -13,7 +13,7 @@ pub record IsCanonical (bytes text : List ℕ) : Type 0 where
   pub is_written : text ≡ written item
 
 -- the canonical text in three parts, if the bytes read to an item; else the first refusal; or memory ran out
-abbrev pub Tidies : List ℕ → Result (List ℕ × Bor (List ℕ) × List ℕ) ItemErr → Type 0
-Tidies bytes (Ok parts) = IsCanonical bytes (parts.0 ++ (parts.1.now ++ parts.2))
-Tidies bytes (Err (errors.Bad refusal)) = first_fault bytes ≡ Some refusal
-Tidies bytes (Err errors.NoMemory) = Unit {0}
+abbrev pub GivesCanonical : List ℕ → Result (List ℕ × Bor (List ℕ) × List ℕ) ItemErr → Type 0
+GivesCanonical bytes (Ok parts) = IsCanonical bytes (parts.0 ++ (parts.1.now ++ parts.2))
+GivesCanonical bytes (Err (errors.Bad refusal)) = first_fault bytes ≡ Some refusal
+GivesCanonical bytes (Err errors.NoMemory) = Unit {0}

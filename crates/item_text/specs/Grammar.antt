@@ -62,16 +62,16 @@ title_of [] = None
 title_of (line ∷ ls) = Some line
 
 -- above stand the title, a line that is dropped, and the body; below stand the pairs
-unfoldable pub item_of : List (List ℕ) → List (List ℕ) → Item
-item_of above below =
+unfoldable pub item_of_lines : List (List ℕ) → List (List ℕ) → Item
+item_of_lines above below =
     record { title = title_of above; body = joined (drop 2 above); props = map pair_of below }
 
 -- the bytes are a text whose parts are the item's
-unfoldable pub Reads : List ℕ → Item → Type 0
-Reads bytes item =
+unfoldable pub ReadsAs : List ℕ → Item → Type 0
+ReadsAs bytes item =
     IsUtf8 bytes
     × ((above : List (List ℕ)) × (below : List (List ℕ))
-    × AreParts (lines bytes) above below × (item ≡ item_of above below))
+    × AreParts (lines bytes) above below × (item ≡ item_of_lines above below))
 
 -- ---- refusing
 
@@ -128,4 +128,4 @@ unless_bad (Some bad) item = None
 -- the item that the bytes read to, if nothing refuses them
 unfoldable pub item_in : List ℕ → Option Item
 item_in bytes =
-    unless_bad (first_fault bytes) (item_of (above_block (lines bytes)) (block (lines bytes)))
+    unless_bad (first_fault bytes) (item_of_lines (above_block (lines bytes)) (block (lines bytes)))

@@ -1,5 +1,5 @@
 -- The pairs of an item: the value of a key, and setting one. Of a repeated key the topmost pair counts.
-use Rattle.std.specs.Prelude.{ℕ, Bool, List, [], ◌∷◌, Option, Some, None, if◌then◌else◌, codes, bytes_eq}
+use Rattle.std.specs.Prelude.{ℕ, Bool, false, List, [], ◌∷◌, Option, Some, None, if◌then◌else◌, codes, bytes_eq}
 use Rattle.std.specs.List.{list_any}
 use Rattle.item_text.specs.declared.item.Prop.{Prop}
 
@@ -15,6 +15,15 @@ has_key key p = bytes_eq p.key key
 unfoldable pub value_of : List ℕ → List Prop → Option (List ℕ)
 value_of key [] = None
 value_of key (p ∷ ps) = if has_key key p then Some p.value else value_of key ps
+
+-- whether it is there, and is this text
+abbrev pub is_text : List ℕ → Option (List ℕ) → Bool
+is_text text None = false
+is_text text (Some other) = bytes_eq other text
+
+-- whether the topmost value of the key is this one
+abbrev pub has_value : List ℕ → List ℕ → List Prop → Bool
+has_value key value props = is_text value (value_of key props)
 
 -- with p in place of the topmost pair of its key
 unfoldable pub replaced : Prop → List Prop → List Prop

@@ -1,7 +1,7 @@
 ghost use Rattle.std.specs.Prelude.{◌≡◌, ◌++◌, OnOk, IfOk, map, option_map};
 ghost use Rattle.item_text.specs.Lines.{lines, joined};
 ghost use Rattle.item_text.specs.Grammar.{title_text, gap_behind, prop_text, pair_of};
-ghost use Rattle.item_text.specs.Canonical.{Tidies};
+ghost use Rattle.item_text.specs.Canonical.{GivesCanonical};
 ghost use Rattle.item_text.specs.Steps.{lines_of, block_text};
 
 use crate::bad_item::ItemErr;
@@ -79,7 +79,7 @@ fn behind_body(alloc: Global, body: &str, block: Option<&str>) -> Result<Text, A
 }
 
 fn canonical_text(alloc: Global, text: &str) -> Result<(Text, &str, Text), ItemErr>
-    ensures { Tidies text.now result }
+    ensures { GivesCanonical text.now result }
 {
     let (above, block) = cut_block(text)?;
     if let Some(bad) = type_refusal(text, block) {
@@ -95,7 +95,7 @@ fn canonical_text(alloc: Global, text: &str) -> Result<(Text, &str, Text), ItemE
 /// It comes in three parts: what stands before the body, the body, and what stands behind it. So a long body isn't
 /// copied, and no list of pairs is made. Time and memory are linear in the bytes.
 pub fn canonical_parts(alloc: Global, bytes: &[u8]) -> Result<(Text, &str, Text), ItemErr>
-    ensures { Tidies bytes.now result }
+    ensures { GivesCanonical bytes.now result }
 {
     match std::str::from_utf8(bytes) {
         Ok(text) => canonical_text(alloc, text),

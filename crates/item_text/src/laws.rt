@@ -7,32 +7,32 @@ ghost use Rattle.item_text.specs.declared.item.Item.{Item};
 ghost use Rattle.item_text.specs.declared.item.Prop.{Prop};
 ghost use Rattle.item_text.specs.Props.{type_key, value_of, with_prop};
 ghost use Rattle.item_text.specs.Valid.{is_type_value, IsProp, IsItem};
-ghost use Rattle.item_text.specs.Grammar.{Reads, written, first_fault, item_in};
+ghost use Rattle.item_text.specs.Grammar.{ReadsAs, written, first_fault, item_in};
 ghost use Rattle.item_text.specs.Escape.{escaped, unescaped};
 
 /// The text of a valid item reads as that item, and nothing refuses it.
 pub fn reads_what_is_written()
     ensures { (item : Item) → IsItem item → IsUtf8 (written item)
-        → Reads (written item) item × (first_fault (written item) ≡ None) }
+        → ReadsAs (written item) item × (first_fault (written item) ≡ None) }
 {}
 
 /// What is read is valid.
 pub fn what_is_read_is_valid()
-    ensures { (bytes : List ℕ) (item : Item) → Reads bytes item → first_fault bytes ≡ None
+    ensures { (bytes : List ℕ) (item : Item) → ReadsAs bytes item → first_fault bytes ≡ None
         → IsItem item }
 {}
 
 /// A text reads as one item only.
 pub fn reads_as_one()
-    ensures { (bytes : List ℕ) (item other : Item) → Reads bytes item → Reads bytes other
+    ensures { (bytes : List ℕ) (item other : Item) → ReadsAs bytes item → ReadsAs bytes other
         → item ≡ other }
 {}
 
 /// The bytes read to an item exactly if they read as it and nothing refuses them.
 pub fn reads_to_what_it_reads_as()
     ensures as_item { (bytes : List ℕ) (item : Item) → item_in bytes ≡ Some item
-        → Reads bytes item × (first_fault bytes ≡ None) }
-    ensures to_item { (bytes : List ℕ) (item : Item) → Reads bytes item → first_fault bytes ≡ None
+        → ReadsAs bytes item × (first_fault bytes ≡ None) }
+    ensures to_item { (bytes : List ℕ) (item : Item) → ReadsAs bytes item → first_fault bytes ≡ None
         → item_in bytes ≡ Some item }
     ensures refused { (bytes : List ℕ) (bad : BadItem) → first_fault bytes ≡ Some bad
         → item_in bytes ≡ None }

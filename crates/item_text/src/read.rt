@@ -2,8 +2,8 @@ ghost use Rattle.std.specs.Prelude.{◌≡◌, List, ℕ, None, Some, drop, IfOk
 ghost use Rattle.item_text.specs.declared.item.Item.{Item};
 ghost use Rattle.item_text.specs.Lines.{lines, joined};
 ghost use Rattle.item_text.specs.Valid.{IsItem};
-ghost use Rattle.item_text.specs.Grammar.{title_of, Reads, first_fault, item_in};
-ghost use Rattle.item_text.specs.Answers.{Answers, IsOrMemory};
+ghost use Rattle.item_text.specs.Grammar.{title_of, ReadsAs, first_fault, item_in};
+ghost use Rattle.item_text.specs.Answers.{ReadsOrRefuses, IsOrMemory};
 ghost use Rattle.item_text.specs.Steps.{lines_of};
 
 use crate::bad_item::{BadItem, BadWhy, ItemErr};
@@ -47,9 +47,9 @@ fn owned(alloc: Global, text: Option<&str>) -> Result<Option<Text>, AllocError>
     }
 }
 
-#[tactic(auto, unfolding(crate::specs::Answers::Answers))]
+#[tactic(auto, unfolding(crate::specs::Answers::ReadsOrRefuses))]
 fn read_text(alloc: Global, text: &str) -> Result<Item, ItemErr>
-    ensures { Answers text.now result }
+    ensures { ReadsOrRefuses text.now result }
 {
     let (above, block) = cut_block(text)?;
     if let Some(bad) = type_refusal(text, block) {
@@ -74,7 +74,7 @@ pub(crate) fn not_text() -> ItemErr
 }
 
 fn read_bytes(alloc: Global, bytes: &[u8]) -> Result<Item, ItemErr>
-    ensures { Answers bytes.now result }
+    ensures { ReadsOrRefuses bytes.now result }
 {
     match std::str::from_utf8(bytes) {
         Ok(text) => read_text(alloc, text),
@@ -84,11 +84,11 @@ fn read_bytes(alloc: Global, bytes: &[u8]) -> Result<Item, ItemErr>
 
 /// The item whose text the bytes are, or the first refusal. It takes time linear in the bytes.
 pub fn read_item(alloc: Global, bytes: &[u8]) -> Result<Item, ItemErr>
-    ensures exact { Answers bytes.now result }
+    ensures exact { ReadsOrRefuses bytes.now result }
     ensures item { IfOk result (λ item. item_in bytes.now ≡ Some item) }
 
     // No text is refused without cause, and no text reads as two items.
-    ensures only { (item : Item) → Reads bytes.now item → first_fault bytes.now ≡ None
+    ensures only { (item : Item) → ReadsAs bytes.now item → first_fault bytes.now ≡ None
         → IsOrMemory item result }
 
     ensures valid { IfOk result IsItem }

@@ -2,7 +2,7 @@ ghost use Rattle.std.specs.Prelude.{◌≡◌, ◌∷◌, ◌++◌, None, OnOk, 
 ghost use Rattle.std.specs.List.{flat_map};
 ghost use Rattle.item_text.specs.Lines.{joined};
 ghost use Rattle.item_text.specs.Valid.{IsItem};
-ghost use Rattle.item_text.specs.Grammar.{title_text, gap_behind, prop_text, written, Reads, first_fault};
+ghost use Rattle.item_text.specs.Grammar.{title_text, gap_behind, prop_text, written, ReadsAs, first_fault};
 
 use crate::item::{Item, Prop};
 use jop_base::{Bytes, Text};
@@ -101,7 +101,7 @@ fn text_of(alloc: Global, item: &Item) -> Result<Text, AllocError>
 pub fn write_item(alloc: Global, item: &Item) -> Result<Bytes, AllocError>
     requires { IsItem item.now }
     ensures written { IfOk result (λ bytes. bytes ≡ written item.now) }
-    ensures again { IfOk result (λ bytes. Reads bytes item.now × (first_fault bytes ≡ None)) }
+    ensures again { IfOk result (λ bytes. ReadsAs bytes item.now × (first_fault bytes ≡ None)) }
 {
     let text = text_of(alloc, item)?;
     Ok(text.into_bytes())

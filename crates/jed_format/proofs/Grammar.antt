@@ -4,9 +4,10 @@ use Rattle.std.specs.Option.{option_map_or}
 use Rattle.std.proofs.lemmas.Bool.{cases_lt, and_parts, eqb-true, le-leb}
 use Rattle.std.proofs.lemmas.Bool.Decides.{nat_tests}
 use Rattle.std.proofs.lemmas.List.{take_at, drop_at, drop-drop}
+use Rattle.jop_base.specs.Id.{is_id}
 use Rattle.jed_format.specs.Chunk.{passing}
 use Rattle.jed_format.specs.Grammar.{IsPiece, AreChunks, IsJedText}
-use Rattle.jed_format.specs.Jed.{length_in, method_in, key_in, has_size, header, header_in, is_id, piece_in, behind, then_more, chunks_from, chunks_in, jed, under_header, jed_in}
+use Rattle.jed_format.specs.Jed.{length_in, method_number, key_id_in, has_size, jed_header, header_in, piece_in, behind, then_more, chunks_from, chunks_in, jed, under_header, jed_in}
 use Rattle.jed_format.specs.declared.jed.Jed.{Jed}
 use Rattle.jed_format.specs.declared.jed_err.JedErr.TheVariants.{BadChunk, UnsupportedMethod}
 use Rattle.jed_format.specs.declared.sjcl_chunk.SjclChunk.{SjclChunk}
@@ -27,7 +28,7 @@ length_in-append (a ∷ b ∷ d ∷ e ∷ f ∷ g ∷ []) rest six =
     rw long refl
 length_in-append (a ∷ b ∷ d ∷ e ∷ f ∷ g ∷ h ∷ more) rest six = absurd (omega arith)
 
-pub method_in-append : (digits rest : List ℕ) → length digits ≡ 2 → method_in (digits ++ rest) ≡ method_in digits
+pub method_in-append : (digits rest : List ℕ) → length digits ≡ 2 → method_number (digits ++ rest) ≡ method_number digits
 method_in-append [] rest two = absurd (omega arith)
 method_in-append (a ∷ []) rest two = absurd (omega arith)
 method_in-append (a ∷ b ∷ []) rest two =
@@ -44,7 +45,7 @@ length_in-some text n is = elim (cases_lt (length text) 6) [
   | inr long ↦ long
 ]
 
-pub method_in-some : (text : List ℕ) (n : ℕ) → method_in text ≡ Some n → 2 ≤ length text
+pub method_in-some : (text : List ℕ) (n : ℕ) → method_number text ≡ Some n → 2 ≤ length text
 method_in-some text n is = elim (cases_lt (length text) 2) [
   | inl short ↦
       let test : nat_lt (length text) 2 ≡ true = grind (arith, nat_tests) in
@@ -95,7 +96,7 @@ chunks_from-AreChunks (c ∷ chunks) body (suc turns) n is enough =
 pub id_len : (key : List ℕ) → is_id key ≡ true → length key ≡ 32
 id_len key is = eqb-true (length key) 32 (and_parts (nat_eq (length key) 32) _ is).0
 
-key_in-append : (key body : List ℕ) → is_id key ≡ true → key_in (key ++ body) ≡ Some key
+key_in-append : (key body : List ℕ) → is_id key ≡ true → key_id_in (key ++ body) ≡ Some key
 key_in-append key body is =
     ap (λ (k : List ℕ). passing is_id (Some k)) (take_at key body 32 (id_len key is))
     ∙ ap (λ b. if b then Some key else None) is
@@ -113,13 +114,13 @@ jed_in-IsJedText text j is =
     sym (drop-drop 32 13 whole) ∙ ap (drop 32) at_key ∙ drop_at j.key is.body 32 (id_len j.key is.key) in
     let sized : has_size (drop 5 whole) ≡ true =
     ap (λ o. option_map_or (λ size. size == 34) o false) (length_in-append is.size more is.six ∙ is.says) in
-    let named : method_in (drop 11 whole) ≡ Some j.method =
-    ap method_in at_method ∙ method_in-append is.method tail is.two ∙ is.names in
-    let keyed : key_in (drop 13 whole) ≡ Some j.key = ap key_in at_key ∙ key_in-append j.key is.body is.key in
+    let named : method_number (drop 11 whole) ≡ Some j.method =
+    ap method_number at_method ∙ method_in-append is.method tail is.two ∙ is.names in
+    let keyed : key_id_in (drop 13 whole) ≡ Some j.key = ap key_id_in at_key ∙ key_in-append j.key is.body is.key in
     let head : header_in whole ≡ Ok (j.method, j.key) =
-    ap (λ b. header true b (method_in (drop 11 whole)) (key_in (drop 13 whole))) sized
-    ∙ ap (λ o. header true true o (key_in (drop 13 whole))) named
-    ∙ ap (λ o. header true true (Some j.method) o) keyed in
+    ap (λ b. jed_header true b (method_number (drop 11 whole)) (key_id_in (drop 13 whole))) sized
+    ∙ ap (λ o. jed_header true true o (key_id_in (drop 13 whole))) named
+    ∙ ap (λ o. jed_header true true (Some j.method) o) keyed in
     let chunks : chunks_in is.body ≡ Ok j.chunks =
     chunks_from-AreChunks j.chunks is.body (length is.body) 1 is.chunks (omega arith) in
     ap (λ (t : List ℕ). under_header (header_in t) (drop 45 t)) is.whole

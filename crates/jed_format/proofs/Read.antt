@@ -5,9 +5,10 @@ use Rattle.std.specs.Prelude.{bytes_eq}
 use Rattle.std.proofs.lemmas.Bool.{cases_Bool, eqb-true, leb-true}
 use Rattle.std.proofs.lemmas.List.{length-take-le, drop-drop}
 use Rattle.std.proofs.lemmas.Slice.Eq.{bytes_eq-Decides}
+use Rattle.jop_base.specs.Id.{is_id}
 use Rattle.jed_format.specs.Chunk.{passing, chunk_in}
 use Rattle.jed_format.specs.Grammar.{IsPiece, AreChunks, IsJedText}
-use Rattle.jed_format.specs.Jed.{length_in, method_in, key_in, has_size, header, header_in, is_id, is_method, piece_in, then_more, chunks_from, chunks_in, jed, under_header, jed_in}
+use Rattle.jed_format.specs.Jed.{length_in, method_number, key_id_in, has_size, jed_header, header_in, is_method, piece_in, then_more, chunks_from, chunks_in, jed, under_header, jed_in}
 use Rattle.jed_format.specs.declared.jed.Jed.{Jed}
 use Rattle.jed_format.specs.declared.jed_err.JedErr.{JedErr}
 use Rattle.jed_format.specs.declared.jed_err.JedErr.TheVariants.{BadChunk, UnsupportedMethod}
@@ -124,7 +125,7 @@ record Header (marked sized : Bool) (method : Option ℕ) (key : Option (List �
   keyed : key ≡ Some head.1
 
 header_of : (marked sized : Bool) (method : Option ℕ) (key : Option (List ℕ))
-    (head : ℕ × List ℕ) → header marked sized method key ≡ Ok head →
+    (head : ℕ × List ℕ) → jed_header marked sized method key ≡ Ok head →
     Header marked sized method key head
 header_of false sized method key head is = absurd (cc (is))
 header_of true false method key head is = absurd (cc (is))
@@ -158,7 +159,7 @@ cut n text = sym (take-append-drop n text)
 
 read_whole : (text : List ℕ) (j : Jed) (head : ℕ × List ℕ) →
     Header (bytes_eq (take 5 text) (codes "JED01")) (has_size (drop 5 text))
-    (method_in (drop 11 text)) (key_in (drop 13 text)) head →
+    (method_number (drop 11 text)) (key_id_in (drop 13 text)) head →
     is_method head.0 ≡ true → chunks_in (drop 45 text) ≡ Ok j.chunks → j.method ≡ head.0 →
     j.key ≡ head.1 → IsJedText text j
 read_whole text j head h known chunks method key =
@@ -196,7 +197,8 @@ read_whole text j head h known chunks method key =
           ∙ (ap length_in (take-append-drop 6 (drop 5 text)) ∙ sized);
       two = two;
       names = sym (method_in-append (take 2 (drop 11 text)) (drop 2 (drop 11 text)) two)
-          ∙ (ap method_in (take-append-drop 2 (drop 11 text)) ∙ (h.names ∙ ap Some (sym method)));
+          ∙ (ap method_number (take-append-drop 2 (drop 11 text))
+          ∙ (h.names ∙ ap Some (sym method)));
       known = ap is_method method ∙ known;
       key = ap is_id (key ∙ sym keyed.0) ∙ keyed.1;
       chunks = chunks_are (length (drop 45 text)) 1 (drop 45 text) j.chunks (omega arith) chunks;

@@ -11,7 +11,7 @@ use Rattle.aes_ccm.proofs.Chained.{ciphered-ciphered}
 use Rattle.aes_ccm.proofs.Tag.{length-tag_of}
 use Rattle.aes_ccm.proofs.Xored.{length-xored}
 use Rattle.jed_format.specs.Chunk.{is_chunk, is_key_size, is_tag_size}
-use Rattle.jed_format.specs.Opening.{key_of, length_size, nonce_of, sealed_len, sealed_in, tag_in, plain_of, right_tag, opened}
+use Rattle.jed_format.specs.Opening.{key_of_password, length_size, nonce_of, sealed_len, sealed_in, tag_in, plain_of, right_tag, opened_piece}
 use Rattle.jed_format.specs.Sealed.{IsSealed}
 use Rattle.jed_format.specs.declared.sjcl_chunk.SjclChunk.{SjclChunk}
 use Rattle.jed_format.proofs.Valid.{key_size_of, tag_size_of, limits_of}
@@ -88,10 +88,10 @@ unfolding ciphered
 length-ciphered key nonce text = length-xored text (stream key nonce (blocks_in (length text)))
 
 pub opened-sealed : (password : List ℕ) (c : SjclChunk) (piece : List ℕ) → c.ts / 8 ≤ 16
-    → IsSealed password c piece → opened password c ≡ Some piece
-unfolding opened
+    → IsSealed password c piece → opened_piece password c ≡ Some piece
+unfolding opened_piece
 opened-sealed password c piece short is =
-    let key : List ℕ = key_of password c in
+    let key : List ℕ = key_of_password password c in
     let nonce : List ℕ = nonce_of c.iv (length piece) in
     let text : List ℕ = ciphered key nonce piece in
     let tag : List ℕ = tag_of key nonce [] piece (c.ts / 8) in
@@ -117,14 +117,15 @@ opened-sealed password c piece short is =
 -- the values of the code: a key, a nonce, the sealed bytes, and the tag behind them
 pub record Cut (password : List ℕ) (c : SjclChunk) (key nonce sealed tag : List ℕ) (end : ℕ) : Type 0 where
   pub is_end : end ≡ sealed_len c
-  pub is_key : key ≡ key_of password c
+  pub is_key : key ≡ key_of_password password c
   pub is_nonce : nonce ≡ nonce_of c.iv end
   pub is_sealed : sealed ≡ take end c.ct
   pub is_tag : tag ≡ drop end c.ct
   pub fits : c.ts / 8 ≤ length c.ct
 
 pub cut_of : (password : List ℕ) (c : SjclChunk) (key nonce sealed items ct iv : List ℕ) (eighth : ℕ)
-    → is_chunk c ≡ true → ct ≡ c.ct → iv ≡ c.iv → eighth ≡ c.ts / 8 → key ≡ key_of password c
+    → is_chunk c ≡ true → ct ≡ c.ct → iv ≡ c.iv → eighth ≡ c.ts / 8
+    → key ≡ key_of_password password c
     → nonce ≡ nonce_of iv (length ct - eighth) → sealed ≡ items → items ≡ take (length ct - eighth) ct
     → Cut password c key nonce sealed
     (take (length ct - (length ct - eighth)) (drop (length ct - eighth) ct)) (length ct - eighth)
@@ -166,8 +167,8 @@ cut_plain : (password : List ℕ) (c : SjclChunk) (key nonce sealed tag : List �
     → Cut password c key nonce sealed tag end → ciphered key nonce sealed ≡ plain_of password c
 cut_plain password c key nonce sealed tag end cut =
     ap (λ (k : List ℕ). ciphered k nonce sealed) cut.is_key
-    ∙ ap (λ (n : List ℕ). ciphered (key_of password c) n sealed) (cut.is_nonce ∙ ap (nonce_of c.iv) cut.is_end)
-    ∙ ap (ciphered (key_of password c) (nonce_of c.iv (sealed_len c))) (cut.is_sealed ∙ ap (λ k. take k c.ct) cut.is_end)
+    ∙ ap (λ (n : List ℕ). ciphered (key_of_password password c) n sealed) (cut.is_nonce ∙ ap (nonce_of c.iv) cut.is_end)
+    ∙ ap (ciphered (key_of_password password c) (nonce_of c.iv (sealed_len c))) (cut.is_sealed ∙ ap (λ k. take k c.ct) cut.is_end)
 
 cut_tag : (password : List ℕ) (c : SjclChunk) (key nonce sealed tag : List ℕ) (end : ℕ)
     → Cut password c key nonce sealed tag end
@@ -178,13 +179,13 @@ cut_tag password c key nonce sealed tag end cut =
     ap (λ t. tag_of key nonce [] (ciphered key nonce sealed) t) size
     ∙ ap (λ (p : List ℕ). tag_of key nonce [] p (c.ts / 8)) (cut_plain password c key nonce sealed tag end cut)
     ∙ ap (λ (k : List ℕ). tag_of k nonce [] (plain_of password c) (c.ts / 8)) cut.is_key
-    ∙ ap (λ (n : List ℕ). tag_of (key_of password c) n [] (plain_of password c) (c.ts / 8))
+    ∙ ap (λ (n : List ℕ). tag_of (key_of_password password c) n [] (plain_of password c) (c.ts / 8))
     (cut.is_nonce ∙ ap (nonce_of c.iv) cut.is_end)
 
 pub opened_right : (password : List ℕ) (c : SjclChunk) (key nonce sealed tag plain : List ℕ) (end : ℕ)
     → Cut password c key nonce sealed tag end → plain ≡ ciphered key nonce sealed
-    → tag ≡ tag_of key nonce [] plain (length tag) → Some plain ≡ opened password c
-unfolding opened
+    → tag ≡ tag_of key nonce [] plain (length tag) → Some plain ≡ opened_piece password c
+unfolding opened_piece
 opened_right password c key nonce sealed tag plain end cut is right =
     let own : tag_in c ≡ tag = sym (cut.is_tag ∙ ap (λ k. drop k c.ct) cut.is_end) in
     let same : tag_in c ≡ right_tag password c (plain_of password c) =
@@ -196,8 +197,8 @@ opened_right password c key nonce sealed tag plain end cut is right =
 
 pub opened_wrong : (password : List ℕ) (c : SjclChunk) (key nonce sealed tag : List ℕ) (end : ℕ)
     → Cut password c key nonce sealed tag end
-    → (tag ≡ tag_of key nonce [] (ciphered key nonce sealed) (length tag) → ⊥) → None ≡ opened password c
-unfolding opened
+    → (tag ≡ tag_of key nonce [] (ciphered key nonce sealed) (length tag) → ⊥) → None ≡ opened_piece password c
+unfolding opened_piece
 opened_wrong password c key nonce sealed tag end cut wrong =
     let own : tag ≡ tag_in c = cut.is_tag ∙ ap (λ k. drop k c.ct) cut.is_end in
     let test : bytes_eq (tag_in c) (right_tag password c (plain_of password c)) ≡ false =

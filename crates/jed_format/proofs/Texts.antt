@@ -19,7 +19,7 @@ use Rattle.serde_json.specs.Read.{read, of_json, number_of, max_depth}
 use Rattle.serde_json.proofs.Numbers.{number_of-decimal}
 use Rattle.jed_text.proofs.Ascii.{IsAscii-cons}
 use Rattle.jed_format.specs.Base64.{encoded}
-use Rattle.jed_format.specs.Chunk.{is_chunk, chunk_of, under_mode, answer_of, value_of, chunk_in}
+use Rattle.jed_format.specs.Chunk.{is_chunk, chunk_of, under_mode, answer_of, json_value, chunk_in}
 use Rattle.jed_format.specs.Write.{IsSjcl, iv_text, sizes_text, chunk_text}
 use Rattle.jed_format.specs.declared.jed_err.JedErr.TheVariants.{BadChunk}
 use Rattle.jed_format.specs.declared.sjcl_chunk.SjclChunk.{SjclChunk}
@@ -168,7 +168,7 @@ small_of c valid =
     let limits = limits_of c valid in
     record { iter = omega (arith, limits.few_turns); ks = omega (arith, limits.small_key); ts = omega (arith, limits.small_tag) }
 
-value_of-chunk_text : (c : SjclChunk) → IsSjcl c → value_of (chunk_text c) ≡ Some (data_of c)
+value_of-chunk_text : (c : SjclChunk) → IsSjcl c → json_value (chunk_text c) ≡ Some (data_of c)
 value_of-chunk_text c is =
     let small = small_of c is.valid in
     rw (is_utf8-from_IsUtf8 (chunk_text c) (IsUtf8-chunk_text c small))

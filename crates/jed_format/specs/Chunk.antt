@@ -43,34 +43,34 @@ abbrev pub passing : {T : Type 0} → (T → Bool) → Option T → Option T
 passing test None = None
 passing test (Some x) = if test x then Some x else None
 
-abbrev pub text_in : List ℕ → Data → Option (List ℕ)
-text_in name json = option_and_then as_str (get name json)
+abbrev pub string_in : List ℕ → Data → Option (List ℕ)
+string_in name json = option_and_then as_str (get name json)
 
 -- a whole number that isn't negative
-abbrev pub number_of : Data → Option ℕ
-number_of value = option_and_then as_u64 (as_number value)
+abbrev pub whole_number : Data → Option ℕ
+whole_number value = option_and_then as_u64 (as_number value)
 
 abbrev pub number_in : List ℕ → Data → Option ℕ
-number_in name json = option_and_then number_of (get name json)
+number_in name json = option_and_then whole_number (get name json)
 
 -- the bytes of a text of base64
-abbrev pub bytes_in : List ℕ → Data → Option (List ℕ)
-bytes_in name json = option_and_then decoded (text_in name json)
+abbrev pub base64_in : List ℕ → Data → Option (List ℕ)
+base64_in name json = option_and_then decoded (string_in name json)
 
 -- ---- members that need not be there
 
-abbrev pub is_one : Data → Bool
-is_one value = option_map_or (λ n. n == 1) (number_of value) false
+abbrev pub is_number_one : Data → Bool
+is_number_one value = option_map_or (λ n. n == 1) (whole_number value) false
 
-abbrev pub is_text : List ℕ → Data → Bool
-is_text text value = option_map_or (λ s. bytes_eq s text) (as_str value) false
+abbrev pub is_string : List ℕ → Data → Bool
+is_string text value = option_map_or (λ s. bytes_eq s text) (as_str value) false
 
 -- each of them that is there is as it must be
 abbrev pub fits : Data → Bool
 fits json =
-    option_map_or is_one (get (codes "v") json) true
-    && option_map_or (is_text (codes "aes")) (get (codes "cipher") json) true
-    && option_map_or (is_text (codes "")) (get (codes "adata") json) true
+    option_map_or is_number_one (get (codes "v") json) true
+    && option_map_or (is_string (codes "aes")) (get (codes "cipher") json) true
+    && option_map_or (is_string (codes "")) (get (codes "adata") json) true
 
 -- ---- the whole
 
@@ -83,20 +83,20 @@ chunk iv iter ks ts salt ct = None
 -- the members that a chunk is made of, if they are there
 abbrev pub parts_of : Data → Option SjclChunk
 parts_of json =
-    chunk (bytes_in (codes "iv") json)
+    chunk (base64_in (codes "iv") json)
     (passing is_iter (number_in (codes "iter") json))
     (passing is_key_size (number_in (codes "ks") json))
     (passing is_tag_size (number_in (codes "ts") json))
-    (bytes_in (codes "salt") json)
-    (bytes_in (codes "ct") json)
+    (base64_in (codes "salt") json)
+    (base64_in (codes "ct") json)
 
 -- the chunk that an object is, whose members are as they must be
 abbrev pub chunk_of : Data → Option SjclChunk
 chunk_of json = if fits json then passing is_chunk (parts_of json) else None
 
 -- the JSON value of a text
-abbrev pub value_of : List ℕ → Option Data
-value_of text = if is_utf8 text then read text else None
+abbrev pub json_value : List ℕ → Option Data
+json_value text = if is_utf8 text then read text else None
 
 -- a chunk under its mode, as chunk n
 abbrev pub under_mode : ℕ → Option SjclChunk → Option (List ℕ) → Result SjclChunk JedErr
@@ -106,8 +106,8 @@ under_mode n None mode = Err (BadChunk n)
 under_mode n (Some c) None = Err (BadChunk n)
 
 abbrev pub answer_of : ℕ → Data → Result SjclChunk JedErr
-answer_of n json = under_mode n (chunk_of json) (text_in (codes "mode") json)
+answer_of n json = under_mode n (chunk_of json) (string_in (codes "mode") json)
 
 -- the chunk of a text, or the refusal of chunk n
 unfoldable pub chunk_in : List ℕ → ℕ → Result SjclChunk JedErr
-chunk_in text n = option_map_or (answer_of n) (value_of text) (Err (BadChunk n))
+chunk_in text n = option_map_or (answer_of n) (json_value text) (Err (BadChunk n))

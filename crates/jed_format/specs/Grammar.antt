@@ -1,7 +1,8 @@
 -- The grammar of sealed texts, as a relation of whole texts and what they hold.
 use Rattle.std.specs.Prelude.{◌≡◌, ℕ, ◌+◌, true, List, [], ◌∷◌, ◌++◌, length, codes, Some, Ok}
+use Rattle.jop_base.specs.Id.{is_id}
 use Rattle.jed_format.specs.Chunk.{chunk_in}
-use Rattle.jed_format.specs.Jed.{length_in, method_in, is_id, is_method}
+use Rattle.jed_format.specs.Jed.{length_in, method_number, is_method}
 use Rattle.jed_format.specs.declared.jed.Jed.{Jed}
 use Rattle.jed_format.specs.declared.sjcl_chunk.SjclChunk.{SjclChunk}
 
@@ -26,7 +27,7 @@ pub record IsJedText (text : List ℕ) (jed : Jed) : Type 0 where
   pub six : length size ≡ 6
   pub says : length_in size ≡ Some 34
   pub two : length method ≡ 2
-  pub names : method_in method ≡ Some jed.method
+  pub names : method_number method ≡ Some jed.method
   pub known : is_method jed.method ≡ true
   pub key : is_id jed.key ≡ true
   pub chunks : AreChunks body 1 jed.chunks

@@ -1,9 +1,8 @@
 -- Sealed texts (JED01): a header of 45 bytes, and chunks, each behind its length.
-use Rattle.std.specs.Prelude.{ℕ, zero, suc, ◌+◌, ◌*◌, Bool, true, false, ◌&&◌, ◌||◌, ◌==◌, nat_le, nat_lt, nat_eq, List, [], ◌∷◌, ◌++◌, length, take, drop, slice_index, bytes_eq, codes, Option, Some, None, Result, Ok, Err, if◌then◌else◌, option_and_then}
-use Rattle.std.specs.List.{list_all}
+use Rattle.std.specs.Prelude.{ℕ, zero, suc, ◌+◌, ◌*◌, Bool, true, false, ◌&&◌, ◌||◌, ◌==◌, nat_le, nat_lt, List, [], ◌∷◌, ◌++◌, length, take, drop, slice_index, bytes_eq, codes, Option, Some, None, Result, Ok, Err, if◌then◌else◌, option_and_then}
 use Rattle.std.specs.Option.{option_map_or}
-use Rattle.jop_base.specs.Id.{is_digit}
-use Rattle.jed_text.specs.Hexadecimal.{two_digits, four_digits}
+use Rattle.jop_base.specs.Id.{is_id}
+use Rattle.jed_text.specs.Hexadecimal.{number_of_two, number_of_four}
 use Rattle.jed_format.specs.Chunk.{passing, chunk_in}
 use Rattle.jed_format.specs.declared.jed.Jed.{Jed}
 use Rattle.jed_format.specs.declared.jed_err.JedErr.{JedErr}
@@ -17,25 +16,22 @@ six_of (Some high) (Some low) = Some (65536 * high + low)
 six_of high low = None
 
 -- the number of the first two hexadecimal digits
-abbrev pub method_in : List ℕ → Option ℕ
-method_in text =
+abbrev pub method_number : List ℕ → Option ℕ
+method_number text =
     if nat_lt (length text) 2 then None
-    else two_digits (slice_index text 0) (slice_index text 1)
+    else number_of_two (slice_index text 0) (slice_index text 1)
 
 -- the number of the first six hexadecimal digits
 abbrev pub length_in : List ℕ → Option ℕ
 length_in text =
     if nat_lt (length text) 6 then None
-    else six_of (two_digits (slice_index text 0) (slice_index text 1))
-    (four_digits (slice_index text 2) (slice_index text 3)
+    else six_of (number_of_two (slice_index text 0) (slice_index text 1))
+    (number_of_four (slice_index text 2) (slice_index text 3)
     (slice_index text 4) (slice_index text 5))
 
--- 32 lower-case hexadecimal digits
-abbrev pub is_id : List ℕ → Bool
-is_id text = nat_eq (length text) 32 && list_all is_digit text
-
-abbrev pub key_in : List ℕ → Option (List ℕ)
-key_in text = passing is_id (Some (take 32 text))
+-- the first 32 bytes, if they are the text of an id
+abbrev pub key_id_in : List ℕ → Option (List ℕ)
+key_id_in text = passing is_id (Some (take 32 text))
 
 -- ---- the header
 
@@ -44,17 +40,17 @@ abbrev pub has_size : List ℕ → Bool
 has_size text = option_map_or (λ size. size == 34) (length_in text) false
 
 -- the method and the key, or the place of the first field that isn't as it must be
-abbrev pub header : Bool → Bool → Option ℕ → Option (List ℕ) → Result (ℕ × List ℕ) JedErr
-header false sized method key = Err (NotJed 0)
-header true false method key = Err (NotJed 5)
-header true true None key = Err (NotJed 11)
-header true true (Some method) None = Err (NotJed 13)
-header true true (Some method) (Some key) = Ok (method, key)
+abbrev pub jed_header : Bool → Bool → Option ℕ → Option (List ℕ) → Result (ℕ × List ℕ) JedErr
+jed_header false sized method key = Err (NotJed 0)
+jed_header true false method key = Err (NotJed 5)
+jed_header true true None key = Err (NotJed 11)
+jed_header true true (Some method) None = Err (NotJed 13)
+jed_header true true (Some method) (Some key) = Ok (method, key)
 
 abbrev pub header_in : List ℕ → Result (ℕ × List ℕ) JedErr
 header_in text =
-    header (bytes_eq (take 5 text) (codes "JED01")) (has_size (drop 5 text))
-    (method_in (drop 11 text)) (key_in (drop 13 text))
+    jed_header (bytes_eq (take 5 text) (codes "JED01")) (has_size (drop 5 text))
+    (method_number (drop 11 text)) (key_id_in (drop 13 text))
 
 abbrev pub is_method : ℕ → Bool
 is_method method = nat_le 1 method && nat_le method 5 || method == 7

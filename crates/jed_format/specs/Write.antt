@@ -40,12 +40,12 @@ six_digits n =
     ∷ digit (n / 16) ∷ digit n ∷ []
 
 -- a chunk behind its length
-abbrev pub piece_text : SjclChunk → List ℕ
-piece_text c = six_digits (length (chunk_text c)) ++ chunk_text c
+abbrev pub framed_chunk : SjclChunk → List ℕ
+framed_chunk c = six_digits (length (chunk_text c)) ++ chunk_text c
 
 -- of method 5
 unfoldable pub jed_text : Jed → List ℕ
-jed_text jed = codes "JED0100002205" ++ jed.key ++ flat_map piece_text jed.chunks
+jed_text jed = codes "JED0100002205" ++ jed.key ++ flat_map framed_chunk jed.chunks
 
 -- what may be written: of method 5, each chunk valid and its text short enough for six digits
 pub record IsJed (jed : Jed) : Type 0 where

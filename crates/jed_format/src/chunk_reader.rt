@@ -2,7 +2,7 @@ ghost use Rattle.std.specs.Prelude.{◌≡◌, true, Ok, Err, IfOk, IfErr, IfSom
 ghost use Rattle.std.specs.Option.{option_map_or};
 ghost use Rattle.serde_json.specs.Find.{get};
 ghost use Rattle.serde_json.specs.View.{view};
-ghost use Rattle.jed_format.specs.Chunk.{is_chunk, is_text, fits, passing, parts_of, chunk_of, value_of, chunk_in};
+ghost use Rattle.jed_format.specs.Chunk.{is_chunk, is_string, fits, passing, parts_of, chunk_of, json_value, chunk_in};
 ghost use Rattle.jed_format.specs.Refusals.{Refuses};
 
 use crate::jed_err::JedErr;
@@ -13,7 +13,7 @@ use std::alloc::{AllocError, Global};
 
 /// The JSON value of a text.
 fn value_of(alloc: Global, text: &[u8]) -> Result<Option<Value>, AllocError>
-    ensures { IfOk result (λ found. option_map view found ≡ value_of text.now) }
+    ensures { IfOk result (λ found. option_map view found ≡ json_value text.now) }
 {
     match Value::from_slice(alloc, text) {
         Ok(value) => Ok(Some(value)),
@@ -24,7 +24,7 @@ fn value_of(alloc: Global, text: &[u8]) -> Result<Option<Value>, AllocError>
 
 /// Whether a member is this text, if it is there.
 fn may_be(object: &Value, name: &str, text: &str) -> bool
-    ensures { result ≡ option_map_or (is_text text.now) (get name.now (view object.now)) true }
+    ensures { result ≡ option_map_or (is_string text.now) (get name.now (view object.now)) true }
 {
     match object.get(name) {
         Some(value) => is_text(value, text),

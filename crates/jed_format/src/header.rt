@@ -1,6 +1,7 @@
 ghost use Rattle.std.specs.Prelude.{◌≡◌, ◌<◌, ◌^◌, take, drop, Some, IfSome};
+ghost use Rattle.jop_base.specs.Id.{is_id};
 ghost use Rattle.jed_format.specs.Chunk.{passing};
-ghost use Rattle.jed_format.specs.Jed.{six_of, method_in, length_in, is_id, key_in, has_size, header, header_in, is_method};
+ghost use Rattle.jed_format.specs.Jed.{six_of, method_number, length_in, key_id_in, has_size, jed_header, header_in, is_method};
 
 use crate::jed_err::JedErr;
 use jed_text::{four_digits, two_digits};
@@ -21,7 +22,7 @@ fn up_to(text: &[u8], len: usize) -> &[u8]
 }
 
 fn method_in(text: &[u8]) -> Option<u8>
-    ensures { result ≡ method_in text.now }
+    ensures { result ≡ method_number text.now }
 {
     if text.len() < 2 {
         return None;
@@ -83,7 +84,7 @@ fn header(
     method: Option<u8>,
     key: Option<Id>,
 ) -> Result<(u8, Id), JedErr>
-    ensures { result ≡ header marked sized method key }
+    ensures { result ≡ jed_header marked sized method key }
 {
     if !marked {
         return Err(JedErr::NotJed { at: 0 });

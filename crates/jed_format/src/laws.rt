@@ -3,14 +3,14 @@
 ghost use Rattle.std.specs.Prelude.{◌≡◌, ◌↔◌, ℕ, List, Ok, flat_map};
 ghost use Rattle.jed_format.specs.Grammar.{IsJedText};
 ghost use Rattle.jed_format.specs.Jed.{jed_in};
-ghost use Rattle.jed_format.specs.Opening.{text_in, blob_in};
+ghost use Rattle.jed_format.specs.Opening.{opened_text, blob_in};
 ghost use Rattle.jed_format.specs.Sealed.{IsSealedText, IsSealedBlob};
 ghost use Rattle.jed_format.specs.declared.jed.Jed.{Jed};
 
 /// A text that was sealed under a password, in pieces of 5,000 units, opens under it.
 pub fn opens_a_sealed_text()
     ensures { (password text : List ℕ) (jed : Jed) → IsSealedText password text jed
-        → text_in password jed ≡ Ok text }
+        → opened_text password jed ≡ Ok text }
 {}
 
 /// A blob whose parts were sealed under a password opens under it to the parts, joined.

@@ -2,7 +2,7 @@
 
 ghost use Rattle.std.specs.Prelude.{◌≡◌, IfOk, option_map, codes};
 ghost use Rattle.serde_json.specs.View.{view};
-ghost use Rattle.jed_format.specs.Chunk.{is_iter, is_key_size, is_tag_size, is_one, is_text, text_in, number_of, number_in, bytes_in, passing};
+ghost use Rattle.jed_format.specs.Chunk.{is_iter, is_key_size, is_tag_size, is_number_one, is_string, string_in, whole_number, number_in, base64_in, passing};
 
 use crate::base64_text::decoded;
 use jop_base::Bytes;
@@ -10,7 +10,7 @@ use serde_json::Value;
 use std::alloc::{AllocError, Global};
 
 pub(crate) fn text_in<'a>(object: &'a Value, name: &str) -> Option<&'a str>
-    ensures { option_map (λ s. s.now) result ≡ text_in name.now (view object.now) }
+    ensures { option_map (λ s. s.now) result ≡ string_in name.now (view object.now) }
 {
     object.get(name)?.as_str()
 }
@@ -27,7 +27,7 @@ pub(crate) fn bytes_in(
     object: &Value,
     name: &str,
 ) -> Result<Option<Bytes>, AllocError>
-    ensures { IfOk result (λ found. found ≡ bytes_in name.now (view object.now)) }
+    ensures { IfOk result (λ found. found ≡ base64_in name.now (view object.now)) }
 {
     match text_in(object, name) {
         Some(text) => {
@@ -66,7 +66,7 @@ pub(crate) fn tag_size_in(object: &Value) -> Option<u16>
 }
 
 pub(crate) fn is_one(value: &Value) -> bool
-    ensures { result ≡ is_one (view value.now) }
+    ensures { result ≡ is_number_one (view value.now) }
 {
     match value.as_u64() {
         Some(n) => n == 1,
@@ -75,7 +75,7 @@ pub(crate) fn is_one(value: &Value) -> bool
 }
 
 pub(crate) fn is_text(value: &Value, text: &str) -> bool
-    ensures { result ≡ is_text text.now (view value.now) }
+    ensures { result ≡ is_string text.now (view value.now) }
 {
     match value.as_str() {
         Some(s) => s == text,

@@ -3,7 +3,7 @@
 ghost use Rattle.std.specs.Prelude.{◌≡◌, ◌≤◌, true, length, IfOk};
 ghost use Rattle.aes_ccm.specs.Hmac.{pbkdf2_of};
 ghost use Rattle.jed_format.specs.Chunk.{is_chunk};
-ghost use Rattle.jed_format.specs.Opening.{key_of, length_size, nonce_of, sealed_len, sealed_in, tag_in, opened};
+ghost use Rattle.jed_format.specs.Opening.{key_of_password, length_size, nonce_of, sealed_len, sealed_in, tag_in, opened_piece};
 
 use crate::sjcl_chunk::SjclChunk;
 use aes_ccm::{Aes, CcmErr, ccm_open, pbkdf2};
@@ -37,7 +37,7 @@ fn nonce_of(iv: &[u8], len: usize) -> &[u8]
 /// The key of a piece.
 fn key_of(chunk: &SjclChunk, password: &[u8]) -> Aes
     requires { is_chunk chunk.now ≡ true }
-    ensures { result ≡ key_of password.now chunk.now }
+    ensures { result ≡ key_of_password password.now chunk.now }
 {
     let key = pbkdf2(password, chunk.salt.as_slice(), chunk.iter);
     match Aes::new(&key[..usize::from(chunk.ks / 8)]) {
@@ -47,14 +47,14 @@ fn key_of(chunk: &SjclChunk, password: &[u8]) -> Aes
 }
 
 /// The piece that is sealed. None if its tag isn't right under the password.
-#[tactic(auto, unfolding(crate::specs::Opening::opened))]
+#[tactic(auto, unfolding(crate::specs::Opening::opened_piece))]
 pub(crate) fn open_chunk(
     alloc: Global,
     chunk: &SjclChunk,
     password: &[u8],
 ) -> Result<Option<Bytes>, AllocError>
     requires { is_chunk chunk.now ≡ true }
-    ensures { IfOk result (λ found. found ≡ opened password.now chunk.now) }
+    ensures { IfOk result (λ found. found ≡ opened_piece password.now chunk.now) }
 {
     let key = key_of(chunk, password);
     let ct = chunk.ct.as_slice();

@@ -1,7 +1,7 @@
 ghost use Rattle.std.specs.Prelude.{◌≡◌, true, option_map, Ok, Err, IfOk, IfErr};
 ghost use Rattle.std.specs.List.{AllPass};
 ghost use Rattle.jed_format.specs.Chunk.{is_chunk};
-ghost use Rattle.jed_format.specs.Opening.{units_under, units_in, bytes_in, part, opened, joined, text_in, blob_in};
+ghost use Rattle.jed_format.specs.Opening.{units_under, piece_units, piece_bytes, part, opened_piece, joined_pieces, opened_text, blob_in};
 ghost use Rattle.jed_format.specs.Refusals.{Refuses};
 
 use crate::base64_text::decoded;
@@ -28,7 +28,7 @@ fn units_under(alloc: Global, method: u8, text: &str) -> Result<Vec<u16>, AllocE
 /// The units that a piece writes. None if it isn't UTF-8.
 fn units_in(alloc: Global, method: u8, piece: &[u8]) -> Result<Option<Vec<u16>>, AllocError>
     ensures { IfOk result
-        (λ found. option_map (λ units. units.items) found ≡ units_in method piece.now) }
+        (λ found. option_map (λ units. units.items) found ≡ piece_units method piece.now) }
 {
     match std::str::from_utf8(piece) {
         Ok(text) => {
@@ -41,7 +41,7 @@ fn units_in(alloc: Global, method: u8, piece: &[u8]) -> Result<Option<Vec<u16>>,
 
 /// The bytes whose base64 a piece writes. None if it writes none.
 fn bytes_in(alloc: Global, method: u8, piece: &[u8]) -> Result<Option<Bytes>, AllocError>
-    ensures { IfOk result (λ found. found ≡ bytes_in method piece.now) }
+    ensures { IfOk result (λ found. found ≡ piece_bytes method piece.now) }
 {
     match units_in(alloc, method, piece)? {
         Some(units) => {
@@ -63,9 +63,9 @@ fn units_at(
 ) -> Result<Vec<u16>, JedErr>
     requires { is_chunk chunk.now ≡ true }
     ensures ok { IfOk result (λ units.
-        part (units_in method) n (opened password.now chunk.now) ≡ Ok units.items) }
+        part (piece_units method) n (opened_piece password.now chunk.now) ≡ Ok units.items) }
     ensures err { IfErr result
-        (Refuses (part (units_in method) n (opened password.now chunk.now))) }
+        (Refuses (part (piece_units method) n (opened_piece password.now chunk.now))) }
 {
     let Some(piece) = open_chunk(alloc, chunk, password)? else {
         return Err(JedErr::BadTag { n });
@@ -86,9 +86,9 @@ fn bytes_at(
 ) -> Result<Bytes, JedErr>
     requires { is_chunk chunk.now ≡ true }
     ensures ok { IfOk result (λ bytes.
-        part (bytes_in method) n (opened password.now chunk.now) ≡ Ok bytes) }
+        part (piece_bytes method) n (opened_piece password.now chunk.now) ≡ Ok bytes) }
     ensures err { IfErr result
-        (Refuses (part (bytes_in method) n (opened password.now chunk.now))) }
+        (Refuses (part (piece_bytes method) n (opened_piece password.now chunk.now))) }
 {
     let Some(piece) = open_chunk(alloc, chunk, password)? else {
         return Err(JedErr::BadTag { n });
@@ -107,8 +107,9 @@ fn all_units(
 ) -> Result<Vec<u16>, JedErr>
     requires { AllPass is_chunk chunks.now }
     ensures ok { IfOk result (λ units.
-        joined (units_in method) password.now 1 chunks.now ≡ Ok units.items) }
-    ensures err { IfErr result (Refuses (joined (units_in method) password.now 1 chunks.now)) }
+        joined_pieces (piece_units method) password.now 1 chunks.now ≡ Ok units.items) }
+    ensures err { IfErr result
+        (Refuses (joined_pieces (piece_units method) password.now 1 chunks.now)) }
 {
     let mut all = Vec::new(alloc);
     for (n, chunk) in chunks.iter().enumerate() {
@@ -125,8 +126,10 @@ fn all_bytes(
     password: &[u8],
 ) -> Result<Bytes, JedErr>
     requires { AllPass is_chunk chunks.now }
-    ensures ok { IfOk result (λ bytes. joined (bytes_in method) password.now 1 chunks.now ≡ Ok bytes) }
-    ensures err { IfErr result (Refuses (joined (bytes_in method) password.now 1 chunks.now)) }
+    ensures ok { IfOk result (λ bytes.
+        joined_pieces (piece_bytes method) password.now 1 chunks.now ≡ Ok bytes) }
+    ensures err { IfErr result
+        (Refuses (joined_pieces (piece_bytes method) password.now 1 chunks.now)) }
 {
     let mut all = Bytes::new(alloc);
     for (n, chunk) in chunks.iter().enumerate() {
@@ -139,11 +142,11 @@ fn all_bytes(
 /// The text that was sealed under a password. Chunks are opened in their order: `BadTag` with the
 /// number of the first whose tag isn't right, `BadChunk` with that of the first that isn't UTF-8. A
 /// surrogate without its partner gives U+FFFD.
-#[tactic(auto, unfolding(crate::specs::Opening::text_in))]
+#[tactic(auto, unfolding(crate::specs::Opening::opened_text))]
 pub fn open_text(alloc: Global, jed: &Jed, password: &[u8]) -> Result<Text, JedErr>
     requires { AllPass is_chunk jed.now.chunks }
-    ensures ok { IfOk result (λ text. text_in password.now jed.now ≡ Ok text) }
-    ensures err { IfErr result (Refuses (text_in password.now jed.now)) }
+    ensures ok { IfOk result (λ text. opened_text password.now jed.now ≡ Ok text) }
+    ensures err { IfErr result (Refuses (opened_text password.now jed.now)) }
 {
     let units = all_units(alloc, jed.method, jed.chunks.as_slice(), password)?;
     let text = units_text(alloc, &units)?;

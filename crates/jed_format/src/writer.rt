@@ -4,7 +4,7 @@ ghost use Rattle.base64.specs.GeneralPurpose.{IsBytes};
 ghost use Rattle.jed_format.specs.Base64.{encoded};
 ghost use Rattle.jed_format.specs.Chunk.{is_chunk, chunk_in};
 ghost use Rattle.jed_format.specs.Jed.{jed_in};
-ghost use Rattle.jed_format.specs.Write.{sizes_text, chunk_text, digit, six_digits, piece_text, jed_text, IsJed, IsSjcl};
+ghost use Rattle.jed_format.specs.Write.{sizes_text, chunk_text, digit, six_digits, framed_chunk, jed_text, IsJed, IsSjcl};
 
 use crate::jed::Jed;
 use crate::sjcl_chunk::SjclChunk;
@@ -125,7 +125,7 @@ fn six_digits(n: usize) -> [u8; 6]
 
 /// Adds a chunk behind its length.
 fn append_piece(alloc: Global, text: &mut Bytes, chunk: &SjclChunk) -> Result<(), AllocError>
-    ensures { OnOk result (text.new ≡ text.old ++ piece_text chunk.now) }
+    ensures { OnOk result (text.new ≡ text.old ++ framed_chunk chunk.now) }
 {
     let piece = chunk_text(alloc, chunk)?;
     text.append(&six_digits(piece.len()))?;

@@ -10,7 +10,7 @@ use Rattle.std.proofs.lemmas.Str.Ascii.{IsAscii-nil}
 use Rattle.std.proofs.str.Utf16.{one_unit}
 use Rattle.jed_text.specs.Hexadecimal.{digit_of}
 use Rattle.jed_text.specs.Units.{units_of}
-use Rattle.jed_text.specs.Escape.{is_plain, escaped_unit, escaped, escaped_pieces}
+use Rattle.jed_text.specs.Escape.{is_plain, escaped_unit, escaped_units, escaped_pieces}
 
 encoded_same : (xs : List ℕ) → IsAscii xs → flat_map encode_utf16 xs ≡ xs
 encoded_same [] h = refl
@@ -77,8 +77,8 @@ IsAscii-escaped_unit u = elim (cases_Bool (is_plain u)) [
   ]
 ]
 
-pub IsAscii-escaped : (units : List ℕ) → IsAscii (escaped units)
-unfolding escaped
+pub IsAscii-escaped : (units : List ℕ) → IsAscii (escaped_units units)
+unfolding escaped_units
 IsAscii-escaped [] = IsAscii-nil
 IsAscii-escaped (u ∷ units) =
     IsAscii-append (escaped_unit u) (flat_map escaped_unit units) (IsAscii-escaped_unit u) (IsAscii-escaped units)
@@ -92,5 +92,5 @@ pub AllAscii-escaped_pieces : (units : List ℕ) (n : ℕ) → AllByRecursion Is
 unfolding escaped_pieces
 AllAscii-escaped_pieces units zero = tt
 AllAscii-escaped_pieces units (suc n) =
-    AllAscii-push (escaped_pieces units n) (escaped (take 5000 (drop (5000 * n) units)))
+    AllAscii-push (escaped_pieces units n) (escaped_units (take 5000 (drop (5000 * n) units)))
     (AllAscii-escaped_pieces units n) (IsAscii-escaped (take 5000 (drop (5000 * n) units)))

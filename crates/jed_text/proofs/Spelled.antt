@@ -11,7 +11,7 @@ use Rattle.std.proofs.lemmas.List.{flat_map_more, take-take, drop-take, take_all
 use Rattle.std.proofs.lemmas.Str.{chars-encodes, utf16_chars-nil, utf16_chars_lone, utf16_chars_pair}
 use Rattle.std.proofs.str.Utf16.{IsPair, one_unit, two_units, lone_unit_char_low, lone_unit_char_high}
 use Rattle.jed_text.specs.Units.{units_of, text_of}
-use Rattle.jed_text.specs.Escape.{escaped, escaped_pieces, pieces_of, unescaped}
+use Rattle.jed_text.specs.Escape.{escaped_units, escaped_pieces, pieces_of, unescaped_units}
 use Rattle.jed_text.proofs.UnescapeSteps.{AreUnits, unescaped-escaped}
 
 -- ---- one letter
@@ -102,22 +102,23 @@ take_further units a b =
     let whole : take a (take (a + b) units) ++ drop a (take (a + b) units) ≡ take (a + b) units = take-append-drop a (take (a + b) units) in
     sym (rw (take-take a (a + b) units (omega arith), drop-take a b units) at whole)
 
-pieces_joined : (units : List ℕ) (n : ℕ) → AreUnits units → flat_map unescaped (escaped_pieces units n) ≡ take (5000 * n) units
+pieces_joined : (units : List ℕ) (n : ℕ) → AreUnits units → flat_map unescaped_units (escaped_pieces units n) ≡ take (5000 * n) units
 unfolding escaped_pieces
 pieces_joined units zero held = refl
 pieces_joined units (suc n) held =
     let piece : List ℕ = take 5000 (drop (5000 * n) units) in
     let e : 5000 * suc n ≡ 5000 * n + 5000 = omega arith in
-    let again : unescaped (escaped piece) ≡ piece =
+    let again : unescaped_units (escaped_units piece) ≡ piece =
     unescaped-escaped piece (AreUnits-take 5000 (drop (5000 * n) units) (AreUnits-drop (5000 * n) units held)) in
-    let more : flat_map unescaped (escaped_pieces units n ++ escaped piece ∷ []) ≡ flat_map unescaped (escaped_pieces units n) ++ unescaped (escaped piece) =
-    sym (flat_map_more unescaped [] (escaped_pieces units n) (escaped piece)) in
-    more ∙ ap (λ (us : List ℕ). us ++ unescaped (escaped piece)) (pieces_joined units n held)
+    let more : flat_map unescaped_units (escaped_pieces units n ++ escaped_units piece ∷ []) ≡ flat_map unescaped_units (escaped_pieces units n) ++ unescaped_units (escaped_units piece) =
+    sym (flat_map_more unescaped_units [] (escaped_pieces units n) (escaped_units piece)) in
+    more ∙ ap (λ (us : List ℕ). us ++ unescaped_units (escaped_units piece))
+    (pieces_joined units n held)
     ∙ ap (λ (us : List ℕ). take (5000 * n) units ++ us) again
     ∙ sym (ap (λ (k : ℕ). take k units) e ∙ take_further units (5000 * n) 5000)
 
 -- what is cut and escaped, and then unescaped and joined, spells the text again
-pub pieces_spell : (text : List ℕ) → IsUtf8 text → text_of (flat_map unescaped (pieces_of text)) ≡ text
+pub pieces_spell : (text : List ℕ) → IsUtf8 text → text_of (flat_map unescaped_units (pieces_of text)) ≡ text
 pieces_spell text utf8 =
     let units : List ℕ = units_of text in
     let count : ℕ = (length units + 4999) / 5000 in

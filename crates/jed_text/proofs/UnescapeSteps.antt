@@ -4,8 +4,8 @@ use Rattle.std.specs.List.{flat_map, AllByRecursion}
 use Rattle.std.proofs.lemmas.Bool.{cases_lt, cases_Bool}
 use Rattle.std.proofs.lemmas.Bool.Decides.{nat_tests, eqb_tells}
 use Rattle.std.proofs.lemmas.List.{append-nil, drop_all, drop_more}
-use Rattle.jed_text.specs.Hexadecimal.{digit_of, value_of, two_digits, four_digits}
-use Rattle.jed_text.specs.Escape.{is_plain, escaped_unit, escaped, taken, unescaped_behind, unescaped}
+use Rattle.jed_text.specs.Hexadecimal.{digit_of, digit_number, number_of_two, number_of_four}
+use Rattle.jed_text.specs.Escape.{is_plain, escaped_unit, escaped_units, unit_written, unescaped_behind, unescaped_units}
 
 -- ---- the loop
 
@@ -16,7 +16,7 @@ unit_skipped u zero units some = absurd (omega arith)
 unit_skipped u (suc k) units some = let less : suc k - 1 ≡ k = omega arith in rw less refl
 
 -- a unit that is taken, perhaps with some behind it
-pub unit_taken : (out new units : List ℕ) (u k unit more : ℕ) → k ≤ 0 → unit ≡ (taken u units).0 → more ≡ (taken u units).1 → new ≡ out ++ unit ∷ []
+pub unit_taken : (out new units : List ℕ) (u k unit more : ℕ) → k ≤ 0 → unit ≡ (unit_written u units).0 → more ≡ (unit_written u units).1 → new ≡ out ++ unit ∷ []
     → new ++ unescaped_behind more units ≡ out ++ unescaped_behind k (u ∷ units)
 unfolding unescaped_behind
 unit_taken out new units u zero unit more none eu em put = rw (put, eu, em, append_assoc) refl
@@ -43,7 +43,7 @@ unescaped_further units before after whole n k more lt held step =
 
 -- ---- what is escaped is unescaped
 
-value_of-digit_of : (n : ℕ) → value_of (digit_of n) ≡ Some (n % 16)
+value_of-digit_of : (n : ℕ) → digit_number (digit_of n) ≡ Some (n % 16)
 value_of-digit_of n = elim (cases_lt (n % 16) 10) [
   | inl low ↦
       let a : nat_lt (n % 16) 10 ≡ true = grind (arith, nat_tests) in
@@ -83,12 +83,12 @@ plain_sign u plain = elim (eqb_tells u 37) [
   | inr other ↦ other.0
 ]
 
-two : (u : ℕ) → u < 256 → two_digits (digit_of (u / 16)) (digit_of u) ≡ Some u
+two : (u : ℕ) → u < 256 → number_of_two (digit_of (u / 16)) (digit_of u) ≡ Some u
 two u lt =
     let whole : 16 * (u / 16 % 16) + u % 16 ≡ u = omega arith in
     rw (value_of-digit_of (u / 16), value_of-digit_of u, whole) refl
 
-four : (u : ℕ) → u < 65536 → four_digits (digit_of (u / 4096)) (digit_of (u / 256)) (digit_of (u / 16)) (digit_of u) ≡ Some u
+four : (u : ℕ) → u < 65536 → number_of_four (digit_of (u / 4096)) (digit_of (u / 256)) (digit_of (u / 16)) (digit_of u) ≡ Some u
 four u lt =
     let whole : 256 * (16 * (u / 4096 % 16) + u / 256 % 16) + (16 * (u / 16 % 16) + u % 16) ≡ u = omega arith in
     rw (value_of-digit_of (u / 4096), value_of-digit_of (u / 256), value_of-digit_of (u / 16), value_of-digit_of u, whole) refl
@@ -116,8 +116,9 @@ unescaped_unit u rest lt = elim (cases_Bool (is_plain u)) [
 abbrev pub AreUnits : List ℕ → Type 0
 AreUnits units = AllByRecursion (λ u. u < 2 ^ 16) units
 
-pub unescaped-escaped : (units : List ℕ) → AreUnits units → unescaped (escaped units) ≡ units
-unfolding escaped unescaped_behind
+pub unescaped-escaped : (units : List ℕ) → AreUnits units
+    → unescaped_units (escaped_units units) ≡ units
+unfolding escaped_units unescaped_behind
 unescaped-escaped [] held = refl
 unescaped-escaped (u ∷ units) held =
     unescaped_unit u (flat_map escaped_unit units) held.0 ∙ ap (λ (us : List ℕ). u ∷ us) (unescaped-escaped units held.1)

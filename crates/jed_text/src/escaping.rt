@@ -1,5 +1,5 @@
 ghost use Rattle.std.specs.Prelude.{◌≡◌, ◌++◌, IfOk, OnOk};
-ghost use Rattle.jed_text.specs.Escape.{is_plain, escaped_unit, escaped, pieces_of};
+ghost use Rattle.jed_text.specs.Escape.{is_plain, escaped_unit, escaped_units, pieces_of};
 
 use crate::hexadecimal::digit_of;
 use crate::units::units_of;
@@ -33,9 +33,9 @@ fn escape_unit(out: &mut Vec<u8>, unit: u16) -> Result<(), AllocError>
     Ok(())
 }
 
-#[tactic(auto, using(crate::proofs::EscapeSteps::escaped_step), unfolding(crate::specs::Escape::escaped))]
+#[tactic(auto, using(crate::proofs::EscapeSteps::escaped_step), unfolding(crate::specs::Escape::escaped_units))]
 pub(crate) fn escape_units(alloc: Global, units: &[u16]) -> Result<Bytes, AllocError>
-    ensures { IfOk result (λ bytes. bytes ≡ escaped units.now) }
+    ensures { IfOk result (λ bytes. bytes ≡ escaped_units units.now) }
 {
     let mut out = Vec::new(alloc);
     for unit in units {

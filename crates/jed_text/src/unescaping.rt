@@ -1,6 +1,6 @@
 ghost use Rattle.std.specs.Prelude.{◌≡◌, ◌++◌, ◌∷◌, IfOk};
 ghost use Rattle.jed_text.specs.Units.{units_in};
-ghost use Rattle.jed_text.specs.Escape.{taking, long_escape, escape_in, taken, unescaped_behind, unescaped};
+ghost use Rattle.jed_text.specs.Escape.{taking, long_escape, escape_in, unit_written, unescaped_behind, unescaped_units};
 
 use crate::hexadecimal::{four_digits, two_digits};
 use crate::units::units_in;
@@ -42,7 +42,7 @@ fn escape_in(units: &[u16]) -> Option<(u16, usize)>
 
 /// The unit that a unit and those behind it write, and how many of those it takes.
 fn taken(unit: u16, units: &[u16]) -> (u16, usize)
-    ensures { result ≡ taken unit units.now }
+    ensures { result ≡ unit_written unit units.now }
 {
     if unit == 37 {
         escape_in(units).unwrap_or((unit, 0))
@@ -71,7 +71,7 @@ fn unescape_one(
 
 /// JavaScript's `unescape` of units of UTF-16.
 pub fn unescape_units(alloc: Global, units: &[u16]) -> Result<Vec<u16>, AllocError>
-    ensures { IfOk result (λ out. out.items ≡ unescaped units.now) }
+    ensures { IfOk result (λ out. out.items ≡ unescaped_units units.now) }
 {
     let mut out = Vec::new(alloc);
     let mut skipped = 0;
@@ -86,7 +86,7 @@ pub fn unescape_units(alloc: Global, units: &[u16]) -> Result<Vec<u16>, AllocErr
 /// or `%` with two, gives that unit; every other character stays. Where the bytes aren't UTF-8,
 /// each byte is a character.
 pub fn unescape(alloc: Global, text: &[u8]) -> Result<Vec<u16>, AllocError>
-    ensures { IfOk result (λ units. units.items ≡ unescaped (units_in text.now)) }
+    ensures { IfOk result (λ units. units.items ≡ unescaped_units (units_in text.now)) }
 {
     let units = units_in(alloc, text)?;
     unescape_units(alloc, &units)

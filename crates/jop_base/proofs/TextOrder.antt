@@ -95,7 +95,7 @@ item_bounds (d ∷ e ∷ ds) text =
     (omega arith, omega arith)
 
 lock_bounds : (kind : LockKind) (t : ℕ)
-    → t ≤ 9 → (400000 ≤ lock_rank kind t) × (lock_rank kind t < 500000)
+    → t ≤ 9 → (400000 ≤ lock_rank kind t) × (lock_rank kind t < 420000)
 lock_bounds Sync t small = (omega arith, omega arith)
 lock_bounds Exclusive t small = (omega arith, omega arith)
 
@@ -124,6 +124,16 @@ lock_before : (n : Name) (r : ℕ) (o : Ordering)
     → IsName n → r < 400000 → ordering_then (nat_cmp r (rank_of (Lock n))) o ≡ Less
 lock_before n r o name small =
     then_less r _ o (omega (arith, lock_bounds n.kind n.client_type name.client_type))
+
+lock_under : (n : Name) (r : ℕ) (o : Ordering)
+    → IsName n → 420000 ≤ r → ordering_then (nat_cmp (rank_of (Lock n)) r) o ≡ Less
+lock_under n r o name great =
+    then_less _ r o (omega (arith, lock_bounds n.kind n.client_type name.client_type))
+
+lock_over : (n : Name) (r : ℕ) (o : Ordering)
+    → IsName n → 420000 ≤ r → ordering_then (nat_cmp r (rank_of (Lock n))) o ≡ Greater
+lock_over n r o name great =
+    then_greater r _ o (omega (arith, lock_bounds n.kind n.client_type name.client_type))
 
 -- ---- two items
 
@@ -325,14 +335,12 @@ path_cmp-by_rank (Lock n) Info h k = lock_behind n 300000 _ h (omega arith)
 path_cmp-by_rank (Lock n) (Lock m) h k =
     locks n.kind m.kind n.client_type m.client_type n.client m.client
     h.client_type k.client_type (h.client.long ∙ sym k.client.long)
-path_cmp-by_rank (Lock n) (TempFile j) h k =
-    then_less _ 500000 _ (lock_bounds n.kind n.client_type h.client_type).1
+path_cmp-by_rank (Lock n) (TempFile j) h k = lock_under n 500000 _ h (omega arith)
 path_cmp-by_rank (Lock n) (Tomb j) h k = lock_behind n 257011 _ h (omega arith)
 path_cmp-by_rank (TempFile i) (Item j) h k =
     before_item 500000 j _ k (omega arith)
     ∙ before_id 116 (codes "emp/" ++ file_name (TempFile i)) j _ (omega arith) k
-path_cmp-by_rank (TempFile i) (Lock m) h k =
-    then_greater 500000 _ _ (lock_bounds m.kind m.client_type k.client_type).1
+path_cmp-by_rank (TempFile i) (Lock m) h k = lock_over m 500000 _ k (omega arith)
 path_cmp-by_rank (TempFile i) (TempFile j) h k = sym (slice_cmp-append i j _ (h.long ∙ sym k.long))
 path_cmp-by_rank (Tomb i) (Item j) h k = tomb_and_item j i k
 path_cmp-by_rank (Tomb i) (Lock m) h k = lock_before m 257011 _ k (omega arith)

@@ -1,4 +1,5 @@
 -- Ids, and the numbers that they are.
+use Rattle.std.specs.List.{list_all}
 use Rattle.std.specs.Prelude.{ℕ, ◌+◌, ◌-◌, ◌*◌, ◌^◌, Bool, true, ◌||◌, ◌&&◌, List, [], ◌∷◌, length, ◌≡◌, nat_le, nat_eq, All, if◌then◌else◌}
 
 -- a lower-case hexadecimal digit, as a byte
@@ -12,6 +13,10 @@ AreDigits text = All (λ d. is_digit d ≡ true) text
 pub record IsIdText (text : List ℕ) : Type 0 where
   pub long : length text ≡ 32
   pub digits : AreDigits text
+
+-- whether the text is that of an id
+abbrev pub is_id : List ℕ → Bool
+is_id text = nat_eq (length text) 32 && list_all is_digit text
 
 -- what a digit counts
 abbrev pub digit_value : ℕ → ℕ

@@ -15,7 +15,6 @@ mod letting_go;
 mod lock_name;
 mod path;
 mod path_name;
-mod path_order;
 mod seq;
 mod text;
 mod time;

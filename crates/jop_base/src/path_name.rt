@@ -1,12 +1,14 @@
 ghost use Rattle.std.specs.Prelude.{◌≡◌, ◌++◌, ℕ, List, IfSome, IfNone};
 ghost use Rattle.jop_base.specs.Id.{IsIdText};
+ghost use Rattle.jop_base.specs.Order.{path_cmp, rank_of};
 ghost use Rattle.jop_base.specs.declared.path.Path.{Path};
 ghost use Rattle.jop_base.specs.Paths.{HasNoFile, IsPath, IsNamed, path_text};
 
 use crate::dir::Dir;
 use crate::id::Id;
-use crate::lock_name::LockName;
+use crate::lock_name::{LockKind, LockName};
 use crate::path::Path;
+use std::cmp::Ordering;
 
 impl Path {
     /// The file that has this name in that folder. None exactly if no file has.
@@ -35,6 +37,35 @@ impl Path {
             }
         }
         None
+    }
+
+    /// The order of the texts, by bytes.
+    pub fn compare(&self, other: &Path) -> Ordering
+        ensures { result ≡ path_cmp self.now other.now }
+    {
+        let (own, others) = (self.id(), other.id());
+        match rank(self).cmp(&rank(other)) {
+            Ordering::Equal => own.cmp(&others),
+            unequal => unequal,
+        }
+    }
+}
+
+/// Where a path stands among those that differ in more than an id.
+fn rank(path: &Path) -> u32
+    ensures { result ≡ rank_of path.now }
+{
+    match path {
+        Path::Blob(_) => 100,
+        Path::OldVersion => 200,
+        Path::Item(id) => 10 * id.first_two(),
+        Path::Info => 300_000,
+        Path::Lock(name) => match name.kind {
+            LockKind::Sync => 400_000 + u32::from(name.client_type),
+            LockKind::Exclusive => 410_000 + u32::from(name.client_type),
+        },
+        Path::Temp(_) => 500_000,
+        Path::Tomb(_) => 257_011,
     }
 }
 

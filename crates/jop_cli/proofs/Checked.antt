@@ -9,7 +9,7 @@ use Rattle.jop_cli.proofs.Sessions.{any_done, failed_session, told_lease}
 use Rattle.jop_cli.specs.Causes.{HasEnded, IsExplained}
 use Rattle.jop_cli.specs.Commands.Check.{free_line}
 use Rattle.jop_cli.specs.Commands.Sessions.{outcome_by}
-use Rattle.jop_cli.specs.Run.{IsFresh, UsesTarget}
+use Rattle.jop_cli.specs.Run.{IsFreshOutside, UsesTarget}
 use Rattle.jop_cli.specs.Worlds.{RanCheck}
 use Rattle.jop_status.specs.Refusals.{session_status}
 use Rattle.jop_status.specs.declared.status.Status.{Status}
@@ -29,7 +29,7 @@ use Rattle.sync_run.specs.declared.session_err.SessionErr.TheVariants.{Busy, Lea
 
 -- the session, whose calls came to this before it ended
 ended : (target : TargetName) (client : List ℕ) (before after : OutsideNow) (middle : List Event)
-    (Came : LockKind → List ℕ → List Event → Type 0) → IsFresh before →
+    (Came : LockKind → List ℕ → List Event → Type 0) → IsFreshOutside before →
     after.line.trail ≡ before.line.trail ++ Began ∷ (middle ++ Ended ∷ []) →
     Came Sync client (before.line.trail ++ Began ∷ middle) →
     HasEnded (Some (Check target client)) after.keeper after.line.trail Came
@@ -46,7 +46,7 @@ ended target client before after middle Came fresh whole came = record {
 }
 
 explained_refusal : (target : TargetName) (client : List ℕ) (before after : OutsideNow)
-    (error : SessionErr) → IsFresh before →
+    (error : SessionErr) → IsFreshOutside before →
     AddsCheck client before.line.trail after.line.trail (Err error) →
     UsesTarget before.line.target after.line.trail after.line.target →
     IsExplained (Some (Check target client)) before (session_status error) after
@@ -67,7 +67,7 @@ explained_refusal target client before after NoMemory fresh adds uses =
     (uncalled_yet before fresh) adds.heard
 
 explained : (target : TargetName) (client : List ℕ) (before after : OutsideNow)
-    (result : Result (Unit {0}) SessionErr) (error : Status) → IsFresh before →
+    (result : Result (Unit {0}) SessionErr) (error : Status) → IsFreshOutside before →
     AddsCheck client before.line.trail after.line.trail result →
     UsesTarget before.line.target after.line.trail after.line.target →
     outcome_by free_line result ≡ Err error →
@@ -79,7 +79,7 @@ explained target client before after (Err refusal) error fresh adds uses is =
     (explained_refusal target client before after refusal fresh adds uses)
 
 checked : (target : TargetName) (client : List ℕ) (before : OutsideNow) (line : LineNow)
-    (result : Result (Unit {0}) SessionErr) → IsFresh before →
+    (result : Result (Unit {0}) SessionErr) → IsFreshOutside before →
     RanCheck client before result (record before { line = line }) →
     Comes (Check target client) before (outcome_by free_line result) (record before { line = line })
 checked target client before line result fresh h =
@@ -116,7 +116,8 @@ checked target client before line result fresh h =
     }
 
 pub comes_checked : (target : TargetName) (client : List ℕ) (before mid : OutsideNow)
-    (result : Result (Unit {0}) SessionErr) → IsFresh before → RanCheck client before result mid →
+    (result : Result (Unit {0}) SessionErr) → IsFreshOutside before →
+    RanCheck client before result mid →
     Comes (Check target client) before (outcome_by free_line result) mid
 comes_checked target client before mid result fresh h =
     subst (λ (m : OutsideNow). Comes (Check target client) before (outcome_by free_line result) m)

@@ -5,7 +5,7 @@ use Rattle.client.specs.Outside.{OutsideNow}
 use Rattle.jop_cli.proofs.Runs.{Comes, acts_emitted, comes_printed}
 use Rattle.jop_cli.specs.Commands.{ComesTo, nothing, used}
 use Rattle.jop_cli.specs.Commands.Constants.{PrintsConstant, constant_of}
-use Rattle.jop_cli.specs.Run.{Acts, IsFresh}
+use Rattle.jop_cli.specs.Run.{Acts, IsFreshOutside}
 use Rattle.jop_cli.specs.Worlds.{EmitsTo}
 use Rattle.jop_status.specs.declared.status.Status.{Status}
 use Rattle.jop_words.specs.declared.verb.Verb.{Verb}
@@ -36,7 +36,7 @@ comes_to_constant Tidy text before is = cc is
 comes_to_constant (Upgrade target) text before is = cc is
 comes_to_constant verb text before is = printed (constant_of verb) text before is
 
-comes_constant : (verb : Verb) (text : List ℕ) (before : OutsideNow) → IsFresh before →
+comes_constant : (verb : Verb) (text : List ℕ) (before : OutsideNow) → IsFreshOutside before →
     constant_of verb ≡ Some text → Comes verb before (Ok text) before
 comes_constant verb text before fresh is =
     comes_printed verb before text fresh (uses_nothing verb text is)
@@ -44,8 +44,8 @@ comes_constant verb text before fresh is =
 
 -- a run of it, which prints the text as one piece
 pub acts_constant : (verb : Verb) (text : List ℕ) (before after : OutsideNow) (status : Status) →
-    IsFresh before → constant_of verb ≡ Some text → EmitsTo (Ok (text ++ [])) before status after →
-    Acts (Some verb) before status after
+    IsFreshOutside before → constant_of verb ≡ Some text →
+    EmitsTo (Ok (text ++ [])) before status after → Acts (Some verb) before status after
 acts_constant verb text before after status fresh is emits =
     acts_emitted verb before before after (Ok text) status
     (comes_constant verb text before fresh is)

@@ -17,13 +17,13 @@ use Rattle.law_licences.specs.Trails.{calls_from, session_calls}
 use Rattle.law_licences.specs.Views.{View, view_from}
 use Rattle.session_opening.specs.Opening.{ReadsBadInfo, ReadsInfoAt, ReadsOld, ReadsVersion}
 use Rattle.sync_run.specs.Outcomes.{RefusesUpgrade}
-use Rattle.sync_run.specs.Upgrades.{HasLeft as HasLeftUpgrade}
-use Rattle.jop_cli.specs.Causes.{HasFound, HasGot, HasGotBad, HasGotOld, HasLeft, IsLast, WasRefused}
+use Rattle.sync_run.specs.Upgrades.{HasLeftUpgrade}
+use Rattle.jop_cli.specs.Causes.{HasFoundVersion, HasGot, HasGotBad, HasGotOld, HasLeftHaving, IsHeardLast, WasRefused}
 
 -- ---- in a trail
 
 got_last : (trail : List Event) (reply : Reply) → EndsWith trail (Get InfoFile) reply →
-    IsLast (Get InfoFile) reply (session_calls trail)
+    IsHeardLast (Get InfoFile) reply (session_calls trail)
 unfolding calls_from
 got_last trail reply ends = (
   calls_from [] ends.0,
@@ -50,7 +50,7 @@ heard_last keeper why trail h = absurd h
 
 pub upgrade_refused : (keeper : KeeperNow) (client : List ℕ) (trail : List Event)
     (why : Refusal) → HasLeftUpgrade client trail (RefusesUpgrade why) →
-    HasLeft (WasRefused keeper why) Exclusive client trail
+    HasLeftHaving (WasRefused keeper why) Exclusive client trail
 upgrade_refused keeper client trail why h = record {
   before = h.before;
   stamp = h.stamp;
@@ -94,7 +94,7 @@ found_old version v ds h =
     }
 
 pub found : (version : ℕ) (v : View) (ds : List Deed) → ReadsVersion version v ds →
-    HasFound version (view_from v ds).calls
+    HasFoundVersion version (view_from v ds).calls
 found version v ds (inl h) = inl (found_info version v ds h)
 found version v ds (inr h) = inr (found_old version v ds h)
 

@@ -2,7 +2,7 @@
 use Rattle.std.proofs.Common.{◌≡◌, ◌∙◌, ap, sym, subst, inl, inr, ℕ, List, [], ◌∷◌, ◌++◌, append-nil, All, true, Option, Some, None, Result, Ok, Err}
 use Rattle.std.proofs.lemmas.List.Elements.{All-head, All-tail}
 use Rattle.client.specs.Outside.{OutsideNow}
-use Rattle.jop_cli.specs.Run.{IsFresh}
+use Rattle.jop_cli.specs.Run.{IsFreshOutside}
 use Rattle.jop_base.specs.declared.path.Path.TheVariants.{Item, Blob}
 use Rattle.jop_target.specs.declared.call.Call.{Call}
 use Rattle.jop_target.specs.declared.call.Call.TheVariants.{Put, Delete, PutBlob}
@@ -13,7 +13,7 @@ use Rattle.lease.specs.Calls.{IsLeaseCall, IsLeaseEvent}
 use Rattle.lease.specs.WholeSession.{AddsBegun, AddsWhole}
 use Rattle.law_licences.specs.Deeds.{Asks, Begins, deeds_of}
 use Rattle.law_licences.specs.Licences.{Each, IsInside, MayCall, MayDo, ObeysData}
-use Rattle.law_licences.specs.Views.{View, at_rest, heard, seen}
+use Rattle.law_licences.specs.Views.{View, at_rest, view_after_call, seen}
 use Rattle.local_store.specs.declared.change.Change.{Change}
 use Rattle.local_store.specs.declared.tables.Tables.{Tables}
 use Rattle.session.proofs.LockDeeds.{AreLocks, obeys-locks}
@@ -43,11 +43,12 @@ unfolding deeds_of Each
 free_licensed P free v [] fs inside behind each = behind v inside
 free_licensed P free v (Sent call ∷ es) fs inside behind each = (
   free.sent v call inside (All-head P (Sent call) es each),
-  free_licensed P free (heard v call None) es fs inside behind (All-tail P (Sent call) es each),
+  free_licensed P free (view_after_call v call None) es fs inside behind
+      (All-tail P (Sent call) es each),
 )
 free_licensed P free v (Called call reply ∷ es) fs inside behind each = (
   free.called v call reply inside (All-head P (Called call reply) es each),
-  free_licensed P free (heard v call (Some reply)) es fs inside behind
+  free_licensed P free (view_after_call v call (Some reply)) es fs inside behind
       (All-tail P (Called call reply) es each),
 )
 free_licensed P free v (Began ∷ es) fs inside behind each =
@@ -64,7 +65,8 @@ pub record AddsLicensed (old new : List Event) : Type 0 where
   pub licensed : (t : Tables) → ObeysData (at_rest t) (deeds_of more [])
 
 -- so has a run that had done nothing before, and has made no change
-pub licensed_fresh : (before : OutsideNow) (trail : List Event) (t : Tables) → IsFresh before →
+pub licensed_fresh : (before : OutsideNow) (trail : List Event) (t : Tables) →
+    IsFreshOutside before →
     AddsLicensed before.line.trail trail → ObeysData (at_rest t) (deeds_of trail before.made)
 licensed_fresh before trail t fresh adds =
     let is : trail ≡ adds.more =

@@ -8,7 +8,7 @@ use Rattle.jop_cli.proofs.Runs.{Comes, unfailed_uncalled, uses_changes}
 use Rattle.jop_cli.specs.Causes.{IsExplained}
 use Rattle.jop_cli.specs.Commands.Local.{DoesLocally, local_outcome}
 use Rattle.jop_cli.specs.Commands.Sessions.{IsChange, IsUncalled}
-use Rattle.jop_cli.specs.Run.{AnswersWords, HasLicences, IsFresh, IsUnsaved, KeepsChanges, UsesTarget, may_be_late, with_changes}
+use Rattle.jop_cli.specs.Run.{AnswersWords, HasLicences, IsFreshOutside, IsFreshAndUnsaved, KeepsChanges, UsesTarget, may_be_late, with_changes}
 use Rattle.jop_outside.specs.Outside.{SinkNow}
 use Rattle.jop_status.specs.Outcomes.{Emits, Outcome}
 use Rattle.jop_status.specs.Refusals.{local_status}
@@ -103,7 +103,7 @@ record AreAll (changes : List Change) (after : OutsideNow) : Type 0 where
   made : after.made ≡ changes
   trail : after.line.trail ≡ trail_of 0 changes
 
-all_noted : (changes : List Change) (before after : OutsideNow) → IsFresh before →
+all_noted : (changes : List Change) (before after : OutsideNow) → IsFreshOutside before →
     AreNoted changes before after → AreAll changes after
 all_noted changes before after fresh noted = record {
   made = noted.made ∙ ap (λ (cs : List Change). cs ++ changes) fresh.unchanged;
@@ -114,7 +114,7 @@ all_noted changes before after fresh noted = record {
 
 -- the trail has the numbers of the changes
 numbers : (command : LocalCommand) (before after : OutsideNow) (answer : Result (List ℕ) LocalErr) →
-    IsFresh before → Runs (plan_of command) before answer after →
+    IsFreshOutside before → Runs (plan_of command) before answer after →
     after.line.trail ≡ trail_of 0 after.made
 numbers command before after answer fresh runs =
     let is = follows (plan_of command) before after answer runs in
@@ -146,7 +146,7 @@ keeps_changes before after made changes is kept =
     (kept ∙ kept_by_changes changes before.kept)
 
 keeps : (command : LocalCommand) (before after : OutsideNow) (answer : Result (List ℕ) LocalErr) →
-    IsFresh before → Runs (plan_of command) before answer after →
+    IsFreshOutside before → Runs (plan_of command) before answer after →
     KeepsChanges (saves_bytes command) before.keeper after.made after.keeper
 keeps command before after answer fresh runs = by (saves_bytes command) refl where
   by : (b : Bool) → saves_bytes command ≡ b → KeepsChanges b before.keeper after.made after.keeper
@@ -166,7 +166,7 @@ keeps command before after answer fresh runs = by (saves_bytes command) refl whe
 -- ---- licences
 
 licensed : (command : LocalCommand) (before after : OutsideNow) (answer : Result (List ℕ) LocalErr) →
-    IsFresh before → Runs (plan_of command) before answer after → HasLicences before after
+    IsFreshOutside before → Runs (plan_of command) before answer after → HasLicences before after
 licensed command before after answer fresh runs = λ k told.
     let is = makes_licensed command before after answer runs in
     let all = all_noted is.changes before after fresh is.noted in
@@ -179,7 +179,7 @@ licensed command before after answer fresh runs = λ k told.
 -- ---- the whole
 
 pub comes_local : (command : LocalCommand) (before mid : OutsideNow)
-    (answer : Result (List ℕ) LocalErr) → IsFresh before → Runs (plan_of command) before answer mid →
+    (answer : Result (List ℕ) LocalErr) → IsFreshOutside before → Runs (plan_of command) before answer mid →
     Spares (plan_of command) before mid → Comes (Local command) before (local_outcome answer) mid
 comes_local command before mid answer fresh runs spares =
     let trail = numbers command before mid answer fresh runs in
@@ -217,8 +217,8 @@ not_late error is (inr memory) =
     cc late
 
 refused_early : (command : LocalCommand) (before mid : OutsideNow) (error : LocalErr) →
-    IsFresh before → may_be_late (local_status error) ≡ false →
-    Runs (plan_of command) before (Err error) mid → IsUnsaved before mid
+    IsFreshOutside before → may_be_late (local_status error) ≡ false →
+    Runs (plan_of command) before (Err error) mid → IsFreshAndUnsaved before mid
 refused_early command before mid error fresh is runs =
     let none = unsaved (plan_of command) before mid (Err error) runs (not_late error is) in
     record {
@@ -230,9 +230,9 @@ refused_early command before mid error fresh is runs =
     }
 
 by_answer : (command : LocalCommand) (before mid : OutsideNow) (out : SinkNow)
-    (answer : Result (List ℕ) LocalErr) (status : Status) → IsFresh before →
+    (answer : Result (List ℕ) LocalErr) (status : Status) → IsFreshOutside before →
     may_be_late status ≡ false → Runs (plan_of command) before answer mid →
-    Emits (local_outcome answer) mid.out status out → IsUnsaved before mid
+    Emits (local_outcome answer) mid.out status out → IsFreshAndUnsaved before mid
 by_answer command before mid out (Ok text) status fresh is runs (inl went) = absurd (cc (is, went.0))
 by_answer command before mid out (Ok text) status fresh is runs (inr cut) = absurd (cc (is, cut.0))
 by_answer command before mid out (Err error) status fresh is runs emits =
@@ -240,27 +240,27 @@ by_answer command before mid out (Err error) status fresh is runs emits =
     (subst (λ (s : Status). may_be_late s ≡ false) emits.0 is) runs
 
 -- what is printed saves nothing
-unsaved_still : (before mid : OutsideNow) (out : SinkNow) → IsUnsaved before mid →
-    IsUnsaved before (record mid { out = out })
+unsaved_still : (before mid : OutsideNow) (out : SinkNow) → IsFreshAndUnsaved before mid →
+    IsFreshAndUnsaved before (record mid { out = out })
 unsaved_still before mid out h = record {
   same = h.same;
   fresh = record { unwritten = h.fresh.unwritten; unchanged = h.fresh.unchanged };
 }
 
 obeyed_early : (command : LocalCommand) (before after : OutsideNow) (status : Status) →
-    IsFresh before → may_be_late status ≡ false → AnswersWords (Some (Local command)) before status after →
-    IsUnsaved before after
+    IsFreshOutside before → may_be_late status ≡ false → AnswersWords (Some (Local command)) before status after →
+    IsFreshAndUnsaved before after
 obeyed_early command before after status fresh is (inl memory) = absurd (cc (is, memory.0))
 obeyed_early command before after status fresh is (inr obeys) =
     let local : DoesLocally command before obeys.outcome obeys.mid = obeys.comes in
-    subst (λ (a : OutsideNow). IsUnsaved before a) (sym obeys.emits.same)
+    subst (λ (a : OutsideNow). IsFreshAndUnsaved before a) (sym obeys.emits.same)
     (unsaved_still before obeys.mid after.out
     (by_answer command before obeys.mid after.out local.answer status fresh is local.runs
     (subst (λ (o : Outcome). Emits o obeys.mid.out status after.out) local.is obeys.emits.emits)))
 
 pub unsaved_of : (verb : Option Verb) (before after : OutsideNow) (status : Status) →
-    IsFresh before → AnswersWords verb before status after → (command : LocalCommand) →
-    verb ≡ Some (Local command) → may_be_late status ≡ false → IsUnsaved before after
+    IsFreshOutside before → AnswersWords verb before status after → (command : LocalCommand) →
+    verb ≡ Some (Local command) → may_be_late status ≡ false → IsFreshAndUnsaved before after
 unsaved_of verb before after status fresh answers command is late =
     obeyed_early command before after status fresh late
     (subst (λ (v : Option Verb). AnswersWords v before status after) is answers)

@@ -4,7 +4,7 @@ use Rattle.std.specs.Prelude.{option_map}
 use Rattle.client.specs.Outside.{OutsideNow}
 use Rattle.client.specs.Owning.{Owns}
 use Rattle.jop_cli.proofs.Licensed.{AddsLicensed}
-use Rattle.jop_cli.specs.Run.{HasLicences, IsFresh}
+use Rattle.jop_cli.specs.Run.{HasLicences, IsFreshOutside}
 use Rattle.jop_target.specs.declared.event.Event.{Event}
 use Rattle.jop_target.specs.declared.event.Event.TheVariants.{Made}
 use Rattle.keeper.specs.Keepers.{Kept, changed}
@@ -32,7 +32,7 @@ as_whole : (k : Kept) (trail more : List Event) (made changes : List Change) →
 as_whole k trail more made changes one other h = rw (one, other) h
 
 pub licensed_behind : (client : List ℕ) (before named after : OutsideNow) (more : List Event)
-    (changes : List Change) → IsFresh before → Owns before (Ok client) named →
+    (changes : List Change) → IsFreshOutside before → Owns before (Ok client) named →
     after.line.trail ≡ named.line.trail ++ more → after.made ≡ named.made ++ changes →
     HasLicencesBehind named more changes → HasLicences before after
 licensed_behind client before named after more changes fresh (inl was) trail made licensed k told =
@@ -57,7 +57,8 @@ licensed_behind client before named after more changes fresh (inr is) trail made
     ∙ ap (option_map (changed (Named client))) told)))
 
 -- a session that changes nothing
-pub licensed_as_named : (client : List ℕ) (before named after : OutsideNow) → IsFresh before →
+pub licensed_as_named : (client : List ℕ) (before named after : OutsideNow) →
+    IsFreshOutside before →
     Owns before (Ok client) named → AddsLicensed named.line.trail after.line.trail →
     after.made ≡ named.made → HasLicences before after
 licensed_as_named client before named after fresh owns adds same =

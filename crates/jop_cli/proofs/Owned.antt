@@ -9,8 +9,8 @@ use Rattle.client.specs.declared.own_err.OwnErr.TheVariants as own_errors
 use Rattle.jop_cli.proofs.Runs.{Comes, keeps_none, none_licensed, uncalled_yet, unfailed_uncalled, uses_changes}
 use Rattle.jop_cli.specs.Causes.{IsExplained}
 use Rattle.jop_cli.specs.Commands.{ComesTo, used}
-use Rattle.jop_cli.specs.Commands.Sessions.{IsChange, IsUncalled, Session}
-use Rattle.jop_cli.specs.Run.{IsFresh, KeepsChanges, Sessions, UsesTarget, with_changes}
+use Rattle.jop_cli.specs.Commands.Sessions.{IsChange, IsUncalled, NamedSession}
+use Rattle.jop_cli.specs.Run.{IsFreshOutside, KeepsChanges, Sessions, UsesTarget, with_changes}
 use Rattle.jop_status.specs.Refusals.{own_status}
 use Rattle.jop_status.specs.Statuses.{is_early}
 use Rattle.jop_status.specs.declared.status.Status.{Status}
@@ -52,7 +52,7 @@ names_itself : (client : List ℕ) (kept : Option Kept) →
 names_itself client None = tt
 names_itself client (Some kept) = refl
 
-owned_before : (client : List ℕ) (before : OutsideNow) → IsFresh before →
+owned_before : (client : List ℕ) (before : OutsideNow) → IsFreshOutside before →
     NamesClient before.keeper.kept (Some client) → IsOwned client before before
 owned_before client before fresh names = record {
   uncalled = uncalled_yet before fresh;
@@ -70,7 +70,7 @@ numbered_only trail n is =
     subst IsUncalled (sym is) (All-cons IsChange (Made n) [] tt (All-nil IsChange))
 
 -- the client was named, with this state of the random source
-owned_now : (client : List ℕ) (before old : OutsideNow) → IsFresh before →
+owned_now : (client : List ℕ) (before old : OutsideNow) → IsFreshOutside before →
     old ≡ record before { entropy = old.entropy } →
     IsOwned client before (with_change (Named client) old)
 owned_now client before old fresh same =
@@ -92,7 +92,7 @@ owned_now client before old fresh same =
       clock = ap (λ (o : OutsideNow). o.clock) same;
     }
 
-pub owned : (client : List ℕ) (before named : OutsideNow) → IsFresh before →
+pub owned : (client : List ℕ) (before named : OutsideNow) → IsFreshOutside before →
     Owns before (Ok client) named → IsOwned client before named
 owned client before named fresh (inl was) =
     subst (λ (o : OutsideNow). IsOwned client before o) (sym was.same)
@@ -139,15 +139,16 @@ explained_unowned v before after own_errors.NoMemory h uncalled =
     unfailed_uncalled after.line.trail uncalled
 
 -- a command that runs a session of the client that the tables name, and comes to nothing
-pub comes_unowned : (v : Verb) (session : Session) (before after : OutsideNow) (error : OwnErr) →
-    IsFresh before → (used (Some v)).session ≡ Some session → (used (Some v)).input ≡ None →
+pub comes_unowned : (v : Verb) (session : NamedSession) (before after : OutsideNow)
+    (error : OwnErr) →
+    IsFreshOutside before → (used (Some v)).session ≡ Some session → (used (Some v)).input ≡ None →
     (used (Some v)).tables ≡ true → (used (Some v)).clock ≡ false → (used (Some v)).random ≡ true →
     ComesTo v before (Err (own_status error)) after → Owns before (Err error) after →
     Comes v before (Err (own_status error)) after
 comes_unowned v session before after error fresh runs unread tabled timeless draws comes owns =
     let h = left before after error owns in
     let trail : after.line.trail ≡ [] = ap (λ (l : LineNow). l.trail) h.line ∙ fresh.unwritten in
-    let behind : IsFresh after = record { unwritten = trail; unchanged = h.made ∙ fresh.unchanged } in
+    let behind : IsFreshOutside after = record { unwritten = trail; unchanged = h.made ∙ fresh.unchanged } in
     let uncalled = uncalled_yet after behind in
     record {
       comes = comes;
@@ -157,7 +158,8 @@ comes_unowned v session before after error fresh runs unread tabled timeless dra
           subst (λ (s : Status). IsExplained (Some v) before s after) same
           (explained_unowned v before after error owns uncalled);
       sessions = λ status told.
-          subst (λ (s : Option Session). Sessions s after.keeper after.line.trail status) (sym runs)
+          subst (λ (s : Option NamedSession). Sessions s after.keeper after.line.trail status)
+          (sym runs)
           (inl uncalled);
       tables = keeps_none (used (Some v)).bytes before.keeper after.keeper after.made
           behind.unchanged h.kept;

@@ -7,8 +7,8 @@ use Rattle.std.proofs.lemmas.List.Elements.{All-nil}
 use Rattle.client.specs.Outside.{OutsideNow}
 use Rattle.jop_cli.specs.Causes.{IsUnexplained, IsExplained}
 use Rattle.jop_cli.specs.Commands.{ComesTo, Uses, nothing, used}
-use Rattle.jop_cli.specs.Commands.Sessions.{IsChange, IsUncalled, Session}
-use Rattle.jop_cli.specs.Run.{Acts, AnswersWords, Does, HasLicences, IsFresh, IsUnsaved, KeepsChanges, LeavesAlone, LeavesTables, LeavesTarget, Prints, Sessions, TidiesTold, UsesTarget, may_be_late, with_changes}
+use Rattle.jop_cli.specs.Commands.Sessions.{IsChange, IsUncalled, NamedSession}
+use Rattle.jop_cli.specs.Run.{Acts, AnswersWords, RunsAsPromised, HasLicences, IsFreshOutside, IsFreshAndUnsaved, KeepsChanges, LeavesAlone, LeavesTables, LeavesTarget, Prints, Sessions, TidiesTold, UsesTarget, may_be_late, with_changes}
 use Rattle.jop_cli.specs.Worlds.{EmitsTo}
 use Rattle.jop_outside.specs.Clocks.{ClockNow}
 use Rattle.jop_outside.specs.Outside.{HasRisen, SinkNow, SourceNow}
@@ -40,7 +40,7 @@ use Rattle.local_store.specs.declared.tables.Tables.{Tables}
 
 -- ---- nothing is written down yet
 
-pub uncalled_yet : (o : OutsideNow) → IsFresh o → IsUncalled o.line.trail
+pub uncalled_yet : (o : OutsideNow) → IsFreshOutside o → IsUncalled o.line.trail
 uncalled_yet o fresh = subst IsUncalled (sym fresh.unwritten) (All-nil IsChange)
 
 -- ---- the target
@@ -150,7 +150,7 @@ unfolding deeds_of Each
 obeys_none t = tt
 
 -- nothing was done
-pub none_licensed : (before after : OutsideNow) → IsFresh after → HasLicences before after
+pub none_licensed : (before after : OutsideNow) → IsFreshOutside after → HasLicences before after
 none_licensed before after fresh = λ k told.
     subst (λ (t : List Event). ObeysData (at_rest k.tables) (deeds_of t after.made))
     (sym fresh.unwritten)
@@ -226,7 +226,7 @@ leaves_input : (limit : Option ℕ) (input : SourceNow) → SparesInput limit in
 leaves_input None input = refl
 leaves_input (Some limit) input = record { later = omega arith; rest = rest_all limit input.left }
 
-leaves_target : (session : Option Session) (target : TargetNow) →
+leaves_target : (session : Option NamedSession) (target : TargetNow) →
     LeavesTarget session target [] [] target
 leaves_target None target = (refl, refl)
 leaves_target (Some session) target = tt
@@ -243,7 +243,8 @@ leaves_random : (uses : Bool) (entropy : EntropyNow) → SparesRandom uses entro
 leaves_random false entropy = refl
 leaves_random true entropy = tt
 
-leaves_all : (uses : Uses) (before : OutsideNow) → IsFresh before → LeavesAlone uses before before
+leaves_all : (uses : Uses) (before : OutsideNow) → IsFreshOutside before
+    → LeavesAlone uses before before
 leaves_all uses before fresh = record {
   input = leaves_input uses.input before.input;
   target = rw (fresh.unwritten, fresh.unchanged) (leaves_target uses.session before.line.target);
@@ -254,13 +255,13 @@ leaves_all uses before fresh = record {
 
 -- ---- nothing is done
 
-no_sessions : (session : Option Session) (keeper : KeeperNow) (trail : List Event) (status : Status) →
+no_sessions : (session : Option NamedSession) (keeper : KeeperNow) (trail : List Event) (status : Status) →
     IsUncalled trail → Sessions session keeper trail status
 no_sessions None keeper trail status uncalled = uncalled
 no_sessions (Some session) keeper trail status uncalled = inl uncalled
 
 -- nothing was done, for this status
-acts_none : (verb : Option Verb) (before : OutsideNow) (status : Status) → IsFresh before →
+acts_none : (verb : Option Verb) (before : OutsideNow) (status : Status) → IsFreshOutside before →
     AnswersWords verb before status before → IsExplained verb before status before →
     Acts verb before status before
 acts_none verb before status fresh answers explained = record {
@@ -279,13 +280,13 @@ no_memory : (verb : Option Verb) (before : OutsideNow) →
 no_memory None before = (inr refl, refl)
 no_memory (Some verb) before = inl (refl, refl)
 
-pub starved : (verb : Option Verb) (before : OutsideNow) → IsFresh before →
+pub starved : (verb : Option Verb) (before : OutsideNow) → IsFreshOutside before →
     Acts verb before statuses.NoMemory before
 starved verb before fresh =
     acts_none verb before statuses.NoMemory fresh (no_memory verb before)
     (unfailed_uncalled before.line.trail (uncalled_yet before fresh))
 
-pub misused : (verb : Option Verb) (before : OutsideNow) → verb ≡ None → IsFresh before →
+pub misused : (verb : Option Verb) (before : OutsideNow) → verb ≡ None → IsFreshOutside before →
     Acts verb before statuses.Usage before
 misused verb before none fresh =
     subst (λ (v : Option Verb). Acts v before statuses.Usage before) (sym none)
@@ -371,7 +372,7 @@ acts_refused v before mid error status h is early =
     emitted v before mid (Err error) status mid.out h (is, early, refl)
 
 -- a command that touches neither target nor tables
-pub comes_quiet : (v : Verb) (before mid : OutsideNow) (outcome : Outcome) → IsFresh before →
+pub comes_quiet : (v : Verb) (before mid : OutsideNow) (outcome : Outcome) → IsFreshOutside before →
     (used (Some v)).session ≡ None → (used (Some v)).tables ≡ false →
     (used (Some v)).clock ≡ false → (used (Some v)).random ≡ false →
     ComesTo v before outcome mid → mid ≡ record before { input = mid.input } →
@@ -382,7 +383,7 @@ comes_quiet v before mid outcome fresh none untouched timeless drawless comes sa
     let line = ap (λ (o : OutsideNow). o.line) same in
     let keeper = ap (λ (o : OutsideNow). o.keeper) same in
     let made = ap (λ (o : OutsideNow). o.made) same in
-    let after : IsFresh mid = record {
+    let after : IsFreshOutside mid = record {
       unwritten = ap (λ (l : LineNow). l.trail) line ∙ fresh.unwritten;
       unchanged = made ∙ fresh.unchanged;
     } in
@@ -410,7 +411,7 @@ comes_quiet v before mid outcome fresh none untouched timeless drawless comes sa
     }
 
 -- a command that prints a constant, and uses nothing else
-pub comes_printed : (v : Verb) (before : OutsideNow) (text : List ℕ) → IsFresh before →
+pub comes_printed : (v : Verb) (before : OutsideNow) (text : List ℕ) → IsFreshOutside before →
     used (Some v) ≡ nothing → ComesTo v before (Ok text) before → Comes v before (Ok text) before
 comes_printed v before text fresh uses comes =
     comes_quiet v before before (Ok text) fresh (ap (λ (u : Uses). u.session) uses)
@@ -429,10 +430,10 @@ acts_as verb v before after status is h =
 pub does_of : (verb : Option Verb) (before after : OutsideNow) (status : Status) →
     ((bytes : List ℕ) → verb ≡ Some Tidy → before.input.left ≡ Some bytes → TidiesTold bytes status) →
     ((command : LocalCommand) → verb ≡ Some (Local command) → may_be_late status ≡ false →
-    IsUnsaved before after) →
+    IsFreshAndUnsaved before after) →
     ((client : List ℕ) (t : Tables) (trail : List Event) (made : List Change) →
     ObeysData (at_rest t) (deeds_of trail made) → KeepsNotes client t trail made) →
-    Acts verb before status after → Does verb before status after
+    Acts verb before status after → RunsAsPromised verb before status after
 does_of verb before after status exact unsaved joined h = record {
   answers = h.answers;
   explained = h.explained;
@@ -454,10 +455,10 @@ does_of verb before after status exact unsaved joined h = record {
 
 -- by other names of what stands behind it
 pub does_as : (verb : Option Verb) (before after same : OutsideNow) (status : Status) →
-    Does verb before status after → after.line.trail ≡ same.line.trail →
+    RunsAsPromised verb before status after → after.line.trail ≡ same.line.trail →
     after.line.target ≡ same.line.target → after.keeper ≡ same.keeper → after.made ≡ same.made →
     after.input ≡ same.input → after.out ≡ same.out → after.clock ≡ same.clock →
-    after.entropy ≡ same.entropy → Does verb before status same
+    after.entropy ≡ same.entropy → RunsAsPromised verb before status same
 does_as verb before after same status h trail target keeper made input out clock entropy =
     let is : after ≡ same = λ i. record {
       line = record { trail = trail i; target = target i };
@@ -468,4 +469,4 @@ does_as verb before after same status h trail target keeper made input out clock
       clock = clock i;
       entropy = entropy i;
     } in
-    subst (λ (o : OutsideNow). Does verb before status o) is h
+    subst (λ (o : OutsideNow). RunsAsPromised verb before status o) is h

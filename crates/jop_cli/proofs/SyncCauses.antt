@@ -24,12 +24,12 @@ use Rattle.session.specs.Parts.{Part, Then}
 use Rattle.session.specs.Work.{IsReady, work}
 use Rattle.session_opening.specs.Opening.{Opens, RefusesTarget}
 use Rattle.sync_session.specs.Keys.{RefusesKeys}
-use Rattle.sync_session.specs.Syncing.{HasLeft as HasLeftSync, IsWholeSync}
+use Rattle.sync_session.specs.Syncing.{HasLeftSync, IsWholeSync}
 use Rattle.sync_session.specs.Working.{RefusesOpened, RefusesSync, Sends, is_sync}
 use Rattle.sync_session.specs.declared.sync_err.SyncErr.{SyncErr}
 use Rattle.sync_session.specs.declared.sync_err.SyncErr.TheVariants.{Refused}
 use Rattle.jop_cli.proofs.Heard.{found, found_bad}
-use Rattle.jop_cli.specs.Causes.{HasLeft, WasRefused}
+use Rattle.jop_cli.specs.Causes.{HasLeftHaving, WasRefused}
 
 -- ---- the trail
 
@@ -55,7 +55,7 @@ same_lease client had late is same = same ∙ ap (λ (l : Lease). record l { sta
 pub left_as : (Had : List Heard → Type 0) (client : List ℕ) (worked : Result (Unit {0}) SyncErr)
     (old new : SiteNow) (h : HasLeftSync client worked old new) → IsReady h.late.site h.late.lease →
     IsSameBut h.lease h.late.lease → Had (session_calls h.late.site.line.trail) →
-    HasLeft Had Sync client new.line.trail
+    HasLeftHaving Had Sync client new.line.trail
 left_as Had client worked old new h ready same had = record {
   before = h.late.site.line.trail;
   stamp = h.late.lease.stamp;
@@ -135,7 +135,7 @@ told_still late new same told =
 
 pub refused : (client : List ℕ) (old new : SiteNow) (why : Refusal) →
     HasLeftSync client (Err (Refused why)) old new →
-    HasLeft (WasRefused new.keeper why) Sync client new.line.trail
+    HasLeftHaving (WasRefused new.keeper why) Sync client new.line.trail
 refused client old new why h =
     let does = h.works in
     let kept = h.held.keeper.kept in

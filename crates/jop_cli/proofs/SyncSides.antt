@@ -11,13 +11,13 @@ use Rattle.jop_target.specs.declared.event.Event.TheVariants.{Began, Called, End
 use Rattle.law_licences.proofs.Settled.{made_inside, stays_inside}
 use Rattle.law_licences.specs.Deeds.{Deed, Begins, Asks, Makes, MakesUntold, Ends, Stops, changes_in, deeds_of, events_of}
 use Rattle.law_licences.specs.Licences.{Each, IsInside, MayChange, MayDo, MergesInfo, ObeysData}
-use Rattle.law_licences.specs.Views.{View, at_rest, changed, heard, seen}
+use Rattle.law_licences.specs.Views.{View, at_rest, view_after_change, view_after_call, seen}
 use Rattle.local_commands.specs.Keeping.{kept_after_all}
 use Rattle.local_commands.specs.declared.act.Act.{Act}
 use Rattle.local_commands.specs.declared.act.Act.TheVariants.{MakeChange, SaveBlob}
 use Rattle.local_commands.specs.Keeping as keeping
 use Rattle.local_store.specs.Changing.{after, after_all, conflicted, uploaded}
-use Rattle.keeper.specs.Keepers.{IsOfKept, KeeperNow, Kept, with_blob}
+use Rattle.keeper.specs.Keepers.{IsOfKept, KeeperNow, Kept, with_saved_blob}
 use Rattle.keeper.specs.Keepers as keepers
 use Rattle.local_store.specs.Tables.{row_at}
 use Rattle.keeper.specs.declared.blob.Blob.{Blob}
@@ -76,7 +76,7 @@ saves_kept : (saves : List Blob) (k : Kept) →
     kept_after_all (map SaveBlob saves) k ≡ kept_after_saves [] saves k
 unfolding after_all saved_all
 saves_kept [] k = refl
-saves_kept (b ∷ saves) k = saves_kept saves (with_blob b.id b.bytes k)
+saves_kept (b ∷ saves) k = saves_kept saves (with_saved_blob b.id b.bytes k)
 
 acts_kept : (changes : List Change) (saves : List Blob) (k : Kept) →
     kept_after_all (acts_of changes saves) k ≡ kept_after_saves changes saves k
@@ -244,12 +244,14 @@ inside_name n v w t [] inside may once each = refl
 inside_name n v w t (Stops ∷ ds) inside may once each =
     inside_name n v (seen w Stops) t ds inside may.1 once each
 inside_name n v w t (Asks call None ∷ ds) inside may once each =
-    inside_name n (heard v call None) (seen w (Asks call None)) t ds inside may.1 once each.1
+    inside_name n (view_after_call v call None)
+    (seen w (Asks call None)) t ds inside may.1 once each.1
 inside_name n v w t (Asks call (Some reply) ∷ ds) inside may once each =
-    inside_name n (heard v call (Some reply)) (seen w (Asks call (Some reply))) t ds inside may.1
+    inside_name n (view_after_call v call (Some reply))
+    (seen w (Asks call (Some reply))) t ds inside may.1
     once each.1
 inside_name n v w t (Makes c ∷ ds) inside may once each =
-    inside_name (n + 1) (changed v c) (seen w (Makes c)) (after t c) ds
+    inside_name (n + 1) (view_after_change v c) (seen w (Makes c)) (after t c) ds
     (stays_inside v.stage c inside) may.1 once each.1
     ∙ keeps_name v c t (made_inside v.stage v c inside each.0)
 inside_name n v w t (MakesUntold ∷ ds) inside may once each = absurd may.0

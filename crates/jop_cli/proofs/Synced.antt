@@ -1,6 +1,6 @@
 -- What a sync comes to.
 use Rattle.std.proofs.Common.{◌≡◌, ◌≤◌, refl, sym, ap, subst, arith, inl, inr, ℕ, List, [], ◌∷◌, ◌++◌, true, false, Some, None, Result, Ok, Err}
-use Rattle.client.specs.Outside.{AreKept, OutsideNow}
+use Rattle.client.specs.Outside.{AreKeptTables, OutsideNow}
 use Rattle.client.specs.Owning.{NamesClient, Owns}
 use Rattle.client.specs.Sites.{SiteNow}
 use Rattle.client.specs.declared.own_err.OwnErr.{OwnErr}
@@ -13,10 +13,10 @@ use Rattle.jop_cli.proofs.Runs.{Comes, IsToldAs, unfailed_session, uses_behind}
 use Rattle.jop_cli.proofs.Sessions.{any_done, failed_session}
 use Rattle.jop_cli.proofs.SyncCauses.{late_trail, refused}
 use Rattle.jop_cli.proofs.SyncSides.{added, keeps_acts, licensed_kept, names_after}
-use Rattle.jop_cli.specs.Causes.{HasEnded, HasLeft, IsExplained, WasRefused}
+use Rattle.jop_cli.specs.Causes.{HasEnded, HasLeftHaving, IsExplained, WasRefused}
 use Rattle.jop_cli.specs.Commands.Sessions.{IsUncalled, lock_named, went_well}
 use Rattle.jop_cli.specs.Commands.Sync.{sync_outcome, sync_status}
-use Rattle.jop_cli.specs.Run.{IsFresh, UsesTarget}
+use Rattle.jop_cli.specs.Run.{IsFreshOutside, UsesTarget}
 use Rattle.jop_cli.specs.Worlds.{RanSync, site_in}
 use Rattle.jop_outside.specs.Outside.{HasRisen}
 use Rattle.jop_status.specs.Refusals.{own_status}
@@ -123,11 +123,12 @@ explained_refusal target client before named after t late error h later uncalled
 
       -- the lease was left behind calls that had come to this
       left_behind : (e : SyncErr) (h : IsWholeSync client old (Err e) new)
-          (Had : List _ → Type 0) → HasLeft Had kinds.Sync client h.last.line.trail →
-          HasEnded (Some (Sync target)) after.keeper after.line.trail (HasLeft Had)
+          (Had : List _ → Type 0) → HasLeftHaving Had kinds.Sync client h.last.line.trail →
+          HasEnded (Some (Sync target)) after.keeper after.line.trail (HasLeftHaving Had)
       left_behind e h Had left =
-          ended target client named after h.whole.middle (HasLeft Had) uncalled names h.whole.trail
-          (subst (λ (es : List Event). HasLeft Had kinds.Sync client es)
+          ended target client named after h.whole.middle
+          (HasLeftHaving Had) uncalled names h.whole.trail
+          (subst (λ (es : List Event). HasLeftHaving Had kinds.Sync client es)
           (late_trail client old new (Err e) h) left)
 
       by : (e : SyncErr) → AddsFrom client old (Err e) new →
@@ -145,7 +146,8 @@ explained_refusal target client before named after t late error h later uncalled
           (late_trail client old new (Err (LeaseLost seen)) h) h.answers)
       by (Refused why) h =
           left_behind (Refused why) h (WasRefused after.keeper why)
-          (subst (λ (k : KeeperNow). HasLeft (WasRefused k why) kinds.Sync client h.last.line.trail)
+          (subst (λ (k : KeeperNow).
+          HasLeftHaving (WasRefused k why) kinds.Sync client h.last.line.trail)
           (last_keeper client old new (Err (Refused why)) h)
           (refused client _ h.last why h.answers))
       by TargetFault h =
@@ -184,7 +186,7 @@ gone_on named line keeper made = record named { line = line; keeper = keeper; ma
 
 synced : (target : TargetName) (client : List ℕ) (before named : OutsideNow) (line : LineNow)
     (keeper : KeeperNow) (made : List Change) (t : Tables) (result : Result SyncReport SyncErr) →
-    IsFresh before → Owns before (Ok client) named → AreKept named.keeper t →
+    IsFreshOutside before → Owns before (Ok client) named → AreKeptTables named.keeper t →
     RanSync client t named result (gone_on named line keeper made) →
     Comes (Sync target) before (sync_outcome result) (gone_on named line keeper made)
 synced target client before named line keeper made t result fresh owns kept h =
@@ -234,8 +236,9 @@ synced target client before named line keeper made t result fresh owns kept h =
     }
 
 pub comes_synced : (target : TargetName) (client : List ℕ) (before named mid : OutsideNow)
-    (t : Tables) (result : Result SyncReport SyncErr) → IsFresh before →
-    Owns before (Ok client) named → AreKept named.keeper t → RanSync client t named result mid →
+    (t : Tables) (result : Result SyncReport SyncErr) → IsFreshOutside before →
+    Owns before (Ok client) named → AreKeptTables named.keeper t →
+    RanSync client t named result mid →
     Comes (Sync target) before (sync_outcome result) mid
 comes_synced target client before named mid t result fresh owns kept h =
     subst (λ (m : OutsideNow). Comes (Sync target) before (sync_outcome result) m) (sym h.same)
@@ -244,7 +247,7 @@ comes_synced target client before named mid t result fresh owns kept h =
 
 -- the client isn't known
 pub comes_not_synced : (target : TargetName) (before mid : OutsideNow) (error : OwnErr) →
-    IsFresh before → Owns before (Err error) mid →
+    IsFreshOutside before → Owns before (Err error) mid →
     Comes (Sync target) before (Err (own_status error)) mid
 comes_not_synced target before mid error fresh owns =
     comes_unowned (Sync target) (record { kind = kinds.Sync; client = None }) before mid error fresh

@@ -5,7 +5,7 @@ use Rattle.jop_status.specs.Statuses.{is_early}
 use Rattle.jop_status.specs.declared.status.Status.{Status}
 use Rattle.jop_target.specs.Runs.{has_failed}
 use Rattle.std.proofs.Common.{Option, Some, Result, Ok, Err, true, false}
-use Rattle.item_text.specs.Canonical.{IsCanonical, Tidies as ItemTidies}
+use Rattle.item_text.specs.Canonical.{IsCanonical, GivesCanonical}
 use Rattle.item_text.specs.Grammar.{first_fault}
 use Rattle.item_text.specs.declared.bad_item.ItemErr.{ItemErr}
 use Rattle.item_text.specs.declared.bad_item.ItemErr.TheVariants as item_errors
@@ -15,9 +15,9 @@ use Rattle.jop_outside.specs.declared.reading.ReadErr.{ReadErr}
 use Rattle.jop_outside.specs.declared.reading.ReadErr.TheVariants as read_errors
 use Rattle.client.specs.Outside.{OutsideNow, ReadsInput}
 use Rattle.jop_cli.proofs.Runs.{Comes, comes_quiet, uncalled_yet, unfailed_uncalled}
-use Rattle.jop_cli.specs.Commands.Tidy.{IsTidyAnswer, StandsFor, TIDY_LIMIT, Tidies, TidiesBytes, TidiesInput, bytes_outcome, item_err, tidy_outcome, read_err, tidy_status}
+use Rattle.jop_cli.specs.Commands.Tidy.{IsTidyAnswer, HasTidyStatus, TIDY_LIMIT, Tidies, TidiesBytes, TidiesInput, bytes_outcome, item_err, tidy_outcome, read_err, tidy_status}
 use Rattle.jop_cli.specs.Causes.{IsExplained}
-use Rattle.jop_cli.specs.Run.{AnswersWords, IsFresh, Obeys, TidiesTold}
+use Rattle.jop_cli.specs.Run.{AnswersWords, IsFreshOutside, Obeys, TidiesTold}
 use Rattle.jop_words.specs.declared.verb.Verb.{Verb}
 use Rattle.jop_words.specs.declared.verb.Verb.TheVariants.{Tidy}
 use Rattle.jop_cli.specs.declared.command.tidy.TidyErr.{TidyErr}
@@ -75,7 +75,7 @@ told_answer old new told (Err Fault) tells rose = tt
 told_answer old new told (Err NoMemory) tells free = tt
 
 stands_for : (a b : SinkNow) (status : Status) (result : Result (List ℕ) TidyErr) →
-    Emits (tidy_outcome result) a status b → StandsFor result status
+    Emits (tidy_outcome result) a status b → HasTidyStatus result status
 stands_for a b status (Ok text) (inl went) = inl went.0
 stands_for a b status (Ok text) (inr cut) = inr cut.0
 stands_for a b status (Err error) emits = emits.0
@@ -147,12 +147,12 @@ tidies_unread before mid e reads = record {
   same = reads.same;
 }
 
-pub comes_tidied : (before mid : OutsideNow) (outcome : Outcome) → IsFresh before →
+pub comes_tidied : (before mid : OutsideNow) (outcome : Outcome) → IsFreshOutside before →
     Tidies before outcome mid → Comes Tidy before outcome mid
 comes_tidied before mid outcome fresh h =
     let trail : mid.line.trail ≡ [] =
     ap (λ (o : OutsideNow). o.line.trail) h.same ∙ fresh.unwritten in
-    let behind : IsFresh mid = record {
+    let behind : IsFreshOutside mid = record {
       unwritten = trail;
       unchanged = ap (λ (o : OutsideNow). o.made) h.same ∙ fresh.unchanged;
     } in
@@ -163,6 +163,7 @@ comes_tidied before mid outcome fresh h =
 
 -- ---- bytes
 
-pub refused : (bytes : List ℕ) (e : ItemErr) → ItemTidies bytes (Err e) → TidiesBytes bytes (Err e)
+pub refused : (bytes : List ℕ) (e : ItemErr) → GivesCanonical bytes (Err e)
+    → TidiesBytes bytes (Err e)
 refused bytes (item_errors.Bad bad) tidies = tidies
 refused bytes item_errors.NoMemory tidies = tt

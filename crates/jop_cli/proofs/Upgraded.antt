@@ -11,10 +11,10 @@ use Rattle.jop_cli.proofs.OwnLicences.{licensed_as_named}
 use Rattle.jop_cli.proofs.Owned.{comes_unowned, owned}
 use Rattle.jop_cli.proofs.Runs.{Comes, unfailed_session, uses_behind}
 use Rattle.jop_cli.proofs.Sessions.{failed_session, told_lease}
-use Rattle.jop_cli.specs.Causes.{HasEnded, HasLeft, IsExplained, WasRefused}
+use Rattle.jop_cli.specs.Causes.{HasEnded, HasLeftHaving, IsExplained, WasRefused}
 use Rattle.jop_cli.specs.Commands.Sessions.{IsUncalled, outcome_by}
 use Rattle.jop_cli.specs.Commands.Upgrade.{version_line}
-use Rattle.jop_cli.specs.Run.{IsFresh, UsesTarget}
+use Rattle.jop_cli.specs.Run.{IsFreshOutside, UsesTarget}
 use Rattle.jop_cli.specs.Worlds.{RanUpgrade}
 use Rattle.jop_status.specs.Refusals.{own_status, session_status}
 use Rattle.jop_status.specs.declared.status.Status.{Status}
@@ -69,7 +69,7 @@ explained_refusal target client before named after (LeaseLost seen) uncalled nam
       | inr lapsed ↦ (Renewing Exclusive lapsed.0, lapsed.1)
     ])
 explained_refusal target client before named after (Refused why) uncalled names adds uses =
-    ended target client named after adds.whole.middle (HasLeft (WasRefused after.keeper why))
+    ended target client named after adds.whole.middle (HasLeftHaving (WasRefused after.keeper why))
     uncalled names adds.whole.trail (upgrade_refused after.keeper client _ why adds.because)
 explained_refusal target client before named after TargetFault uncalled names adds uses =
     let failed = failed_session IsCall client named.line.trail after.line.trail adds.whole
@@ -94,7 +94,7 @@ explained target client before named after (Err refusal) error uncalled names ad
     (explained_refusal target client before named after refusal uncalled names adds uses)
 
 upgraded : (target : TargetName) (client : List ℕ) (before named : OutsideNow) (line : LineNow)
-    (result : Result ℕ SessionErr) → IsFresh before → Owns before (Ok client) named →
+    (result : Result ℕ SessionErr) → IsFreshOutside before → Owns before (Ok client) named →
     RanUpgrade client named result (record named { line = line }) →
     Comes (Upgrade target) before (outcome_by version_line result) (record named { line = line })
 upgraded target client before named line result fresh owns h =
@@ -137,7 +137,7 @@ upgraded target client before named line result fresh owns h =
     }
 
 pub comes_upgraded : (target : TargetName) (client : List ℕ) (before named mid : OutsideNow)
-    (result : Result ℕ SessionErr) → IsFresh before → Owns before (Ok client) named →
+    (result : Result ℕ SessionErr) → IsFreshOutside before → Owns before (Ok client) named →
     RanUpgrade client named result mid →
     Comes (Upgrade target) before (outcome_by version_line result) mid
 comes_upgraded target client before named mid result fresh owns h =
@@ -148,7 +148,7 @@ comes_upgraded target client before named mid result fresh owns h =
 
 -- the client isn't known
 pub comes_not_upgraded : (target : TargetName) (before mid : OutsideNow) (error : OwnErr) →
-    IsFresh before → Owns before (Err error) mid →
+    IsFreshOutside before → Owns before (Err error) mid →
     Comes (Upgrade target) before (Err (own_status error)) mid
 comes_not_upgraded target before mid error fresh owns =
     comes_unowned (Upgrade target) (record { kind = Exclusive; client = None }) before mid error fresh

@@ -37,12 +37,12 @@ use Rattle.local_store.specs.declared.tables.Tables.{Tables}
 use Rattle.session_opening.specs.Opening.{IsOldVersion}
 use Rattle.sync_info.specs.declared.info.Info.{Info}
 use Rattle.sync_session.specs.Keys.{IsActiveKey, needs_key}
-use Rattle.target_upgrade.specs.Reading.{Gives, IsBadReply}
+use Rattle.target_upgrade.specs.Reading.{GivesInfo, IsBadReply}
 use Rattle.target_upgrade.specs.Steps.{SUPPORTED}
 use Rattle.jop_cli.specs.Commands.{used}
 use Rattle.local_commands.specs.Plans.{plan_of}
 use Rattle.local_commands.specs.Running.{Runs}
-use Rattle.jop_cli.specs.Commands.Sessions.{IsClientOf, IsUncalled, Session}
+use Rattle.jop_cli.specs.Commands.Sessions.{IsClientOf, IsUncalled, NamedSession}
 use Rattle.jop_cli.specs.Commands.Tidy.{IsFaulty}
 use Rattle.jop_words.specs.declared.verb.Verb.{Verb}
 use Rattle.jop_words.specs.declared.verb.Verb.TheVariants as verbs
@@ -50,8 +50,8 @@ use Rattle.jop_words.specs.declared.verb.Verb.TheVariants as verbs
 -- ---- calls, input, and commands on the tables
 
 -- a call was answered `Failed`, and the target's count rose
-abbrev pub HasFailed : TargetNow → List Event → TargetNow → Type 0
-HasFailed before trail after = (has_failed trail ≡ true) × HasRisen before.faults after.faults
+abbrev pub TargetHasFailed : TargetNow → List Event → TargetNow → Type 0
+TargetHasFailed before trail after = (has_failed trail ≡ true) × HasRisen before.faults after.faults
 
 -- the command reads the input, which is past its limit; the number is the limit and one
 pub record IsTooLong (verb : Option Verb) (before : SourceNow) (number : ℕ) (after : SourceNow)
@@ -74,7 +74,7 @@ pub record IsRefusedLocally (verb : Option Verb) (before : OutsideNow) (refusal 
 -- before it ended.
 pub record HasEnded (verb : Option Verb) (keeper : KeeperNow) (trail : List Event)
     (Came : LockKind → List ℕ → List Event → Type 0) : Type 0 where
-  pub session : Session
+  pub session : NamedSession
   pub uses : (used verb).session ≡ Some session
   pub client : List ℕ
   pub of : IsClientOf session.client keeper client
@@ -98,16 +98,16 @@ HasLost verb keeper trail seen =
 -- ---- what a session was told under its lease
 
 -- this is the call that was heard last, with its reply
-abbrev pub IsLast : Call → Reply → List Heard → Type 0
-IsLast call reply calls =
+abbrev pub IsHeardLast : Call → Reply → List Heard → Type 0
+IsHeardLast call reply calls =
     (earlier : List Heard) × (calls ≡ record { call = call; reply = Some reply } ∷ earlier)
 
 -- an info of this version was got last
 pub record HasGot (version : ℕ) (calls : List Heard) : Type 0 where
   pub info : Info
   pub reply : Reply
-  pub last : IsLast (Get InfoFile) reply calls
-  pub gives : Gives info reply
+  pub last : IsHeardLast (Get InfoFile) reply calls
+  pub gives : GivesInfo info reply
   pub version_is : info.version ≡ version
 
 -- there was no info, and the old version's file, which was got last, told this version
@@ -120,25 +120,25 @@ pub record HasGotOld (version : ℕ) (calls : List Heard) : Type 0 where
   pub tells : IsOldVersion version reply
 
 -- the target was found to have this version
-abbrev pub HasFound : ℕ → List Heard → Type 0
-HasFound version calls = HasGot version calls ⊎ HasGotOld version calls
+abbrev pub HasFoundVersion : ℕ → List Heard → Type 0
+HasFoundVersion version calls = HasGot version calls ⊎ HasGotOld version calls
 
 -- an `info.json` that is too large or holds no info was got last
 abbrev pub HasGotBad : List Heard → Type 0
-HasGotBad calls = (reply : Reply) × IsLast (Get InfoFile) reply calls × IsBadReply reply
+HasGotBad calls = (reply : Reply) × IsHeardLast (Get InfoFile) reply calls × IsBadReply reply
 
 -- The root was listed last, and shows no item, while the tables have a base of so many. They are those
 -- that are kept, if that is told.
 pub record HasListedNone (keeper : KeeperNow) (count : ℕ) (calls : List Heard) : Type 0 where
   pub listing : Listing
-  pub last : IsLast (ListDir Root) (Listed listing) calls
+  pub last : IsHeardLast (ListDir Root) (Listed listing) calls
   pub tables : Tables
   pub told : IsOfKept keeper.kept tables
   pub rows : emptied_by (shown_to tables listing) ≡ Some count
 
 -- Something waits that is to be sealed with this key, which isn't known. The tables are those that are
 -- kept, if that is told.
-pub record LacksKey (keeper : KeeperNow) (key : Option (List ℕ)) : Type 0 where
+pub record WantsKey (keeper : KeeperNow) (key : Option (List ℕ)) : Type 0 where
   pub tables : Tables
   pub told : IsOfKept keeper.kept tables
   pub needs : needs_key tables ≡ true
@@ -146,15 +146,17 @@ pub record LacksKey (keeper : KeeperNow) (key : Option (List ℕ)) : Type 0 wher
 
 -- A row for each refusal of a session: what its calls had come to, and the tables that are kept.
 abbrev pub WasRefused : KeeperNow → Refusal → List Heard → Type 0
-WasRefused keeper (TargetOlder version) calls = (version < SUPPORTED) × HasFound version calls
-WasRefused keeper (TargetNewer version) calls = (SUPPORTED < version) × HasFound version calls
+WasRefused keeper (TargetOlder version) calls =
+    (version < SUPPORTED) × HasFoundVersion version calls
+WasRefused keeper (TargetNewer version) calls =
+    (SUPPORTED < version) × HasFoundVersion version calls
 WasRefused keeper BadInfo calls = HasGotBad calls
 WasRefused keeper (FailSafe count) calls = HasListedNone keeper count calls
-WasRefused keeper (NoKey key) calls = LacksKey keeper key
+WasRefused keeper (NoKey key) calls = WantsKey keeper key
 
 -- It held its lease, and its calls but those about locks, the last one first, had come to this; then
 -- its lock was deleted, which is the last call.
-pub record HasLeft (Had : List Heard → Type 0) (kind : LockKind) (client : List ℕ)
+pub record HasLeftHaving (Had : List Heard → Type 0) (kind : LockKind) (client : List ℕ)
     (trail : List Event) : Type 0 where
   pub before : List Event
   pub stamp : ℕ
@@ -165,7 +167,7 @@ pub record HasLeft (Had : List Heard → Type 0) (kind : LockKind) (client : Lis
 
 -- the session left its lease once its calls had come to this
 abbrev pub HasLeftBehind : Option Verb → KeeperNow → List Event → (List Heard → Type 0) → Type 0
-HasLeftBehind verb keeper trail Had = HasEnded verb keeper trail (HasLeft Had)
+HasLeftBehind verb keeper trail Had = HasEnded verb keeper trail (HasLeftHaving Had)
 
 -- ---- each status
 
@@ -181,7 +183,7 @@ IsExplained verb before (statuses.LeaseLost seen) after =
 IsExplained verb before (statuses.Refused why) after =
     HasLeftBehind verb after.keeper after.line.trail (WasRefused after.keeper why)
 IsExplained verb before statuses.TargetFault after =
-    HasFailed before.line.target after.line.trail after.line.target
+    TargetHasFailed before.line.target after.line.trail after.line.target
 IsExplained verb before statuses.KeeperFault after =
     HasRisen before.keeper.faults after.keeper.faults
 IsExplained verb before statuses.SourceFault after =

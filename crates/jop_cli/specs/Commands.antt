@@ -21,7 +21,7 @@ use Rattle.jop_words.specs.declared.verb.Verb.TheVariants as verbs
 use Rattle.jop_cli.specs.Commands.Check.{Checks}
 use Rattle.jop_cli.specs.Commands.Constants.{PrintsConstant, constant_of}
 use Rattle.jop_cli.specs.Commands.Local.{DoesLocally}
-use Rattle.jop_cli.specs.Commands.Sessions.{Session}
+use Rattle.jop_cli.specs.Commands.Sessions.{NamedSession}
 use Rattle.jop_cli.specs.Commands.Sync.{SyncsAsNamed}
 use Rattle.jop_cli.specs.Commands.Tidy.{TIDY_LIMIT, Tidies}
 use Rattle.jop_cli.specs.Commands.Upgrade.{UpgradesAsNamed}
@@ -33,7 +33,7 @@ use Rattle.client.specs.Outside.{OutsideNow}
 -- the bytes of resources, the clock, and random bytes. It leaves alone what it doesn't use.
 pub record Uses : Type 0 where
   pub input : Option ℕ
-  pub session : Option Session
+  pub session : Option NamedSession
   pub tables : Bool
   pub bytes : Bool
   pub clock : Bool

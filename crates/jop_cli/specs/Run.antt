@@ -24,9 +24,9 @@ use Rattle.local_store.specs.declared.change.Change.{Change}
 use Rattle.local_store.specs.declared.tables.Tables.{Tables}
 use Rattle.jop_cli.specs.Causes.{IsUnexplained, IsExplained}
 use Rattle.jop_cli.specs.Commands.{ComesTo, Uses, used}
-use Rattle.jop_cli.specs.Commands.Sessions.{IsClientOf, IsUncalled, Session, lock_named, went_well}
+use Rattle.jop_cli.specs.Commands.Sessions.{IsClientOf, IsUncalled, NamedSession, lock_named, went_well}
 use Rattle.sync_run.specs.Leases.{KeepsLease}
-use Rattle.jop_cli.specs.Commands.Tidy.{StandsFor, IsTidyAnswer}
+use Rattle.jop_cli.specs.Commands.Tidy.{HasTidyStatus, IsTidyAnswer}
 use Rattle.jop_cli.specs.Worlds.{EmitsTo}
 use Rattle.jop_words.specs.declared.verb.Verb.{Verb}
 use Rattle.jop_words.specs.declared.verb.Verb.TheVariants as verbs
@@ -34,7 +34,7 @@ use Rattle.jop_words.specs.declared.verb.Verb.TheVariants as verbs
 -- ---- what is done
 
 -- nothing is written down yet
-pub record IsFresh (o : OutsideNow) : Type 0 where
+pub record IsFreshOutside (o : OutsideNow) : Type 0 where
   pub unwritten : o.line.trail ≡ []
   pub unchanged : o.made ≡ []
 
@@ -59,7 +59,8 @@ AnswersWords (Some verb) before status after =
 
 -- Without a session no call is made: the trail has the numbers of the changes and nothing else, and
 -- the target is as it was.
-abbrev pub LeavesTarget : Option Session → TargetNow → List Event → List Change → TargetNow → Type 0
+abbrev pub LeavesTarget : Option NamedSession → TargetNow → List Event → List Change → TargetNow
+    → Type 0
 LeavesTarget None before trail made after = (trail ≡ trail_of 0 made) × (after ≡ before)
 LeavesTarget (Some session) before trail made after = Unit {0}
 
@@ -105,7 +106,7 @@ KeepsChanges true before made after = KeepsActs before made after
 -- ---- sessions
 
 -- the trail is changes, and then one session of the client, which keeps what a lease promises
-pub record RunsSession (session : Session) (keeper : KeeperNow) (trail : List Event)
+pub record RunsSession (session : NamedSession) (keeper : KeeperNow) (trail : List Event)
     (status : Status) : Type 0 where
   pub client : List ℕ
   pub of : IsClientOf session.client keeper client
@@ -116,7 +117,7 @@ pub record RunsSession (session : Session) (keeper : KeeperNow) (trail : List Ev
   pub keeps : KeepsLease session.kind client (lock_named status) (went_well status) events
 
 -- nothing is called, but in the one session of a command that has one
-abbrev pub Sessions : Option Session → KeeperNow → List Event → Status → Type 0
+abbrev pub Sessions : Option NamedSession → KeeperNow → List Event → Status → Type 0
 Sessions None keeper trail status = IsUncalled trail
 Sessions (Some session) keeper trail status =
     IsUncalled trail ⊎ RunsSession session keeper trail status
@@ -125,7 +126,7 @@ Sessions (Some session) keeper trail status =
 
 -- an input of `tidy` that tells these bytes has this answer
 abbrev pub TidiesTold : List ℕ → Status → Type 0
-TidiesTold bytes status = (result : _) × StandsFor result status × IsTidyAnswer bytes result
+TidiesTold bytes status = (result : _) × HasTidyStatus result status × IsTidyAnswer bytes result
 
 -- ---- what is refused before anything is saved
 
@@ -138,9 +139,9 @@ may_be_late statuses.NoMemory = true
 may_be_late status = false
 
 -- nothing was saved, and nothing is written down
-pub record IsUnsaved (before after : OutsideNow) : Type 0 where
+pub record IsFreshAndUnsaved (before after : OutsideNow) : Type 0 where
   pub same : after.keeper ≡ before.keeper
-  pub fresh : IsFresh after
+  pub fresh : IsFreshOutside after
 
 -- ---- what is printed
 
@@ -187,8 +188,8 @@ pub record Acts (verb : Option Verb) (before : OutsideNow) (status : Status) (af
   pub licensed : HasLicences before after
 
 -- What a run is promised to do, whatever the outside answers.
-pub record Does (verb : Option Verb) (before : OutsideNow) (status : Status) (after : OutsideNow)
-    : Type 0 where
+pub record RunsAsPromised (verb : Option Verb) (before : OutsideNow) (status : Status)
+    (after : OutsideNow) : Type 0 where
   -- what was done
   pub answers : AnswersWords verb before status after
   -- the cause of its end
@@ -202,7 +203,7 @@ pub record Does (verb : Option Verb) (before : OutsideNow) (status : Status) (af
   -- a command on the tables that is refused before it saves anything leaves them and the bytes of
   -- resources as they were
   pub unsaved : (command : LocalCommand) → verb ≡ Some (verbs.Local command) →
-      may_be_late status ≡ false → IsUnsaved before after
+      may_be_late status ≡ false → IsFreshAndUnsaved before after
   -- its session keeps its lease, in every history of all clients
   pub sessions : Sessions (used verb).session after.keeper after.line.trail status
   -- the tables at exit are those at entry with the changes that were made

@@ -1,5 +1,5 @@
 ghost use Rattle.std.specs.Prelude.{◌≡◌, [], Some};
-ghost use Rattle.jop_cli.specs.Run.{Acts, Does, IsFresh};
+ghost use Rattle.jop_cli.specs.Run.{Acts, RunsAsPromised, IsFreshOutside};
 ghost use Rattle.jop_cli.specs.Worlds.{outside_of};
 ghost use Rattle.jop_status.specs.Reports.{Reports};
 ghost use Rattle.jop_words.specs.Commands.{meant};
@@ -33,7 +33,7 @@ pub fn run<K: Keeper, T: Target, I: Source, O: Sink, E: Sink, C: Clock, N: Entro
 ) -> Status
     requires unwritten { diary.old.events ≡ [] }
     requires unchanged { made.old.changes ≡ [] }
-    ensures does { Does (meant words.now.list)
+    ensures does { RunsAsPromised (meant words.now.list)
         (outside_of diary.old.events (T.state target.old) (K.state keeper.old) made.old.changes
         (I.state input.old) (O.state out.old) (C.state clock.old) (N.state entropy.old))
         result
@@ -59,7 +59,7 @@ pub fn run<K: Keeper, T: Target, I: Source, O: Sink, E: Sink, C: Clock, N: Entro
 
 /// Reads the words, and obeys them if they mean a command.
 fn answer<W: World>(alloc: Global, words: &Words, world: &mut W) -> Status
-    requires { IsFresh (W.now world.old) }
+    requires { IsFreshOutside (W.now world.old) }
     ensures acts { Acts (meant words.now.list) (W.now world.old) result (W.now world.new) }
     ensures stays { W.place world.new ≡ W.place world.old }
 {
@@ -73,7 +73,7 @@ fn answer<W: World>(alloc: Global, words: &Words, world: &mut W) -> Status
 /// Does what a command says: an arm for each.
 fn obey<W: World>(alloc: Global, world: &mut W, verb: Verb) -> Status
     requires fit { IsFit verb }
-    requires fresh { IsFresh (W.now world.old) }
+    requires fresh { IsFreshOutside (W.now world.old) }
     ensures acts { Acts (Some verb) (W.now world.old) result (W.now world.new) }
     ensures stays { W.place world.new ≡ W.place world.old }
 {

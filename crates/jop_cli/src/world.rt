@@ -1,6 +1,6 @@
 ghost use Rattle.std.specs.Prelude.{◌≡◌, ◌++◌, Ok};
 ghost use Rattle.jop_cli.specs.Commands.Sync.{report_text};
-ghost use Rattle.client.specs.Outside.{AreKept};
+ghost use Rattle.client.specs.Outside.{AreKeptTables};
 ghost use Rattle.jop_cli.specs.Worlds.{EmitsTo, RanCheck, RanSync, RanUpgrade};
 ghost use Rattle.jop_status.specs.Pieces.{pieces_text};
 
@@ -36,7 +36,7 @@ pub(crate) trait World: Outside {
         tables: &mut Tables,
         client: &ClientId,
     ) -> Result<SyncReport, SyncErr>
-        requires { AreKept (Self.now self.old).keeper tables.old }
+        requires { AreKeptTables (Self.now self.old).keeper tables.old }
         ensures syncs { RanSync client.now tables.old (Self.now self.old) result (Self.now self.new) }
         ensures stays { Self.place self.new ≡ Self.place self.old };
 

@@ -8,7 +8,7 @@ use Rattle.jop_outside.specs.Outside.{SinkNow, SourceNow}
 use Rattle.jop_outside.specs.Random.{EntropyNow}
 use Rattle.jop_words.specs.Commands.{target_words}
 use Rattle.client.specs.Outside.{OutsideNow}
-use Rattle.jop_cli.specs.Run.{Does, IsFresh}
+use Rattle.jop_cli.specs.Run.{RunsAsPromised, IsFreshOutside}
 use Rattle.jop_words.specs.declared.verb.Verb.{Verb}
 use Rattle.jop_words.specs.declared.target_name.TargetKind.{TargetKind}
 use Rattle.jop_words.specs.declared.target_name.TargetKind.TheVariants.{Mem, Dir}
@@ -55,13 +55,13 @@ pub record HasStreams (s : StreamsNow) (o : OutsideNow) : Type 0 where
 
 -- On some keeper and some target, of which nothing was written down yet, it was done what the words mean. It ended with
 -- a status: that is reported, and its exit status is this one.
-pub record IsRun (verb : Option Verb) (before after : StreamsNow) (exit : ℕ) : Type 0 where
+pub record IsStartedRun (verb : Option Verb) (before after : StreamsNow) (exit : ℕ) : Type 0 where
   pub first : OutsideNow
-  pub fresh : IsFresh first
+  pub fresh : IsFreshOutside first
   pub begins : HasStreams before first
   pub status : Status
   pub last : OutsideNow
   pub ends : HasStreams after last
-  pub does : Does verb first status last
+  pub does : RunsAsPromised verb first status last
   pub reports : Reports before.err status after.err
   pub exit_is : exit ≡ (row_of status).exit

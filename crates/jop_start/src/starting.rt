@@ -1,6 +1,6 @@
 ghost use Rattle.std.specs.Prelude.{◌≡◌, Err, IfOk, OnErr, true};
 ghost use Rattle.jop_words.specs.Commands.{meant};
-ghost use Rattle.jop_start.specs.Starting.{IsRun, is_folder_kind, kind_named};
+ghost use Rattle.jop_start.specs.Starting.{IsStartedRun, is_folder_kind, kind_named};
 
 use crate::server::server_target;
 use crate::start_err::StartErr;
@@ -29,7 +29,7 @@ pub fn run_named<I: Source, O: Sink, E: Sink, C: Clock, N: Entropy>(
     words: &Words,
     streams: &mut Streams<I, O, E, C, N>,
 ) -> Result<u8, StartErr>
-    ensures runs { IfOk result (IsRun (meant words.now.list) streams.old streams.new) }
+    ensures runs { IfOk result (IsStartedRun (meant words.now.list) streams.old streams.new) }
     ensures drawn { result ≡ Err StartErr.EntropyFault →
         is_folder_kind (kind_named words.now.list) ≡ true }
     ensures idle { OnErr result (streams.new ≡ streams.old) }
@@ -49,7 +49,7 @@ fn run_keeper<K: Keeper, I: Source, O: Sink, E: Sink, C: Clock, N: Entropy>(
     keeper: &mut K,
     streams: &mut Streams<I, O, E, C, N>,
 ) -> Result<u8, StartErr>
-    ensures runs { IfOk result (IsRun (meant words.now.list) streams.old streams.new) }
+    ensures runs { IfOk result (IsStartedRun (meant words.now.list) streams.old streams.new) }
     ensures drawn { result ≡ Err StartErr.EntropyFault →
         is_folder_kind (kind_named words.now.list) ≡ true }
     ensures idle { OnErr result (streams.new ≡ streams.old) }
@@ -84,7 +84,7 @@ fn run_on<K: Keeper, T: Target, I: Source, O: Sink, E: Sink, C: Clock, N: Entrop
     target: &mut T,
     streams: &mut Streams<I, O, E, C, N>,
 ) -> u8
-    ensures runs { IsRun (meant words.now.list) streams.old streams.new result }
+    ensures runs { IsStartedRun (meant words.now.list) streams.old streams.new result }
 {
     let alloc = rt.alloc();
     let mut diary = Diary::new(alloc);

@@ -9,11 +9,11 @@ use Rattle.target_upgrade.specs.Steps.{SUPPORTED}
 use Rattle.jop_status.specs.declared.status.Status.{Status}
 use Rattle.jop_status.specs.declared.status.Status.TheVariants as statuses
 
-pub record Row : Type 0 where
+pub record StatusRow : Type 0 where
   pub exit : ℕ
   pub line : List ℕ
 
-abbrev pub row : ℕ → List ℕ → Row
+abbrev pub row : ℕ → List ℕ → StatusRow
 row exit line = record { exit = exit; line = line }
 
 -- a line, with its line feed
@@ -36,7 +36,7 @@ abbrev pub version_text : ℕ → List ℕ → List ℕ
 version_text version stands =
     codes "target version " ++ (decimal version ++ (stands ++ decimal SUPPORTED))
 
-abbrev pub row_of : Status → Row
+abbrev pub row_of : Status → StatusRow
 row_of statuses.Ok = row 0 []
 row_of statuses.Usage = row 2 usage_line
 row_of (statuses.Busy lock now) =

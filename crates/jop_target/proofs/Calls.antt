@@ -13,7 +13,7 @@ use Rattle.jop_target.specs.declared.tree.Content.TheVariants.{Whole, Sized}
 use Rattle.jop_target.specs.declared.tree.File.{File}
 use Rattle.jop_target.specs.declared.tree.Tree.{Tree}
 use Rattle.jop_target.specs.Memory.{faults_after}
-use Rattle.jop_target.specs.Replies.{HasCause}
+use Rattle.jop_target.specs.Replies.{HasReplyCause}
 use Rattle.jop_target.specs.Store.{Store, file_at, got, got_blob, got_content, got_size, deleted, limit_of, fated, reply_of, store_reply}
 
 -- ---- a call fails only if it was to
@@ -55,10 +55,10 @@ answered tree now call is = cc
 
 pub has_cause : (s : Store) (call : Call) (before after : ℕ) →
     before ≤ after → after ≡ faults_after (next_fate s.plan) before →
-    HasCause before (Ok (store_reply s call)) after
+    HasReplyCause before (Ok (store_reply s call)) after
 has_cause s call before after later is = by (next_fate s.plan) is where
   by : (fate : Option Bool) → after ≡ faults_after fate before →
-      HasCause before (Ok (fated fate (reply_of s.contents.tree s.moment call))) after
+      HasReplyCause before (Ok (fated fate (reply_of s.contents.tree s.moment call))) after
   by None is = record {
     later = later;
     failed = λ failed. absurd (answered s.contents.tree s.moment call (cc));

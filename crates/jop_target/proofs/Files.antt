@@ -1,4 +1,5 @@
 -- Files by their paths, after one is put and after one is deleted; and those of a folder.
+use denote.Enum.Bare.{same_true}
 use Rattle.std.proofs.Common.{◌≡◌, ◌∙◌, refl, sym, ap, subst, ℕ, List, [], ◌∷◌, Bool, true, false, Some, None, cond}
 use Rattle.std.specs.Prelude.{All, bytes_eq}
 use Rattle.std.proofs.lemmas.Bool.{cond_both, cond-true}
@@ -6,8 +7,8 @@ use Rattle.std.proofs.lemmas.List.Elements.{All-nil, All-cons, All-head, All-tai
 use Rattle.jop_base.proofs.KeyedLaws.{same_text, bytes_eq-refl, text_lt-trans, All-at, at-put, at-put_same, at-put_other, at-cut, at-cut_other, IsSorted-put, IsSorted-cut}
 use Rattle.jop_base.specs.Keyed.{at, put, cut, text_lt, IsAfter, IsSorted}
 use Rattle.jop_base.specs.Paths.{dir_of, path_text}
+use Rattle.jop_base.specs.contracts.dir.Dir.{the_type}
 use Rattle.jop_base.specs.declared.dir.Dir.{Dir}
-use Rattle.jop_base.specs.declared.dir.Dir.TheVariants.{Root, Resources, OldSync, Locks, Temp, Tombs}
 use Rattle.jop_base.specs.declared.path.Path.{Path}
 use Rattle.jop_target.specs.declared.reply.Entry.{Entry}
 use Rattle.jop_target.specs.declared.tree.File.{File}
@@ -119,13 +120,7 @@ All-entries_in P (f ∷ fs) dir all =
     (λ apart. rest)
 
 pub same_dir : (d e : Dir) → is_same_dir d e ≡ true → d ≡ e
-same_dir Root Root same = refl
-same_dir Resources Resources same = refl
-same_dir OldSync OldSync same = refl
-same_dir Locks Locks same = refl
-same_dir Temp Temp same = refl
-same_dir Tombs Tombs same = refl
-same_dir d e same = cc
+same_dir d e same = same_true the_type tt d e same
 
 pub entries_in_dir : (fs : List File) (dir : Dir) →
     All (λ (e : Entry). dir_of e.path ≡ dir) (entries_in fs dir)

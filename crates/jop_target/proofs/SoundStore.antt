@@ -18,7 +18,7 @@ use Rattle.jop_target.specs.declared.tree.BlobBytes.{BlobBytes}
 use Rattle.jop_target.specs.declared.tree.Content.{Content}
 use Rattle.jop_target.specs.declared.tree.Content.TheVariants.{Whole, Sized}
 use Rattle.jop_target.specs.declared.tree.File.{File}
-use Rattle.jop_target.specs.Memory.{IsSound, IsSoundFile, IsWhole, Fits, with_folder, with_placed, without}
+use Rattle.jop_target.specs.Memory.{IsSoundStore, IsSoundFile, IsWholeContent, Fits, with_folder, with_placed, without}
 use Rattle.jop_target.specs.Replies.{IsListing, IsReplyTo, KeepsBlob, names_blob}
 use Rattle.jop_target.specs.Store.{Contents, file_key, blob_key, is_same, file_at, entries_in, set_file, got, got_blob, got_content, got_size, limit_of, bytes_in, bytes_of, with_blob, without_blob}
 use Rattle.jop_target.proofs.Blobs.{Fits-more, Fits-less, Fits-same, IsSorted-less}
@@ -33,8 +33,8 @@ whole_fits bs path bytes plain = tt
 
 -- the bytes of a file that isn't a blob stand in the tree
 pub IsSound-whole : (c : Contents) (path : Path) (bytes : List ℕ) (stamp : ℕ) →
-    IsSound c → IsPath path → names_blob path ≡ false → stamp ≤ last_time →
-    IsSound (record c { tree = set_file c.tree path (Whole bytes) stamp })
+    IsSoundStore c → IsPath path → names_blob path ≡ false → stamp ≤ last_time →
+    IsSoundStore (record c { tree = set_file c.tree path (Whole bytes) stamp })
 IsSound-whole c path bytes stamp sound is plain early = record {
   ordered = IsSorted-put file_key c.tree.files _ sound.ordered;
   files = All-put file_key (IsSoundFile c.blobs) c.tree.files _ sound.files
@@ -52,7 +52,8 @@ fits_more bs id bytes g apart kept = record {
 }
 
 pub IsSound-sized : (c : Contents) (id bytes : List ℕ) (stamp : ℕ) →
-    IsSound c → IsIdText id → stamp ≤ last_time → IsSound (with_placed c (Blob id) bytes stamp)
+    IsSoundStore c → IsIdText id → stamp ≤ last_time
+    → IsSoundStore (with_placed c (Blob id) bytes stamp)
 IsSound-sized c id bytes stamp sound is early =
     let more = with_blob c.blobs id bytes in
     let here = at-put_same blob_key c.blobs (record { id = id; bytes = bytes }) in
@@ -75,7 +76,7 @@ fits_less bs path g apart kept = record {
   content = Fits-less bs path g.path g.content apart kept.content;
 }
 
-pub IsSound-without : (c : Contents) (path : Path) → IsSound c → IsSound (without c path)
+pub IsSound-without : (c : Contents) (path : Path) → IsSoundStore c → IsSoundStore (without c path)
 IsSound-without c path sound = record {
   ordered = IsSorted-cut file_key c.tree.files (path_text path) sound.ordered;
   files =
@@ -85,7 +86,8 @@ IsSound-without c path sound = record {
   blobs = IsSorted-less c.blobs path sound.blobs;
 }
 
-pub IsSound-with_folder : (c : Contents) (dir : Dir) → IsSound c → IsSound (with_folder c dir)
+pub IsSound-with_folder : (c : Contents) (dir : Dir) → IsSoundStore c
+    → IsSoundStore (with_folder c dir)
 IsSound-with_folder c dir sound = record {
   ordered = sound.ordered;
   files = sound.files;
@@ -95,7 +97,7 @@ IsSound-with_folder c dir sound = record {
 
 -- ---- what a call is answered
 
-pub is_listing : (c : Contents) (dir : Dir) (now : ℕ) → IsSound c → now ≤ last_time →
+pub is_listing : (c : Contents) (dir : Dir) (now : ℕ) → IsSoundStore c → now ≤ last_time →
     IsListing dir (record { now = now; entries = entries_in c.tree.files dir })
 is_listing c dir now sound early = record {
   now = early;
@@ -108,12 +110,12 @@ is_listing c dir now sound early = record {
 }
 
 whole_content : (bs : List BlobBytes) (path : Path) (content : Content) →
-    names_blob path ≡ false → Fits bs path content → IsWhole content
+    names_blob path ≡ false → Fits bs path content → IsWholeContent content
 whole_content bs (Blob id) content plain fits = cc
 whole_content bs path content plain fits = fits
 
 got_whole : (path : Path) (now : ℕ) (content : Content) →
-    now ≤ last_time → IsWhole content →
+    now ≤ last_time → IsWholeContent content →
     IsReplyTo (Get path) (got_content now (limit_of path) content)
 got_whole path now (Whole bytes) early whole =
     cond_both (nat_lt (limit_of path) (length bytes)) _ _ (IsReplyTo (Get path))
@@ -123,7 +125,7 @@ got_whole path now (Sized len) early whole = absurd whole
 
 -- the file at a path has what fits there
 fits_at : (c : Contents) (path : Path) (f : File) →
-    IsSound c → IsPath path → file_at c.tree.files path ≡ Some f → Fits c.blobs path f.content
+    IsSoundStore c → IsPath path → file_at c.tree.files path ≡ Some f → Fits c.blobs path f.content
 fits_at c path f sound is there =
     let text = path_text path in
     let kept = All-at file_key (IsSoundFile c.blobs) c.tree.files text f sound.files there in
@@ -133,7 +135,7 @@ fits_at c path f sound is there =
     Fits-same c.blobs f.path path f.content kept.path is same kept.content
 
 pub got_fits : (c : Contents) (path : Path) (now : ℕ) →
-    IsSound c → IsPath path → names_blob path ≡ false → now ≤ last_time →
+    IsSoundStore c → IsPath path → names_blob path ≡ false → now ≤ last_time →
     IsReplyTo (Get path) (got now (limit_of path) (file_at c.tree.files path))
 got_fits c path now sound is plain early = by (file_at c.tree.files path) refl where
   by : (o : Option File) → file_at c.tree.files path ≡ o →
@@ -151,7 +153,7 @@ got_sized id now len early =
     (λ short. (early, ltb-false _ _ short))
 
 pub got_blob_fits : (c : Contents) (id : List ℕ) (now : ℕ) →
-    IsSound c → IsIdText id → now ≤ last_time →
+    IsSoundStore c → IsIdText id → now ≤ last_time →
     IsReplyTo (GetBlob id) (got_blob now (limit_of (Blob id)) (file_at c.tree.files (Blob id)))
 got_blob_fits c id now sound is early = by (file_at c.tree.files (Blob id)) refl where
   by : (o : Option File) → file_at c.tree.files (Blob id) ≡ o →
@@ -171,7 +173,7 @@ sized_len limit now at len m is =
     (λ long answer. cc)
     (λ short answer. cc) is
 
-pub got_blob_len : (c : Contents) (id : List ℕ) (at now len : ℕ) → IsSound c → IsIdText id →
+pub got_blob_len : (c : Contents) (id : List ℕ) (at now len : ℕ) → IsSoundStore c → IsIdText id →
     got_blob at (limit_of (Blob id)) (file_at c.tree.files (Blob id)) ≡ GotBlob now len →
     len ≡ length (bytes_of c.blobs id)
 got_blob_len c id at now len sound is answer = by (file_at c.tree.files (Blob id)) refl answer where
@@ -184,7 +186,7 @@ got_blob_len c id at now len sound is answer = by (file_at c.tree.files (Blob id
       (fits_at c (Blob id) f sound is there) answer)
 
 pub got_blob_kept : (c : Contents) (id before bytes : List ℕ) (at now len : ℕ) (reply : Reply) →
-    IsSound c → IsIdText id →
+    IsSoundStore c → IsIdText id →
     reply ≡ got_blob at (limit_of (Blob id)) (file_at c.tree.files (Blob id)) →
     reply ≡ GotBlob now len →
     bytes ≡ bytes_of c.blobs id → KeepsBlob (Some c) (GetBlob id) before (Ok reply) bytes

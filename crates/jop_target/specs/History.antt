@@ -112,7 +112,7 @@ is_guarded_call (PutBlob id len) = true
 is_guarded_call call = false
 
 -- at this place, counted from 0, such a call of the client lands
-pub record Writes (h : History) (place : ℕ) (client : List ℕ) : Type 0 where
+pub record WritesAt (h : History) (place : ℕ) (client : List ℕ) : Type 0 where
   pub step : Step
   pub call : Call
   pub here : slice_get h.steps place ≡ Some step

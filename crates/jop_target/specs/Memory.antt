@@ -37,14 +37,14 @@ memory_at start step = record {
 
 -- ---- what it keeps
 
-abbrev pub IsWhole : Content → Type 0
-IsWhole (Whole bytes) = Unit {0}
-IsWhole (Sized len) = ⊥
+abbrev pub IsWholeContent : Content → Type 0
+IsWholeContent (Whole bytes) = Unit {0}
+IsWholeContent (Sized len) = ⊥
 
 -- of a blob a tree has the number of its bytes, and of every other file the bytes
 abbrev pub Fits : List BlobBytes → Path → Content → Type 0
 Fits blobs (Blob id) content = content ≡ Sized (length (bytes_of blobs id))
-Fits blobs path content = IsWhole content
+Fits blobs path content = IsWholeContent content
 
 -- what every file keeps
 pub record IsSoundFile (blobs : List BlobBytes) (f : File) : Type 0 where
@@ -54,7 +54,7 @@ pub record IsSoundFile (blobs : List BlobBytes) (f : File) : Type 0 where
 
 -- what every store in memory keeps: files, folders and blobs stand in order, so each stands there
 -- once
-pub record IsSound (c : Contents) : Type 0 where
+pub record IsSoundStore (c : Contents) : Type 0 where
   pub ordered : IsSorted file_key c.tree.files
   pub files : All (IsSoundFile c.blobs) c.tree.files
   pub folders : IsSorted dir_text c.tree.folders
@@ -86,8 +86,8 @@ abbrev pub holding : Memory → Contents → Memory
 holding m contents = record m { store = record m.store { contents = contents } }
 
 -- with one call more that is to fail
-abbrev pub with_failing : Memory → ℕ → Bool → Memory
-with_failing m nth landed =
+abbrev pub with_call_to_fail : Memory → ℕ → Bool → Memory
+with_call_to_fail m nth landed =
     record m { store = record m.store { plan = with_failing_call m.store.plan nth landed } }
 
 -- how often it has failed after a call of this fate

@@ -66,7 +66,7 @@ IsReplyTo (PutBlob id len) (Done now) = now ≤ last_time
 IsReplyTo call reply = ⊥
 
 -- a count rises when `Failed` is answered, and stays at every other answer and without one
-pub record HasCause (before : ℕ) (result : Result Reply AllocError) (after : ℕ) : Type 0 where
+pub record HasReplyCause (before : ℕ) (result : Result Reply AllocError) (after : ℕ) : Type 0 where
   pub later : before ≤ after
   pub failed : result ≡ Ok Failed → HasRisen before after
   pub stays : ¬ (result ≡ Ok Failed) → after ≡ before

@@ -20,6 +20,6 @@ is_running trail = runs_from false trail
 
 -- What a diary knows beside its events: the last moment that its last session was told; and while
 -- that session goes on, it has room for one event more, so that the end can't be refused.
-pub record IsKept (events : List Event) (heard len capacity : ℕ) : Type 0 where
+pub record DiaryKnows (events : List Event) (heard len capacity : ℕ) : Type 0 where
   pub told : heard ≡ last_moment events
   pub spare : is_running events ≡ true → len + 1 ≤ capacity

@@ -1,10 +1,11 @@
 -- What a store of files answers, and what each call makes of it.
+use denote.Enum.Declared.{tag_of}
 use Rattle.std.specs.Prelude.{ℕ, ◌+◌, List, [], ◌∷◌, length, Bool, true, if◌then◌else◌, min, nat_lt, nat_eq, bytes_eq, Option, Some, None}
 use Rattle.jop_base.specs.Keyed.{at, put, cut}
 use Rattle.jop_base.specs.Paths.{dir_of, dir_text, path_text}
 use Rattle.jop_outside.specs.Plan.{Calls, after_call, next_fate}
+use Rattle.jop_base.specs.contracts.dir.Dir.{the_type}
 use Rattle.jop_base.specs.declared.dir.Dir.{Dir}
-use Rattle.jop_base.specs.declared.dir.Dir.TheVariants.{Root, Resources, OldSync, Locks, Temp, Tombs}
 use Rattle.jop_base.specs.declared.path.Path.{Path}
 use Rattle.jop_base.specs.declared.path.Path.TheVariants.{Blob}
 use Rattle.jop_base.specs.Times.{last_time}
@@ -60,14 +61,9 @@ without_file files path = cut file_key files (path_text path)
 abbrev pub entry_of : File → Entry
 entry_of f = record { path = f.path; stamp = f.stamp }
 
--- which of the folders it is
+-- which of the folders it is: how many are declared before it
 abbrev pub dir_number : Dir → ℕ
-dir_number Root = 0
-dir_number Resources = 1
-dir_number OldSync = 2
-dir_number Locks = 3
-dir_number Temp = 4
-dir_number Tombs = 5
+dir_number dir = tag_of the_type dir
 
 abbrev pub is_same_dir : Dir → Dir → Bool
 is_same_dir d e = nat_eq (dir_number d) (dir_number e)

@@ -22,7 +22,7 @@ pub struct Diary {
 impl Model for Diary {
     ghost use Rattle.std.specs.Prelude.{◌+◌, ◌-◌, vec_len, vec_capacity};
     ghost use Rattle.jop_target.specs.Pages.{Pages};
-    ghost use Rattle.jop_target.specs.Running.{IsKept};
+    ghost use Rattle.jop_target.specs.Running.{DiaryKnows};
 
     ghost Value = { Pages };
 
@@ -32,7 +32,7 @@ impl Model for Diary {
     } };
 
     ghost invariant = { λ d.
-        IsKept d.list.items d.heard (vec_len d.list) (vec_capacity d.list) };
+        DiaryKnows d.list.items d.heard (vec_len d.list) (vec_capacity d.list) };
 }
 
 /// Writes an event down, and leaves room for one more.

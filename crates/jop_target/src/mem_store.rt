@@ -1,6 +1,6 @@
 ghost use Rattle.std.specs.Prelude.{◌≡◌, ◌≤◌, List, ℕ, IfOk, OnOk, OnErr, Some, false};
 ghost use Rattle.jop_base.specs.Times.{last_time};
-ghost use Rattle.jop_target.specs.Memory.{IsSound, no_contents, with_folder, with_placed, without};
+ghost use Rattle.jop_target.specs.Memory.{IsSoundStore, no_contents, with_folder, with_placed, without};
 ghost use Rattle.jop_target.specs.Replies.{IsCallable, IsReplyTo, KeepsBlob, names_blob};
 ghost use Rattle.jop_target.specs.Store.{contents_after, without_blob, bytes_of, reply_of};
 
@@ -23,14 +23,14 @@ pub struct MemStore {
 }
 
 impl Model for MemStore {
-    ghost use Rattle.jop_target.specs.Memory.{IsSound};
+    ghost use Rattle.jop_target.specs.Memory.{IsSoundStore};
     ghost use Rattle.jop_target.specs.Store.{Contents};
 
     ghost Value = { Contents };
 
     ghost view = { λ m. record { tree = m.tree; blobs = m.blobs } };
 
-    ghost invariant = { λ m. IsSound (record { tree = m.tree; blobs = m.blobs }) };
+    ghost invariant = { λ m. IsSoundStore (record { tree = m.tree; blobs = m.blobs }) };
 }
 
 impl MemStore {
@@ -62,7 +62,7 @@ impl MemStore {
     /// The files and folders. Of a blob there is the number of its bytes.
     pub fn tree(&self) -> &Tree
         ensures tree { result.now ≡ self.now.tree }
-        ensures sound { IsSound self.now }
+        ensures sound { IsSoundStore self.now }
     {
         &self.tree
     }

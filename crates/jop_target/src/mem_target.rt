@@ -1,5 +1,5 @@
 ghost use Rattle.std.specs.Prelude.{◌≡◌, ◌≤◌, IfOk, OnOk, OnErr, Some};
-ghost use Rattle.jop_target.specs.Memory.{IsSound, memory_at, with_placed, holding, with_failing, after_count};
+ghost use Rattle.jop_target.specs.Memory.{IsSoundStore, memory_at, with_placed, holding, with_call_to_fail, after_count};
 ghost use Rattle.jop_target.specs.Replies.{IsCallable, IsReplyTo, KeepsBlob};
 ghost use Rattle.jop_target.specs.Store.{landed_contents, store_reply};
 ghost use Rattle.jop_base.specs.Times.{last_time};
@@ -69,7 +69,7 @@ impl MemTarget {
     /// The call of this number, counted from 1 at the first, answers `Failed`, and lands all the
     /// same or doesn't.
     pub fn fail(&mut self, nth: u64, landed: bool) -> Result<(), AllocError>
-        ensures ok { OnOk result (self.new ≡ with_failing self.old nth landed) }
+        ensures ok { OnOk result (self.new ≡ with_call_to_fail self.old nth landed) }
         ensures err { OnErr result (self.new ≡ self.old) }
     {
         self.plan.fail(nth, landed)?;
@@ -79,7 +79,7 @@ impl MemTarget {
     /// The files and folders. Of a blob there is the number of its bytes.
     pub fn tree(&self) -> &Tree
         ensures tree { result.now ≡ self.now.store.contents.tree }
-        ensures sound { IsSound self.now.store.contents }
+        ensures sound { IsSoundStore self.now.store.contents }
         ensures early { self.now.store.moment ≤ last_time }
     {
         self.store.tree()

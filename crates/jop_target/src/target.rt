@@ -1,5 +1,5 @@
 ghost use Rattle.std.specs.Prelude.{IfOk};
-ghost use Rattle.jop_target.specs.Replies.{TargetNow, IsCallable, IsReplyTo, HasCause, Answers, KeepsBlob, contents_in};
+ghost use Rattle.jop_target.specs.Replies.{TargetNow, IsCallable, IsReplyTo, HasReplyCause, Answers, KeepsBlob, contents_in};
 
 use crate::call::Call;
 use crate::reply::Reply;
@@ -19,7 +19,7 @@ pub trait Target: Drop {
 
         // Asked of every target, real ones too.
         ensures shape { IfOk result (λ reply. IsReplyTo call.now reply) }
-        ensures cause { HasCause (state self.old).faults result (state self.new).faults }
+        ensures cause { HasReplyCause (state self.old).faults result (state self.new).faults }
 
         // Asked if the target tells what it holds.
         ensures answers { Answers (state self.old).store call.now blob.old result (state self.new).store }

@@ -10,7 +10,7 @@ use Rattle.local_commands.specs.Plans.{IsWellFormed}
 use Rattle.local_commands.specs.declared.local_command.LocalCommand.{LocalCommand}
 use Rattle.local_commands.specs.declared.local_command.LocalCommand.TheVariants.{Add, Attach, Cat, Clear, Conflicts, Ls, Rm, Tag}
 use Rattle.jop_words.specs.Local.{add_words, attach_words, at_top, both, cat_words, conflicts_words, count_in, edit_to, edit_words, in_parent, is_line, keeps_title, line_in, local_words, ls_in, ls_words, mime_in, mkbook_words, rm_words, tag_words}
-use Rattle.jop_words.specs.Words.{id_of}
+use Rattle.jop_words.specs.Words.{word_id}
 
 -- ---- single words
 
@@ -69,7 +69,7 @@ add_fit : (words : List (List ℕ)) (command : LocalCommand) → add_words words
 add_fit [] command is = cc is
 add_fit (book ∷ []) command is = cc is
 add_fit (book ∷ title ∷ []) command is =
-    made_of_both Add (id_of book) (line_in title) command (λ a b first second. line_fit title b second) is
+    made_of_both Add (word_id book) (line_in title) command (λ a b first second. line_fit title b second) is
 add_fit (book ∷ title ∷ word ∷ words) command is = cc is
 
 attach_fit : (words : List (List ℕ)) (command : LocalCommand) → attach_words words ≡ Some command →
@@ -85,7 +85,7 @@ attach_fit (name ∷ mime ∷ word ∷ words) command is = cc is
 cat_fit : (words : List (List ℕ)) (command : LocalCommand) → cat_words words ≡ Some command →
     IsWellFormed command
 cat_fit [] command is = cc is
-cat_fit (id ∷ []) command is = made_of Cat (id_of id) command (λ a is. tt) is
+cat_fit (id ∷ []) command is = made_of Cat (word_id id) command (λ a is. tt) is
 cat_fit (id ∷ word ∷ words) command is = cc is
 
 conflicts_fit : (words : List (List ℕ)) (command : LocalCommand) →
@@ -100,18 +100,18 @@ conflicts_fit (option ∷ number ∷ word ∷ words) command is = cc is
 edit_fit : (words : List (List ℕ)) (command : LocalCommand) → edit_words words ≡ Some command →
     IsWellFormed command
 edit_fit [] command is = cc is
-edit_fit (id ∷ []) command is = made_of keeps_title (id_of id) command (λ a is. tt) is
+edit_fit (id ∷ []) command is = made_of keeps_title (word_id id) command (λ a is. tt) is
 edit_fit (id ∷ option ∷ []) command is = cc is
 edit_fit (id ∷ option ∷ title ∷ []) command is =
-    if_so (bytes_eq option (codes "--title")) (both edit_to (id_of id) (line_in title)) command
-    (λ is. made_of_both edit_to (id_of id) (line_in title) command
+    if_so (bytes_eq option (codes "--title")) (both edit_to (word_id id) (line_in title)) command
+    (λ is. made_of_both edit_to (word_id id) (line_in title) command
     (λ a b first second. line_fit title b second) is) is
 edit_fit (id ∷ option ∷ title ∷ word ∷ words) command is = cc is
 
 ls_fit : (words : List (List ℕ)) (command : LocalCommand) → ls_words words ≡ Some command →
     IsWellFormed command
 ls_fit [] command is = let same : Ls None ≡ command = cc is in subst IsWellFormed same tt
-ls_fit (book ∷ []) command is = made_of ls_in (id_of book) command (λ a is. tt) is
+ls_fit (book ∷ []) command is = made_of ls_in (word_id book) command (λ a is. tt) is
 ls_fit (book ∷ word ∷ words) command is = cc is
 
 mkbook_fit : (words : List (List ℕ)) (command : LocalCommand) → mkbook_words words ≡ Some command →
@@ -121,15 +121,15 @@ mkbook_fit (title ∷ []) command is =
     made_of at_top (line_in title) command (λ a is. line_fit title a is) is
 mkbook_fit (title ∷ option ∷ []) command is = cc is
 mkbook_fit (title ∷ option ∷ parent ∷ []) command is =
-    if_so (bytes_eq option (codes "--in")) (both in_parent (line_in title) (id_of parent)) command
-    (λ is. made_of_both in_parent (line_in title) (id_of parent) command
+    if_so (bytes_eq option (codes "--in")) (both in_parent (line_in title) (word_id parent)) command
+    (λ is. made_of_both in_parent (line_in title) (word_id parent) command
     (λ a b first second. line_fit title a first) is) is
 mkbook_fit (title ∷ option ∷ parent ∷ word ∷ words) command is = cc is
 
 rm_fit : (words : List (List ℕ)) (command : LocalCommand) → rm_words words ≡ Some command →
     IsWellFormed command
 rm_fit [] command is = cc is
-rm_fit (id ∷ []) command is = made_of Rm (id_of id) command (λ a is. tt) is
+rm_fit (id ∷ []) command is = made_of Rm (word_id id) command (λ a is. tt) is
 rm_fit (id ∷ word ∷ words) command is = cc is
 
 tag_fit : (words : List (List ℕ)) (command : LocalCommand) → tag_words words ≡ Some command →
@@ -137,7 +137,7 @@ tag_fit : (words : List (List ℕ)) (command : LocalCommand) → tag_words words
 tag_fit [] command is = cc is
 tag_fit (note ∷ []) command is = cc is
 tag_fit (note ∷ title ∷ []) command is =
-    made_of_both Tag (id_of note) (line_in title) command (λ a b first second. line_fit title b second) is
+    made_of_both Tag (word_id note) (line_in title) command (λ a b first second. line_fit title b second) is
 tag_fit (note ∷ title ∷ word ∷ words) command is = cc is
 
 -- one of two, whichever it is

@@ -5,7 +5,7 @@ use Rattle.jop_base.specs.Decimals.{decimal_in}
 use Rattle.item_text.specs.Lines.{has, trimmed}
 use Rattle.local_commands.specs.declared.local_command.LocalCommand.{LocalCommand}
 use Rattle.local_commands.specs.declared.local_command.LocalCommand.TheVariants.{Add, Attach, Cat, Clear, Conflicts, Edit, Ls, Mkbook, Rm, Tag}
-use Rattle.jop_words.specs.Words.{id_of}
+use Rattle.jop_words.specs.Words.{word_id}
 
 -- ---- single words
 
@@ -34,7 +34,7 @@ both make (Some first) (Some second) = Some (make first second)
 
 -- a notebook and a title
 abbrev pub add_words : List (List ℕ) → Option LocalCommand
-add_words (book ∷ title ∷ []) = both Add (id_of book) (line_in title)
+add_words (book ∷ title ∷ []) = both Add (word_id book) (line_in title)
 add_words words = None
 
 -- a name and a type of content
@@ -44,7 +44,7 @@ attach_words words = None
 
 -- an id
 abbrev pub cat_words : List (List ℕ) → Option LocalCommand
-cat_words (id ∷ []) = option_map Cat (id_of id)
+cat_words (id ∷ []) = option_map Cat (word_id id)
 cat_words words = None
 
 -- nothing, or the number of a conflict note to clear
@@ -62,9 +62,9 @@ edit_to id title = Edit id (Some title)
 
 -- an id, and another title if one is given
 abbrev pub edit_words : List (List ℕ) → Option LocalCommand
-edit_words (id ∷ []) = option_map keeps_title (id_of id)
+edit_words (id ∷ []) = option_map keeps_title (word_id id)
 edit_words (id ∷ option ∷ title ∷ []) =
-    if bytes_eq option (codes "--title") then both edit_to (id_of id) (line_in title) else None
+    if bytes_eq option (codes "--title") then both edit_to (word_id id) (line_in title) else None
 edit_words words = None
 
 abbrev pub ls_in : List ℕ → LocalCommand
@@ -73,7 +73,7 @@ ls_in book = Ls (Some book)
 -- nothing, or a notebook
 abbrev pub ls_words : List (List ℕ) → Option LocalCommand
 ls_words [] = Some (Ls None)
-ls_words (book ∷ []) = option_map ls_in (id_of book)
+ls_words (book ∷ []) = option_map ls_in (word_id book)
 ls_words words = None
 
 abbrev pub at_top : List ℕ → LocalCommand
@@ -86,17 +86,17 @@ in_parent title parent = Mkbook title (Some parent)
 abbrev pub mkbook_words : List (List ℕ) → Option LocalCommand
 mkbook_words (title ∷ []) = option_map at_top (line_in title)
 mkbook_words (title ∷ option ∷ parent ∷ []) =
-    if bytes_eq option (codes "--in") then both in_parent (line_in title) (id_of parent) else None
+    if bytes_eq option (codes "--in") then both in_parent (line_in title) (word_id parent) else None
 mkbook_words words = None
 
 -- an id
 abbrev pub rm_words : List (List ℕ) → Option LocalCommand
-rm_words (id ∷ []) = option_map Rm (id_of id)
+rm_words (id ∷ []) = option_map Rm (word_id id)
 rm_words words = None
 
 -- a note and a title
 abbrev pub tag_words : List (List ℕ) → Option LocalCommand
-tag_words (note ∷ title ∷ []) = both Tag (id_of note) (line_in title)
+tag_words (note ∷ title ∷ []) = both Tag (word_id note) (line_in title)
 tag_words words = None
 
 -- a row for each: its first word, and what the others are

@@ -3,7 +3,7 @@ use Rattle.std.specs.Prelude.{ℕ, List, [], ◌∷◌, codes, bytes_eq, Bool, t
 use Rattle.std.specs.Prelude.{Option, Some, None, option_map}
 use Rattle.local_commands.specs.Plans.{IsWellFormed}
 use Rattle.jop_words.specs.Local.{local_words}
-use Rattle.jop_words.specs.Words.{id_of, target_of}
+use Rattle.jop_words.specs.Words.{word_id, word_target}
 use Rattle.jop_words.specs.declared.target_name.TargetName.{TargetName}
 use Rattle.jop_words.specs.declared.verb.Verb.{Verb}
 use Rattle.jop_words.specs.declared.verb.Verb.TheVariants as verbs
@@ -11,9 +11,9 @@ use Rattle.jop_words.specs.declared.verb.Verb.TheVariants as verbs
 -- ---- the words behind the first one
 
 -- no words: the first one is all
-abbrev pub alone : Verb → List (List ℕ) → Option Verb
-alone verb [] = Some verb
-alone verb words = None
+abbrev pub verb_alone : Verb → List (List ℕ) → Option Verb
+verb_alone verb [] = Some verb
+verb_alone verb words = None
 
 abbrev pub check_for : Option TargetName → Option (List ℕ) → Option Verb
 check_for (Some target) (Some client) = Some (verbs.Check target client)
@@ -21,7 +21,7 @@ check_for target client = None
 
 -- a target and a client
 abbrev pub check_words : List (List ℕ) → Option Verb
-check_words (target ∷ client ∷ []) = check_for (target_of target) (id_of client)
+check_words (target ∷ client ∷ []) = check_for (word_target target) (word_id client)
 check_words words = None
 
 abbrev pub sync_of : Option TargetName → Option Verb
@@ -30,7 +30,7 @@ sync_of (Some target) = Some (verbs.Sync target)
 
 -- a target, to sync with
 abbrev pub sync_words : List (List ℕ) → Option Verb
-sync_words (target ∷ []) = sync_of (target_of target)
+sync_words (target ∷ []) = sync_of (word_target target)
 sync_words words = None
 
 abbrev pub upgrade_of : Option TargetName → Option Verb
@@ -39,7 +39,7 @@ upgrade_of (Some target) = Some (verbs.Upgrade target)
 
 -- a target, to upgrade
 abbrev pub upgrade_words : List (List ℕ) → Option Verb
-upgrade_words (target ∷ []) = upgrade_of (target_of target)
+upgrade_words (target ∷ []) = upgrade_of (word_target target)
 upgrade_words words = None
 
 -- ---- all words
@@ -49,9 +49,9 @@ abbrev pub verb_of : List (List ℕ) → Option Verb
 verb_of [] = None
 verb_of (word ∷ words) =
     if bytes_eq word (codes "check") then check_words words
-    else if bytes_eq word (codes "help") then alone verbs.Help words
+    else if bytes_eq word (codes "help") then verb_alone verbs.Help words
     else if bytes_eq word (codes "sync") then sync_words words
-    else if bytes_eq word (codes "tidy") then alone verbs.Tidy words
+    else if bytes_eq word (codes "tidy") then verb_alone verbs.Tidy words
     else if bytes_eq word (codes "upgrade") then upgrade_words words
     else option_map verbs.Local (local_words word words)
 

@@ -1,20 +1,16 @@
 -- What single words mean.
-use Rattle.std.specs.Prelude.{ℕ, List, [], ◌∷◌, length, codes, drop, Bool, ◌&&◌, if◌then◌else◌}
+use Rattle.std.specs.Prelude.{ℕ, List, [], ◌∷◌, codes, drop, if◌then◌else◌}
 use Rattle.std.specs.Prelude.{Option, Some, None, nat_eq, bytes_eq, option_map}
-use Rattle.std.specs.List.{list_all, starts_with}
+use Rattle.std.specs.List.{starts_with}
 use Rattle.dav_address.specs.Addresses.{address_of}
-use Rattle.jop_base.specs.Id.{is_digit}
+use Rattle.jop_base.specs.Id.{is_id}
 use Rattle.jop_words.specs.declared.target_name.TargetKind.{TargetKind}
 use Rattle.jop_words.specs.declared.target_name.TargetKind.TheVariants.{Mem, Dir, Dav}
 use Rattle.jop_words.specs.declared.target_name.TargetName.{TargetName}
 
--- whether a word is an id
-abbrev pub is_id : List ℕ → Bool
-is_id word = nat_eq (length word) 32 && list_all is_digit word
-
 -- the id that a word is
-abbrev pub id_of : List ℕ → Option (List ℕ)
-id_of word = if is_id word then Some word else None
+abbrev pub word_id : List ℕ → Option (List ℕ)
+word_id word = if is_id word then Some word else None
 
 -- a folder, unless its path is empty
 abbrev pub folder_of : List ℕ → Option TargetKind
@@ -39,5 +35,5 @@ named word None = None
 named word (Some kind) = Some (record { text = word; kind = kind })
 
 -- the target that a word names
-abbrev pub target_of : List ℕ → Option TargetName
-target_of word = named word (kind_of word)
+abbrev pub word_target : List ℕ → Option TargetName
+word_target word = named word (kind_of word)

@@ -4,7 +4,7 @@ ghost use Rattle.jop_words.specs.Local.{add_words, attach_words, both, cat_words
 ghost use Rattle.jop_words.specs.Local.{conflicts_words, count_in, edit_to, edit_words};
 ghost use Rattle.jop_words.specs.Local.{in_parent, is_line, line_in, local_words, ls_words};
 ghost use Rattle.jop_words.specs.Local.{mime_in, mkbook_words, rm_words, tag_words};
-ghost use Rattle.jop_words.specs.Words.{id_of};
+ghost use Rattle.jop_words.specs.Words.{word_id};
 ghost use Rattle.local_commands.specs.declared.local_command.LocalCommand.TheVariants as commands;
 
 use crate::words::read_id;
@@ -95,7 +95,7 @@ fn read_add(alloc: Global, words: &[Text]) -> Result<Option<LocalCommand>, Alloc
 
 fn read_add_to(alloc: Global, book: &Text, title: &Text) -> Result<Option<LocalCommand>, AllocError>
     ensures { IfOk result
-        (λ command. command ≡ both commands.Add (id_of book.now) (line_in title.now)) }
+        (λ command. command ≡ both commands.Add (word_id book.now) (line_in title.now)) }
 {
     let Some(book) = read_id(book) else {
         return Ok(None);
@@ -174,7 +174,7 @@ fn read_edit_body(id: &Text) -> Option<LocalCommand>
 
 fn read_edit_to(alloc: Global, id: &Text, title: &Text) -> Result<Option<LocalCommand>, AllocError>
     ensures { IfOk result
-        (λ command. command ≡ both edit_to (id_of id.now) (line_in title.now)) }
+        (λ command. command ≡ both edit_to (word_id id.now) (line_in title.now)) }
 {
     let Some(id) = read_id(id) else {
         return Ok(None);
@@ -230,7 +230,7 @@ fn read_mkbook_in(
     parent: &Text,
 ) -> Result<Option<LocalCommand>, AllocError>
     ensures { IfOk result
-        (λ command. command ≡ both in_parent (line_in title.now) (id_of parent.now)) }
+        (λ command. command ≡ both in_parent (line_in title.now) (word_id parent.now)) }
 {
     let Some(title) = read_line(alloc, title)? else {
         return Ok(None);
@@ -268,7 +268,7 @@ fn read_tag_with(
     title: &Text,
 ) -> Result<Option<LocalCommand>, AllocError>
     ensures { IfOk result
-        (λ command. command ≡ both commands.Tag (id_of note.now) (line_in title.now)) }
+        (λ command. command ≡ both commands.Tag (word_id note.now) (line_in title.now)) }
 {
     let Some(note) = read_id(note) else {
         return Ok(None);

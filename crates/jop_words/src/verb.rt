@@ -1,8 +1,8 @@
 ghost use Rattle.std.specs.Prelude.{◌≡◌, IfOk, IfSome, option_map};
 ghost use Rattle.jop_words.specs.Local.{local_words};
-ghost use Rattle.jop_words.specs.Verbs.{IsFit, alone, check_for, check_words, sync_of, sync_words};
-ghost use Rattle.jop_words.specs.Verbs.{upgrade_of, upgrade_words, verb_of};
-ghost use Rattle.jop_words.specs.Words.{id_of, target_of};
+ghost use Rattle.jop_words.specs.Verbs.{IsFit, check_for, check_words, sync_of, sync_words};
+ghost use Rattle.jop_words.specs.Verbs.{upgrade_of, upgrade_words, verb_alone, verb_of};
+ghost use Rattle.jop_words.specs.Words.{word_id, word_target};
 ghost use Rattle.jop_words.specs.declared.verb.Verb.TheVariants as verbs;
 
 use crate::local;
@@ -56,7 +56,7 @@ pub(crate) fn read_verb(alloc: Global, words: &[Text]) -> Result<Option<Verb>, A
 
 /// A command with no words behind its first one.
 fn alone(verb: Verb, words: &[Text]) -> Option<Verb>
-    ensures means { result ≡ alone verb words.now }
+    ensures means { result ≡ verb_alone verb words.now }
     ensures fit { IsFit verb → IfSome result IsFit }
 {
     if words.is_empty() {
@@ -90,7 +90,7 @@ fn read_check(alloc: Global, words: &[Text]) -> Result<Option<Verb>, AllocError>
 
 fn read_check_of(alloc: Global, target: &Text, client: &Text) -> Result<Option<Verb>, AllocError>
     ensures means { IfOk result
-        (λ verb. verb ≡ check_for (target_of target.now) (id_of client.now)) }
+        (λ verb. verb ≡ check_for (word_target target.now) (word_id client.now)) }
     ensures fit { IfOk result (λ verb. IfSome verb IsFit) }
 {
     let Some(client) = read_id(client) else {
@@ -114,7 +114,7 @@ fn read_sync(alloc: Global, words: &[Text]) -> Result<Option<Verb>, AllocError>
 }
 
 fn read_sync_with(alloc: Global, target: &Text) -> Result<Option<Verb>, AllocError>
-    ensures means { IfOk result (λ verb. verb ≡ sync_of (target_of target.now)) }
+    ensures means { IfOk result (λ verb. verb ≡ sync_of (word_target target.now)) }
     ensures fit { IfOk result (λ verb. IfSome verb IsFit) }
 {
     match read_target(alloc, target)? {
@@ -135,7 +135,7 @@ fn read_upgrade(alloc: Global, words: &[Text]) -> Result<Option<Verb>, AllocErro
 }
 
 fn read_upgrade_of(alloc: Global, target: &Text) -> Result<Option<Verb>, AllocError>
-    ensures means { IfOk result (λ verb. verb ≡ upgrade_of (target_of target.now)) }
+    ensures means { IfOk result (λ verb. verb ≡ upgrade_of (word_target target.now)) }
     ensures fit { IfOk result (λ verb. IfSome verb IsFit) }
 {
     match read_target(alloc, target)? {

@@ -1,5 +1,5 @@
 ghost use Rattle.std.specs.Prelude.{◌≡◌, IfOk};
-ghost use Rattle.jop_words.specs.Words.{folder_of, id_of, kind_of, server_of, target_of};
+ghost use Rattle.jop_words.specs.Words.{folder_of, word_id, kind_of, server_of, word_target};
 
 use crate::target_name::{TargetKind, TargetName};
 use dav_address::read_address;
@@ -15,14 +15,14 @@ pub struct Words {
 /// The id that a word is.
 #[tactic(auto, using(crate::proofs::Ids::id_of_id, crate::proofs::Ids::id_of_other))]
 pub(crate) fn read_id(word: &Text) -> Option<Id>
-    ensures { result ≡ id_of word.now }
+    ensures { result ≡ word_id word.now }
 {
     Id::read(word.as_slice())
 }
 
 /// The target that a word names, if it names one.
 pub(crate) fn read_target(alloc: Global, word: &Text) -> Result<Option<TargetName>, AllocError>
-    ensures { IfOk result (λ target. target ≡ target_of word.now) }
+    ensures { IfOk result (λ target. target ≡ word_target word.now) }
 {
     let Some(kind) = read_kind(alloc, word.as_str())? else {
         return Ok(None);

@@ -31,8 +31,8 @@ abbrev pub changed : Change → Kept → Kept
 changed change k = record k { tables = after k.tables change }
 
 -- what is kept once these bytes are saved
-abbrev pub with_blob : List ℕ → List ℕ → Kept → Kept
-with_blob id bytes k =
+abbrev pub with_saved_blob : List ℕ → List ℕ → Kept → Kept
+with_saved_blob id bytes k =
     record k { blobs = put blob_id k.blobs (record { id = id; bytes = bytes }) }
 
 -- the tables are those that are kept, if that is told
@@ -46,7 +46,8 @@ IsBlobOfKept None id bytes = Unit {0}
 IsBlobOfKept (Some k) id bytes = bytes ≡ blob_at k id
 
 -- a count rises when its keeper fails, and stays at every other answer
-pub record HasCause {T : Type 0} (before : ℕ) (result : Result T KeeperErr) (after : ℕ) : Type 0 where
+pub record HasKeeperCause {T : Type 0} (before : ℕ) (result : Result T KeeperErr) (after : ℕ)
+    : Type 0 where
   pub later : before ≤ after
   pub failed : result ≡ Err Fault → HasRisen before after
   pub stays : ¬ (result ≡ Err Fault) → after ≡ before

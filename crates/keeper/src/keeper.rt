@@ -1,5 +1,5 @@
 ghost use Rattle.std.specs.Prelude.{◌≡◌, IfOk, OnOk, OnErr, option_map};
-ghost use Rattle.keeper.specs.Keepers.{KeeperNow, HasCause, IsOfKept, IsBlobOfKept, changed, with_blob};
+ghost use Rattle.keeper.specs.Keepers.{KeeperNow, HasKeeperCause, IsOfKept, IsBlobOfKept, changed, with_saved_blob};
 ghost use Rattle.local_store.specs.Sound.{IsSound, IsAllowed};
 
 use crate::keeper_err::KeeperErr;
@@ -18,7 +18,7 @@ pub trait Keeper: Drop {
         ensures sound { IfOk result (λ tables. IsSound tables) }
         ensures told { IfOk result (λ tables. IsOfKept (state self.old).kept tables) }
         ensures same { (state self.new).kept ≡ (state self.old).kept }
-        ensures cause { HasCause (state self.old).faults result (state self.new).faults };
+        ensures cause { HasKeeperCause (state self.old).faults result (state self.new).faults };
 
     /// Makes a change.
     fn commit(&mut self, alloc: Global, change: &Change) -> Result<(), KeeperErr>
@@ -26,20 +26,21 @@ pub trait Keeper: Drop {
         ensures ok { OnOk result
             ((state self.new).kept ≡ option_map (changed change.now) (state self.old).kept) }
         ensures err { OnErr result ((state self.new).kept ≡ (state self.old).kept) }
-        ensures cause { HasCause (state self.old).faults result (state self.new).faults };
+        ensures cause { HasKeeperCause (state self.old).faults result (state self.new).faults };
 
     /// The bytes of the resource of this id that were saved last. None if there are none.
     fn load_blob(&mut self, alloc: Global, id: &Id) -> Result<Option<Bytes>, KeeperErr>
         ensures told { IfOk result (λ bytes. IsBlobOfKept (state self.old).kept id.now bytes) }
         ensures same { (state self.new).kept ≡ (state self.old).kept }
-        ensures cause { HasCause (state self.old).faults result (state self.new).faults };
+        ensures cause { HasKeeperCause (state self.old).faults result (state self.new).faults };
 
     /// Saves the bytes of a resource, in place of those that are there.
     fn save_blob(&mut self, alloc: Global, id: &Id, bytes: &Bytes) -> Result<(), KeeperErr>
         ensures ok { OnOk result
-            ((state self.new).kept ≡ option_map (with_blob id.now bytes.now) (state self.old).kept) }
+            ((state self.new).kept
+            ≡ option_map (with_saved_blob id.now bytes.now) (state self.old).kept) }
         ensures err { OnErr result ((state self.new).kept ≡ (state self.old).kept) }
-        ensures cause { HasCause (state self.old).faults result (state self.new).faults };
+        ensures cause { HasKeeperCause (state self.old).faults result (state self.new).faults };
 }
 
 impl Keeper for Box<dyn Keeper> {

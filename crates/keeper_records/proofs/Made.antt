@@ -16,7 +16,7 @@ use Rattle.local_store.specs.Changing.{after, without_row, uploaded, conflicted,
 use Rattle.keeper.specs.Keepers.{Kept, changed}
 use Rattle.local_store.specs.Rows.{deletion_id, item_of}
 use Rattle.local_store.specs.Sound.{IsAllowed, IsContentOf, MayBePending, IsRemoteOf}
-use Rattle.local_store.specs.Tables.{row_at, is_synced, is_resource}
+use Rattle.local_store.specs.Tables.{row_at, is_synced, is_resource_row}
 use Rattle.keeper_records.specs.declared.write.Write.{Write}
 use Rattle.keeper_records.specs.declared.write.Write.TheVariants.{DropRow, SetDeletion, AddConflict, SetNext}
 use Rattle.keeper_records.specs.Making.{row_needed, needs_number, writes_of, upload_writes, remote_writes, note_writes, conflict_writes, open_writes}
@@ -73,7 +73,7 @@ pub writes_make : (t : Tables) (change : Change) (number : ℕ)
     ≡ after t change
 writes_make t (Removed id) number is =
     removing (is_synced (row_at t id)) t id
-    (record { id = id; resource = is_resource (row_at t id) })
+    (record { id = id; resource = is_resource_row (row_at t id) })
 writes_make t (Uploaded id bytes) number is = uploading t id bytes (row_at t id)
 writes_make t (Conflict id remote copies) number is =
     conflicting t id remote copies (row_at t id) number is
@@ -149,7 +149,7 @@ pub writes_are_sound : (change : Change) (row : Option Row) (number : ℕ) → I
 writes_are_sound (Saved id item) row number allowed sound =
     alone _ (record { content = allowed; pending = tt })
 writes_are_sound (Removed id) row number allowed sound =
-    removal_sound (is_synced row) id (record { id = id; resource = is_resource row })
+    removal_sound (is_synced row) id (record { id = id; resource = is_resource_row row })
 writes_are_sound (Uploaded id bytes) row number allowed sound = upload_sound id bytes row sound
 writes_are_sound (Taken id bytes content) row number allowed sound =
     alone _ (record { content = allowed; pending = not_pending content })

@@ -7,7 +7,7 @@ use Rattle.local_store.specs.declared.content.Content.{Content}
 use Rattle.local_store.specs.declared.content.Content.TheVariants.{Plain}
 use Rattle.local_store.specs.declared.row.Row.{Row}
 use Rattle.local_store.specs.Rows.{item_of}
-use Rattle.local_store.specs.Tables.{base_of, is_synced, is_resource}
+use Rattle.local_store.specs.Tables.{base_of, is_synced, is_resource_row}
 use Rattle.keeper_records.specs.declared.write.Write.{Write}
 use Rattle.keeper_records.specs.declared.write.Write.TheVariants.{SetRow, DropRow, SetDeletion, DropDeletion, AddConflict, DropConflict, SetNext, SetClient, SetContext, SetInfo}
 
@@ -44,7 +44,8 @@ synced_row id content bytes =
 -- a row that was synced joins the deletions
 abbrev pub deletion_writes : List ℕ → Option Row → List Write
 deletion_writes id row =
-    if is_synced row then SetDeletion (record { id = id; resource = is_resource row }) ∷ [] else []
+    if is_synced row then SetDeletion (record { id = id; resource = is_resource_row row }) ∷ []
+    else []
 
 abbrev pub upload_writes : List ℕ → List ℕ → Option Row → List Write
 upload_writes id bytes None = []

@@ -5,7 +5,7 @@ ghost use Rattle.local_store.specs.declared.row.Row.{Row};
 ghost use Rattle.item_text.specs.Valid.{IsItem};
 ghost use Rattle.local_store.specs.Rows.{item_of};
 ghost use Rattle.local_store.specs.Sound.{IsAllowed};
-ghost use Rattle.local_store.specs.Tables.{base_of, is_resource, is_synced};
+ghost use Rattle.local_store.specs.Tables.{base_of, is_resource_row, is_synced};
 ghost use Rattle.keeper_records.specs.Making.{row_needed, needs_number, writes_of, saved_row, synced_row, deletion_writes, upload_writes, note_writes, remote_writes, conflict_writes, open_writes};
 ghost use Rattle.keeper_records.specs.Stores.{IsSoundRowFor};
 ghost use Rattle.keeper_records.specs.Writes.{IsSoundWrite};
@@ -63,7 +63,7 @@ fn is_synced(row: &Option<Row>) -> bool
 }
 
 fn is_resource(row: &Option<Row>) -> bool
-    ensures { result ≡ is_resource row.now }
+    ensures { result ≡ is_resource_row row.now }
 {
     match row {
         Some(row) => has_kind(row.content.item(), Kind::RESOURCE),

@@ -1,6 +1,6 @@
 ghost use Rattle.std.specs.Prelude.{◌≡◌, ◌≤◌, All, IfOk, OnOk, OnErr, Some, false, true};
 ghost use Rattle.jop_outside.specs.Outside.{risen};
-ghost use Rattle.keeper.specs.Keepers.{HasCause, blob_at, with_blob};
+ghost use Rattle.keeper.specs.Keepers.{HasKeeperCause, blob_at, with_saved_blob};
 ghost use Rattle.keeper_records.specs.Memory.{IsPlanned, IsSoundKept, failing_at, new_memory};
 ghost use Rattle.local_store.specs.Sound.{IsSound};
 ghost use Rattle.local_store.specs.Tables.{row_at};
@@ -80,7 +80,7 @@ impl MemRecords {
     /// Counts a call, which fails if that is planned.
     fn begin(&mut self) -> Result<(), KeeperErr>
         ensures planned { IsPlanned self.old.plan result self.new.plan }
-        ensures cause { HasCause self.old.faults result self.new.faults }
+        ensures cause { HasKeeperCause self.old.faults result self.new.faults }
         ensures same { self.new.kept ≡ self.old.kept }
     {
         let fate = self.plan.fate();
@@ -138,7 +138,7 @@ impl RecordStore for MemRecords {
         ensures sound { IfOk result (λ tables. IsSound tables) }
         ensures told { IfOk result (λ tables. tables ≡ self.old.kept.tables) }
         ensures same { self.new.kept ≡ self.old.kept }
-        ensures cause { HasCause self.old.faults result self.new.faults }
+        ensures cause { HasKeeperCause self.old.faults result self.new.faults }
         ensures planned { IsPlanned self.old.plan result self.new.plan }
     {
         self.begin()?;
@@ -150,7 +150,7 @@ impl RecordStore for MemRecords {
         ensures sound { IfOk result (λ row. IsSoundRowOf id.now row) }
         ensures told { IfOk result (λ row. row ≡ row_at self.old.kept.tables id.now) }
         ensures same { self.new.kept ≡ self.old.kept }
-        ensures cause { HasCause self.old.faults result self.new.faults }
+        ensures cause { HasKeeperCause self.old.faults result self.new.faults }
         ensures planned { IsPlanned self.old.plan result self.new.plan }
     {
         self.begin()?;
@@ -164,7 +164,7 @@ impl RecordStore for MemRecords {
     fn next_conflict(&mut self, _alloc: Global) -> Result<u64, KeeperErr>
         ensures told { IfOk result (λ number. number ≡ self.old.kept.tables.next_conflict) }
         ensures same { self.new.kept ≡ self.old.kept }
-        ensures cause { HasCause self.old.faults result self.new.faults }
+        ensures cause { HasKeeperCause self.old.faults result self.new.faults }
         ensures planned { IsPlanned self.old.plan result self.new.plan }
     {
         self.begin()?;
@@ -176,7 +176,7 @@ impl RecordStore for MemRecords {
         ensures ok { OnOk result (self.new.kept ≡ wrote writes.now self.old.kept) }
         ensures fit { OnOk result (all_fit self.old.kept.tables writes.now ≡ true) }
         ensures err { OnErr result (self.new.kept ≡ self.old.kept) }
-        ensures cause { HasCause self.old.faults result self.new.faults }
+        ensures cause { HasKeeperCause self.old.faults result self.new.faults }
         ensures planned { IsPlannedWrite self.old.kept.tables writes.now
             self.old.plan result self.new.plan }
     {
@@ -192,7 +192,7 @@ impl RecordStore for MemRecords {
     fn load_blob(&mut self, alloc: Global, id: &Id) -> Result<Option<Bytes>, KeeperErr>
         ensures told { IfOk result (λ bytes. bytes ≡ blob_at self.old.kept id.now) }
         ensures same { self.new.kept ≡ self.old.kept }
-        ensures cause { HasCause self.old.faults result self.new.faults }
+        ensures cause { HasKeeperCause self.old.faults result self.new.faults }
         ensures planned { IsPlanned self.old.plan result self.new.plan }
     {
         self.begin()?;
@@ -204,9 +204,9 @@ impl RecordStore for MemRecords {
 
     #[tactic(auto, using(crate::proofs::KeptBlobs::blobs_kept))]
     fn save_blob(&mut self, alloc: Global, id: &Id, bytes: &Bytes) -> Result<(), KeeperErr>
-        ensures ok { OnOk result (self.new.kept ≡ with_blob id.now bytes.now self.old.kept) }
+        ensures ok { OnOk result (self.new.kept ≡ with_saved_blob id.now bytes.now self.old.kept) }
         ensures err { OnErr result (self.new.kept ≡ self.old.kept) }
-        ensures cause { HasCause self.old.faults result self.new.faults }
+        ensures cause { HasKeeperCause self.old.faults result self.new.faults }
         ensures planned { IsPlanned self.old.plan result self.new.plan }
     {
         self.begin()?;

@@ -1,5 +1,5 @@
 ghost use Rattle.std.specs.Prelude.{◌≡◌, All, IfOk};
-ghost use Rattle.keeper.specs.Keepers.{HasCause};
+ghost use Rattle.keeper.specs.Keepers.{HasKeeperCause};
 ghost use Rattle.keeper_records.specs.Making.{row_needed};
 ghost use Rattle.keeper_records.specs.Stores.{IsSoundRowFor, IsRowFor, IsNumberFor};
 
@@ -30,7 +30,8 @@ impl<S: RecordStore> RecordKeeper<S> {
         ensures told { IfOk result
             (λ row. IsRowFor (S.state self.old.store).kept change.now row) }
         ensures same { (S.state self.new.store).kept ≡ (S.state self.old.store).kept }
-        ensures cause { HasCause (S.state self.old.store).faults result (S.state self.new.store).faults }
+        ensures cause { HasKeeperCause
+            (S.state self.old.store).faults result (S.state self.new.store).faults }
     {
         let id = match row_needed(change) {
             Some(id) => id,
@@ -45,7 +46,8 @@ impl<S: RecordStore> RecordKeeper<S> {
         ensures told { IfOk result
             (λ number. IsNumberFor (S.state self.old.store).kept change.now number) }
         ensures same { (S.state self.new.store).kept ≡ (S.state self.old.store).kept }
-        ensures cause { HasCause (S.state self.old.store).faults result (S.state self.new.store).faults }
+        ensures cause { HasKeeperCause
+            (S.state self.old.store).faults result (S.state self.new.store).faults }
     {
         if !needs_number(change) {
             return Ok(0);

@@ -15,7 +15,7 @@ use Rattle.jop_target.specs.Store.{is_same_dir, file_at, tree_after}
 use Rattle.sync_info.specs.Json.{info_text}
 use Rattle.sync_info.specs.declared.info.Info.{Info}
 use Rattle.law_exclusion.specs.Runs.{is_aside, lands_aside}
-use Rattle.target_upgrade.specs.Steps.{Stage, Reads, ReadsOld, At, Gets, Upgraded, Stuck}
+use Rattle.target_upgrade.specs.Steps.{UpgradeStage, Reads, ReadsOld, At, Gets, Upgraded, Stuck}
 use Rattle.law_exclusion.specs.Target.{tree_info, upgraded_info, content_at, has_dir, is_lock}
 use Rattle.target_upgrade.specs.declared.step.Step.{Step as UpgradeStep}
 use Rattle.target_upgrade.specs.declared.step.Step.TheVariants.{MakesResources, MakesOldSync, PutsOne, MakesLocks as MakesLockFolder, MakesTemp, PutsTwo, PutsInfo, ListsRoot}
@@ -160,7 +160,7 @@ module _ (t u : Tree) (like : IsLike t u) where
     valid = h.valid;
   }
 
-  pub tuned_like : (stage : Stage) → IsInTune stage t → IsInTune stage u
+  pub tuned_like : (stage : UpgradeStage) → IsInTune stage t → IsInTune stage u
   tuned_like Reads h = tt
   tuned_like ReadsOld h = like.info_file ∙ h
   tuned_like (At step info) h = step_like step info h

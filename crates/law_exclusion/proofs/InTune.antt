@@ -14,7 +14,7 @@ use Rattle.std.proofs.lemmas.Bool.{false≢true}
 use Rattle.sync_info.specs.Info.{IsInfo}
 use Rattle.sync_info.specs.Json.{info_text}
 use Rattle.sync_info.specs.declared.info.Info.{Info}
-use Rattle.target_upgrade.specs.Steps.{Stage, Reads, ReadsOld, At, Gets, Upgraded, Stuck, SUPPORTED, at_version}
+use Rattle.target_upgrade.specs.Steps.{UpgradeStage, Reads, ReadsOld, At, Gets, Upgraded, Stuck, SUPPORTED, at_version}
 use Rattle.law_exclusion.specs.Target.{tree_info, with_keys, upgraded_info, content_at, has_dir, with_dir, is_lock}
 use Rattle.target_upgrade.specs.declared.step.Step.{Step}
 use Rattle.target_upgrade.specs.declared.step.Step.TheVariants.{MakesResources, MakesOldSync, PutsOne, MakesLocks, MakesTemp, PutsTwo, PutsInfo, ListsRoot}
@@ -179,7 +179,7 @@ pub record IsGetting (ids : List (List ℕ)) (info : Info) (t : Tree) : Type 0 w
   pub leads : with_keys t.files ids info ≡ upgraded_info t.files now
   pub valid : IsInfo info
 
-abbrev pub IsInTune : Stage → Tree → Type 0
+abbrev pub IsInTune : UpgradeStage → Tree → Type 0
 IsInTune Reads t = Unit {0}
 IsInTune ReadsOld t = file_at t.files InfoFile ≡ None
 IsInTune (At step info) t = IsAtStep step info t
@@ -188,6 +188,6 @@ IsInTune Upgraded t = (info : Info) × (tree_info t ≡ Some info) × (info.vers
 IsInTune Stuck t = Unit {0}
 
 -- behind a call the tree is in tune again, and comes to the same
-pub record IsOnItsWay (stage : Stage) (t u : Tree) : Type 0 where
+pub record IsOnItsWay (stage : UpgradeStage) (t u : Tree) : Type 0 where
   pub tuned : IsInTune stage u
   pub same : ComesToSame t u

@@ -10,7 +10,7 @@ use Rattle.lease.proofs.Invariant.{same_or_not}
 use Rattle.lease.proofs.Joins.{all_keep}
 use Rattle.lease.proofs.World.{lawful_so_far}
 use Rattle.target_upgrade.specs.Course.{Course, KeepsVersions, allowed_from, begun_course, course_after, outside_course}
-use Rattle.law_exclusion.specs.Exclusive.{AllKeepVersions, EndsAllowed, KeepsExclusive, OthersObey}
+use Rattle.law_exclusion.specs.Exclusive.{AllKeepVersions, EndsAllowed, KeepsExclusive, OthersObeyLease}
 use Rattle.law_exclusion.proofs.Law.{exclusive_in}
 
 -- what begins outside a session may stand behind any course that was allowed
@@ -38,7 +38,7 @@ allowed_on client c (Began ∷ es) trail h k a =
 allowed_on client c (e ∷ es) trail h k a = allowed_on client (course_after client c e) es trail h k a
 
 all_versions : (h : History) (client : List ℕ) (trail : List Event) →
-    EndsAllowed h client trail → OthersObey h client → KeepsLocks client trail →
+    EndsAllowed h client trail → OthersObeyLease h client → KeepsLocks client trail →
     KeepsVersions client trail → AllKeepVersions h
 all_versions h client trail ends others keeps allowed = record {
   each = λ other. elim (same_or_not other client) [

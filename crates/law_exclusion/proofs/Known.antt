@@ -5,7 +5,7 @@ use Rattle.std.specs.Prelude.{bytes_eq, take, slice_get}
 use Rattle.std.proofs.lemmas.Slice.Eq.{bytes_eq-Decides}
 use Rattle.jop_base.specs.declared.lock_name.LockKind.{LockKind}
 use Rattle.jop_base.specs.declared.lock_name.LockKind.TheVariants.{Sync, Exclusive}
-use Rattle.jop_target.specs.History.{History, Step, Begins, IsHonest, Writes, is_guarded_call, landed_call, noted, part_of}
+use Rattle.jop_target.specs.History.{History, Step, Begins, IsHonest, WritesAt, is_guarded_call, landed_call, noted, part_of}
 use Rattle.jop_target.specs.declared.call.Call.{Call}
 use Rattle.jop_target.specs.declared.event.Event.{Event}
 use Rattle.lease.specs.Discipline.{Session, session_from}
@@ -44,7 +44,7 @@ module _ (h : History) (honest : IsHonest h) (timely : IsTimely h) (keep : AllKe
   -- ---- who writes under a sync lease
 
   abbrev written : (place : ℕ) (s : Step) (call : Call) → slice_get h.steps place ≡ Some s →
-      landed_call s.happens ≡ Some call → is_guarded_call call ≡ true → Writes h place s.client
+      landed_call s.happens ≡ Some call → is_guarded_call call ≡ true → WritesAt h place s.client
   written place s call here landed guarded = record {
     step = s;
     call = call;
@@ -57,7 +57,7 @@ module _ (h : History) (honest : IsHonest h) (timely : IsTimely h) (keep : AllKe
   -- the client has made no write in its session, unless its lease is a sync lease
   abbrev pub IsUnwritten : ℕ → List ℕ → LockKind → Type 0
   IsUnwritten place client k =
-      k ≡ Exclusive → (q : ℕ) → q < place → Writes h q client →
+      k ≡ Exclusive → (q : ℕ) → q < place → WritesAt h q client →
       session_at client (take q h.steps) ≡ session_at client (take place h.steps) → ⊥
 
   abbrev pub KnowsAt : ℕ → List ℕ → Type 0
@@ -65,7 +65,7 @@ module _ (h : History) (honest : IsHonest h) (timely : IsTimely h) (keep : AllKe
       KnowsIn (world place) (part_at place client) client (IsUnwritten place client)
 
   pub sync_so : (place : ℕ) (client : List ℕ) (stamp : ℕ) → KnowsAt place client →
-      Writes h place client → phase_at client (take place h.steps) ≡ Held Sync stamp →
+      WritesAt h place client → phase_at client (take place h.steps) ≡ Held Sync stamp →
       IsSo (world place).tree (learnt_of (part_at place client))
   sync_so place client stamp knows write held = knows.so Sync
       (record {
@@ -228,7 +228,7 @@ module _ (h : History) (honest : IsHonest h) (timely : IsTimely h) (keep : AllKe
   past place none client knows =
       let same = take_past h.steps place none in
       subst (λ (ss : List Step). KnowsIn (run (opening h.opening) ss) (part_of client ss) client
-      (λ (k : LockKind). k ≡ Exclusive → (q : ℕ) → q < suc place → Writes h q client →
+      (λ (k : LockKind). k ≡ Exclusive → (q : ℕ) → q < suc place → WritesAt h q client →
       session_at client (take q h.steps) ≡ session_at client ss → ⊥)) (sym same)
       (record {
         early = knows.early;

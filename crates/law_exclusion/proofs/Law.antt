@@ -3,7 +3,7 @@ use Rattle.std.proofs.Common.{◌≡◌, ◌≢◌, ◌<◌, ◌∙◌, refl, ap
 use Rattle.std.specs.Prelude.{All, take}
 use Rattle.jop_base.specs.declared.lock_name.LockKind.{LockKind}
 use Rattle.jop_base.specs.declared.lock_name.LockKind.TheVariants.{Sync, Exclusive}
-use Rattle.jop_target.specs.History.{History, IsHonest, Writes, is_guarded_call}
+use Rattle.jop_target.specs.History.{History, IsHonest, WritesAt, is_guarded_call}
 use Rattle.jop_target.specs.declared.call.Call.{Call}
 use Rattle.jop_target.specs.declared.tree.Tree.{Tree}
 use Rattle.lease.specs.Exclusion.{AllKeepLocks, Holds, IsTimely, Upgrades, phase_at, session_at}
@@ -12,7 +12,7 @@ use Rattle.lease.specs.Idle.{is_work}
 use Rattle.lease.proofs.Invariant.{no_kind, past_none, phase_in}
 use Rattle.lease.proofs.Law.{apart_in, count-at, guarded_plain, kind_at, later, write_lease, write_unspent}
 use Rattle.lease.proofs.World.{opening}
-use Rattle.target_upgrade.specs.Steps.{Stage, Reads, ReadsOld, At, Gets, Upgraded, Stuck, awaited}
+use Rattle.target_upgrade.specs.Steps.{UpgradeStage, Reads, ReadsOld, At, Gets, Upgraded, Stuck, awaited}
 use Rattle.law_exclusion.specs.Target.{tree_version}
 use Rattle.law_exclusion.proofs.Walked.{next_call}
 use Rattle.law_exclusion.specs.Exclusive.{AllKeepVersions, IsAsReadAt, IsExclusive, OpensUpgrade}
@@ -29,7 +29,7 @@ version_read version [] h = cc
 version_read version (v ∷ vs) h = not_empty v vs
 
 -- an upgrade writes behind what it has read
-write_read : (s : Stage) (call : Call) (l : Learnt) → awaited s ≡ Some call →
+write_read : (s : UpgradeStage) (call : Call) (l : Learnt) → awaited s ≡ Some call →
     is_guarded_call call ≡ true → IsReadAt s l → l.versions ≢ []
 write_read Reads call l next guarded h = cc
 write_read ReadsOld call l next guarded h = cc
@@ -53,7 +53,7 @@ module _ (h : History) (honest : IsHonest h) (timely : IsTimely h) (keep : AllKe
         so.versions;
   }
 
-  sync : (place : ℕ) (client : List ℕ) (stamp : ℕ) → Writes h place client →
+  sync : (place : ℕ) (client : List ℕ) (stamp : ℕ) → WritesAt h place client →
       Holds h place client Sync stamp → IsAsReadAt h place client
   sync place client stamp write held =
       let s = write.step in
@@ -70,7 +70,7 @@ module _ (h : History) (honest : IsHonest h) (timely : IsTimely h) (keep : AllKe
 
   -- an earlier write of the session is one of the same upgrade
   earlier_upgrades : (place : ℕ) (client : List ℕ) (session q : ℕ) →
-      Upgrades h place client session → q < place → Writes h q client →
+      Upgrades h place client session → q < place → WritesAt h q client →
       session_at client (take q h.steps) ≡ session_at client (take place h.steps) →
       Upgrades h q client session
   earlier_upgrades place client session q upgrades lt write same =
@@ -93,7 +93,7 @@ module _ (h : History) (honest : IsHonest h) (timely : IsTimely h) (keep : AllKe
         numbered = same ∙ upgrades.numbered;
       }
 
-  upgrade_read : (place : ℕ) (client : List ℕ) (stamp : ℕ) → Writes h place client →
+  upgrade_read : (place : ℕ) (client : List ℕ) (stamp : ℕ) → WritesAt h place client →
       Holds h place client Exclusive stamp → (learnt place client).versions ≢ []
   upgrade_read place client stamp write held =
       let s = write.step in

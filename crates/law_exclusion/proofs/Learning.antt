@@ -16,7 +16,7 @@ use Rattle.lease.specs.Phase.{Phase, Held, role_of}
 use Rattle.sync_info.specs.Read.{info_in}
 use Rattle.sync_info.specs.declared.info.Info.{Info}
 use Rattle.target_upgrade.specs.Course.{Course, begun_course, is_allowed, is_known, if_known, known_in, course_after, course_from, allowed_from, told_after, told_by, stage_by, stage_lost}
-use Rattle.target_upgrade.specs.Steps.{Stage, Reads, ReadsOld, At, Gets, Upgraded, Stuck, awaited, starts_from, starts_with, after_info, after_old, stage_after}
+use Rattle.target_upgrade.specs.Steps.{UpgradeStage, Reads, ReadsOld, At, Gets, Upgraded, Stuck, awaited, starts_from, starts_with, after_info, after_old, stage_after_reply}
 use Rattle.law_exclusion.proofs.UnderWay.{is_under_way, under_way_on}
 use Rattle.law_exclusion.proofs.Walked.{next_call, allowed_so_far}
 use Rattle.law_exclusion.specs.Learnt.{Learnt, nothing_learnt, with_info, learnt_of_info, learnt_of_old, learnt_by, learnt_after, learnt_from}
@@ -25,7 +25,7 @@ use Rattle.law_exclusion.proofs.Growth.{Grows, grows, has_version, not_empty}
 -- ---- the monitors beside each other
 
 -- a stage of an upgrade that goes on stands behind what was read
-abbrev pub IsReadAt : Stage → Learnt → Type 0
+abbrev pub IsReadAt : UpgradeStage → Learnt → Type 0
 IsReadAt ReadsOld l = l.no_info ≡ true
 IsReadAt (At step info) l = l.versions ≢ []
 IsReadAt (Gets ids info) l = l.versions ≢ []
@@ -44,7 +44,7 @@ pub record Matches (c : Course) (l : Learnt) : Type 0 where
   pub told : HasRead c.told l
   pub stage : IsReadAt c.stage l
 
-read_grows : (s : Stage) (l m : Learnt) → Grows l m → IsReadAt s l → IsReadAt s m
+read_grows : (s : UpgradeStage) (l m : Learnt) → Grows l m → IsReadAt s l → IsReadAt s m
 read_grows ReadsOld l m g h = g.none h
 read_grows (At step info) l m g h = g.read h
 read_grows (Gets ids info) l m g h = g.read h
@@ -125,18 +125,19 @@ old_read versions (Absent now) = not_empty 0 versions
 old_read versions reply = tt
 
 -- whoever is under way has read
-way_read : (s : Stage) (l : Learnt) → l.versions ≢ [] → is_under_way s ≡ true → IsReadAt s l
+way_read : (s : UpgradeStage) (l : Learnt) → l.versions ≢ [] → is_under_way s ≡ true → IsReadAt s l
 way_read (At step info) l h on = h
 way_read (Gets ids info) l h on = h
 way_read s l h on = cc
 
-on_read : (s : Stage) (reply : Reply) (l : Learnt) → is_under_way s ≡ true → l.versions ≢ [] →
-    IsReadAt (stage_after s reply) l
+on_read : (s : UpgradeStage) (reply : Reply) (l : Learnt) → is_under_way s ≡ true →
+    l.versions ≢ [] →
+    IsReadAt (stage_after_reply s reply) l
 on_read s reply l on h =
-    under_way_on (λ (t : Stage). IsReadAt t l) s reply tt tt (λ t way. way_read t l h way) on
+    under_way_on (λ (t : UpgradeStage). IsReadAt t l) s reply tt tt (λ t way. way_read t l h way) on
 
-next_read : (s : Stage) (call : Call) (reply : Reply) (l : Learnt) → awaited s ≡ Some call →
-    IsReadAt s l → IsReadAt (stage_after s reply) (learnt_by l call reply)
+next_read : (s : UpgradeStage) (call : Call) (reply : Reply) (l : Learnt) → awaited s ≡ Some call →
+    IsReadAt s l → IsReadAt (stage_after_reply s reply) (learnt_by l call reply)
 next_read Reads call reply l next h =
     let same : Get InfoFile ≡ call = cc in
     subst (λ (c : Call). IsReadAt (after_info reply) (learnt_by l c reply)) same (info_read l reply)
@@ -159,11 +160,11 @@ still_matches : (c d : Course) (l m : Learnt) → d.told ≡ c.told → d.stage 
     Matches c l → Matches d m
 still_matches c d l m told stage g h = record {
   told = λ version is. told_grows c.told l m g h.told version (sym told ∙ is);
-  stage = subst (λ (s : Stage). IsReadAt s m) (sym stage) (read_grows c.stage l m g h.stage);
+  stage = subst (λ (s : UpgradeStage). IsReadAt s m) (sym stage) (read_grows c.stage l m g h.stage);
 }
 
 -- a course that has come on to this
-abbrev Comes : Learnt → Option ℕ → Stage → Type 0
+abbrev Comes : Learnt → Option ℕ → UpgradeStage → Type 0
 Comes l told stage = HasRead told l × IsReadAt stage l
 
 worked : (c : Course) (p : Phase) (call : Call) (reply : Reply) (l : Learnt) → Matches c l →

@@ -11,7 +11,7 @@ use Rattle.jop_target.specs.Store.{file_at, reply_of, tree_after}
 use Rattle.sync_info.specs.Json.{info_text}
 use Rattle.sync_info.specs.declared.info.Info.{Info}
 use Rattle.target_upgrade.specs.Course.{puts_text}
-use Rattle.target_upgrade.specs.Steps.{Stage, Reads, ReadsOld, At, Gets, Upgraded, Stuck, awaited, stage_after, step_call}
+use Rattle.target_upgrade.specs.Steps.{UpgradeStage, Reads, ReadsOld, At, Gets, Upgraded, Stuck, awaited, stage_after_reply, step_call}
 use Rattle.law_exclusion.specs.Target.{has_dir}
 use Rattle.target_upgrade.specs.declared.step.Step.{Step}
 use Rattle.target_upgrade.specs.declared.step.Step.TheVariants.{MakesResources, MakesOldSync, PutsOne, MakesLocks, MakesTemp, PutsTwo, PutsInfo, ListsRoot}
@@ -26,7 +26,7 @@ temp_made : (t : Tree) → has_dir (with_folder t Temp).folders Temp ≡ true
 temp_made t = has_dir-with t.folders Temp Temp
 
 done_step : (step : Step) (info : Info) (t : Tree) (now m : ℕ) → puts_text (step_call step info) ≡
-    true → IsAtStep step info t → IsOnItsWay (stage_after (At step info)
+    true → IsAtStep step info t → IsOnItsWay (stage_after_reply (At step info)
     (reply_of t now (step_call step info))) t (tree_after t m (step_call step info))
 unfolding reply_of tree_after
 done_step MakesResources info t now m text h =
@@ -70,22 +70,23 @@ done_step PutsInfo info t now m text h = put_second t m info text h
 done_step ListsRoot info t now m text h = record { tuned = list_root t info h; same = same_tree t }
 
 -- An awaited call, answered as the store answers it, leaves the tree in tune, and what it comes to.
-pub done_call : (stage : Stage) (t : Tree) (now m : ℕ) (call : Call) →
+pub done_call : (stage : UpgradeStage) (t : Tree) (now m : ℕ) (call : Call) →
     awaited stage ≡ Some call → puts_text call ≡ true → IsInTune stage t →
-    IsOnItsWay (stage_after stage (reply_of t now call)) t (tree_after t m call)
+    IsOnItsWay (stage_after_reply stage (reply_of t now call)) t (tree_after t m call)
 unfolding reply_of tree_after
 done_call stage t now m call next text h = by_stage stage next h where
   -- the call is the awaited one
-  by_call : (s : Stage) (c : Call) → awaited s ≡ Some call → awaited s ≡ Some c →
-      (puts_text c ≡ true → IsOnItsWay (stage_after s (reply_of t now c)) t (tree_after t m c)) →
-      IsOnItsWay (stage_after s (reply_of t now call)) t (tree_after t m call)
+  by_call : (s : UpgradeStage) (c : Call) → awaited s ≡ Some call → awaited s ≡ Some c →
+      (puts_text c ≡ true → IsOnItsWay (stage_after_reply s (reply_of t now c)) t
+      (tree_after t m c)) →
+      IsOnItsWay (stage_after_reply s (reply_of t now call)) t (tree_after t m call)
   by_call s c one other done =
       let same : c ≡ call = same_Some c call (sym other ∙ one) in
-      subst (λ (d : Call). IsOnItsWay (stage_after s (reply_of t now d)) t (tree_after t m d))
+      subst (λ (d : Call). IsOnItsWay (stage_after_reply s (reply_of t now d)) t (tree_after t m d))
       same (done (ap puts_text same ∙ text))
 
-  by_stage : (s : Stage) → awaited s ≡ Some call → IsInTune s t →
-      IsOnItsWay (stage_after s (reply_of t now call)) t (tree_after t m call)
+  by_stage : (s : UpgradeStage) → awaited s ≡ Some call → IsInTune s t →
+      IsOnItsWay (stage_after_reply s (reply_of t now call)) t (tree_after t m call)
   by_stage Reads next h =
       by_call Reads (Get InfoFile) next refl (λ utf8. record {
         tuned = read_info t now (file_at t.files InfoFile) refl;

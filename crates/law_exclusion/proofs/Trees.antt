@@ -19,7 +19,7 @@ use Rattle.jop_target.specs.declared.tree.Tree.{Tree}
 use Rattle.jop_target.proofs.Files.{file_at-put, file_at-other_put, file_at-other_delete}
 use Rattle.sync_info.specs.Read.{info_in}
 use Rattle.sync_info.specs.declared.info.Info.{Info}
-use Rattle.target_upgrade.specs.Course.{is_info_at, is_known, is_version, keeps_version, version_in}
+use Rattle.target_upgrade.specs.Course.{is_info_at, is_known, is_version, keeps_version, version_in_text}
 use Rattle.law_exclusion.specs.Target.{info_by_files, tree_info, info_within, tree_version}
 use Rattle.law_exclusion.proofs.Files.{apart_by_folder, info_no_item, old_no_item, is_version_file}
 use Rattle.law_exclusion.specs.Learnt.{Learnt, nothing_learnt, with_info, learnt_of_info, learnt_of_old, learnt_by}
@@ -126,7 +126,7 @@ put_info : (t : Tree) (m : ℕ) (version : ℕ) (content : List ℕ) →
 unfolding tree_after tree_info
 put_info t m version content h =
     let f : File = record { path = InfoFile; content = Whole content; stamp = m } in
-    rw (file_at-put t.files f) (version_is version (version_in content) h)
+    rw (file_at-put t.files f) (version_is version (version_in_text content) h)
 
 apart_at : (t : Tree) (m : ℕ) (version : ℕ) (call : Call) → is_apart call ≡ true →
     tree_version t ≡ Some version → tree_version (tree_after t m call) ≡ Some version

@@ -8,7 +8,7 @@ use Rattle.jop_target.specs.History.{History, Step, Happening, Begins, Answered,
 use Rattle.lease.specs.Discipline.{lawful_from}
 use Rattle.target_upgrade.specs.Course.{Course, begun_course, course_after, course_from, allowed_from, ObeysLease}
 use Rattle.law_exclusion.specs.Runs.{OthersAside, is_upgrade_from, begins_none, HasSession, IsRedone, EndsOnce, LeavesUpgraded, IsAsUpgraded}
-use Rattle.target_upgrade.specs.Steps.{Stage, Upgraded}
+use Rattle.target_upgrade.specs.Steps.{UpgradeStage, Upgraded}
 use Rattle.law_exclusion.specs.Target.{upgraded, IsAlike}
 use Rattle.law_exclusion.proofs.Alike.{alike_ended}
 use Rattle.law_exclusion.proofs.InTune.{ComesToSame, same_tree, same_on, IsInTune}
@@ -163,7 +163,7 @@ ends_upgraded client ss events o t now honest s one done same =
     let walked = session_walks client ss events t now honest s
     (upgrade_done client events one done) in
     let v = tree_from t ss in
-    let end : IsInTune Upgraded v = subst (λ (g : Stage). IsInTune g v) done walked.fits in
+    let end : IsInTune Upgraded v = subst (λ (g : UpgradeStage). IsInTune g v) done walked.fits in
     alike_ended o v end.0 end.1 end.2 (same_on o t v same walked.same)
 
 -- ---- the laws

@@ -17,7 +17,7 @@ use Rattle.lease.specs.Phase.{Phase, Held, role_of, allows, heard, phase_after, 
 use Rattle.lease.proofs.World.{lawful_so_far}
 use Rattle.target_upgrade.specs.Course.{Course, course_after, allowed_from, is_awaited, is_allowed}
 use Rattle.law_exclusion.specs.Runs.{is_aside, lands_aside, is_sync_phase, is_upgrade_from}
-use Rattle.target_upgrade.specs.Steps.{Stage, Reads, ReadsOld, At, Gets, Upgraded, Stuck, awaited, stage_after}
+use Rattle.target_upgrade.specs.Steps.{UpgradeStage, Reads, ReadsOld, At, Gets, Upgraded, Stuck, awaited, stage_after_reply}
 use Rattle.target_upgrade.specs.declared.step.Step.{Step as UpgradeStep}
 use Rattle.target_upgrade.specs.declared.step.Step.TheVariants.{MakesResources, MakesOldSync, PutsOne, MakesLocks as MakesLockFolder, MakesTemp, PutsTwo, PutsInfo, ListsRoot}
 use Rattle.law_exclusion.proofs.InTune.{ComesToSame, same_tree, IsInTune}
@@ -62,7 +62,7 @@ quiet client c d t m call o allowed none stage aside fits =
     (quiet_role client c.lease.phase (role_of client call) allowed none))) in
     let u = tree_with t m o in
     record {
-      fits = subst (λ (s : Stage). IsInTune s u) (sym stage)
+      fits = subst (λ (s : UpgradeStage). IsInTune s u) (sym stage)
           (tuned_like t u like c.stage fits);
       same = same_like t u like;
     }
@@ -76,23 +76,23 @@ next_call client c call stamp phase work allowed =
     awaited-is (awaited c.stage) call may
 
 -- a call whose reply says nothing of whether it landed
-lost : (d : Course) (t : Tree) (m : ℕ) (stage : Stage) (call : Call) (landed : Bool) →
+lost : (d : Course) (t : Tree) (m : ℕ) (stage : UpgradeStage) (call : Call) (landed : Bool) →
     IsNext (awaited stage) call → IsInTune stage t → d.stage ≡ Stuck →
     HasWalked d t (tree_with t m (cond landed (Some call) None))
 lost d t m stage call true next tuned stuck = record {
-  fits = subst (λ (s : Stage). IsInTune s (tree_after t m call)) (sym stuck) tt;
+  fits = subst (λ (s : UpgradeStage). IsInTune s (tree_after t m call)) (sym stuck) tt;
   same = (done_call stage t 0 m call next.next next.text tuned).same;
 }
 lost d t m stage call false next tuned stuck = record {
-  fits = subst (λ (s : Stage). IsInTune s t) (sym stuck) tt;
+  fits = subst (λ (s : UpgradeStage). IsInTune s t) (sym stuck) tt;
   same = same_tree t;
 }
 
-failed_stuck : (stage : Stage) → stage_after stage Failed ≡ Stuck
+failed_stuck : (stage : UpgradeStage) → stage_after_reply stage Failed ≡ Stuck
 failed_stuck Reads = refl
 failed_stuck ReadsOld = refl
 failed_stuck (At step info) = step_stuck step where
-  step_stuck : (step : UpgradeStep) → stage_after (At step info) Failed ≡ Stuck
+  step_stuck : (step : UpgradeStep) → stage_after_reply (At step info) Failed ≡ Stuck
   step_stuck MakesResources = refl
   step_stuck MakesOldSync = refl
   step_stuck PutsOne = refl
@@ -143,12 +143,12 @@ own_called client c t m call reply landed honest may never fits = by_work
       by_work true work =
           let held = exclusive_work c.lease.phase (role_of client call) work never in
           let next = next_call client c call held.0 held.1 work may.work in
-          let stage : (course_after client c (Called call reply)).stage ≡ stage_after c.stage reply = rw
+          let stage : (course_after client c (Called call reply)).stage ≡ stage_after_reply c.stage reply = rw
           (work, held.1) refl in
           elim (honest_or_failed t m call reply landed honest) [
             | inl failed ↦
                 let stuck : (course_after client c (Called call reply)).stage ≡ Stuck = stage ∙
-                (ap (stage_after c.stage) failed ∙ failed_stuck c.stage) in
+                (ap (stage_after_reply c.stage) failed ∙ failed_stuck c.stage) in
                 subst (λ (o : Option Call). HasWalked (course_after client c (Called call reply)) t
                 (tree_with t m o)) (sym (landed_if call landed reply))
                 (lost (course_after client c (Called call reply)) t m c.stage call landed next fits
@@ -158,8 +158,9 @@ own_called client c t m call reply landed honest may never fits = by_work
                 let there : landed_call (Answered call reply landed) ≡ Some call = landed_if call landed
                 reply ∙ ap (λ (b : Bool). cond b (Some call) None) heard.0 in
                 let at : IsInTune (course_after client c (Called call reply)).stage
-                (tree_after t m call) = subst (λ (s : Stage). IsInTune s (tree_after t m call))
-                (sym (stage ∙ ap (stage_after c.stage) heard.1.2)) on.tuned in
+                (tree_after t m call) =
+                subst (λ (s : UpgradeStage). IsInTune s (tree_after t m call))
+                (sym (stage ∙ ap (stage_after_reply c.stage) heard.1.2)) on.tuned in
                 subst (λ (o : Option Call). HasWalked (course_after client c (Called call reply)) t
                 (tree_with t m o)) (sym there) (record { fits = at; same = on.same })
           ]

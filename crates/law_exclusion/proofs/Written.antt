@@ -5,7 +5,7 @@ use Rattle.std.proofs.lemmas.Bool.{and_parts}
 use Rattle.std.proofs.lemmas.Slice.Eq.{bytes_eq-Decides}
 use Rattle.jop_base.specs.Paths.{is_guarded}
 use Rattle.jop_base.specs.declared.path.Path.{Path}
-use Rattle.jop_target.specs.History.{History, Step, Writes, noted, part_of}
+use Rattle.jop_target.specs.History.{History, Step, WritesAt, noted, part_of}
 use Rattle.jop_target.specs.declared.call.Call.TheVariants.{Put}
 use Rattle.target_upgrade.specs.Course.{KeepsVersions, allowed_from, outside_course}
 use Rattle.target_upgrade.proofs.Whole.{keeps_none}
@@ -49,7 +49,7 @@ all_keep_versions h allowed = record {
 -- a put that stands in a history
 pub put_writes : (h : History) (place : ℕ) (client : List ℕ) (moment : ℕ) (path : Path)
     (content : List ℕ) → slice_get h.steps place ≡ Some (puts_file client moment path content) →
-    is_guarded path ≡ true → Writes h place client
+    is_guarded path ≡ true → WritesAt h place client
 put_writes h place client moment path content here guarded = record {
   step = puts_file client moment path content;
   call = Put path content;

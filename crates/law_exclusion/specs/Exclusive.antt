@@ -2,7 +2,7 @@
 -- target that its session has read.
 use Rattle.std.specs.Prelude.{ℕ, ◌≤◌, ◌≡◌, ◌≢◌, All, List, [], take, Some}
 use Rattle.jop_base.specs.declared.lock_name.LockKind.TheVariants.{Sync}
-use Rattle.jop_target.specs.History.{History, IsHonest, Writes, part_of, tree_at}
+use Rattle.jop_target.specs.History.{History, IsHonest, WritesAt, part_of, tree_at}
 use Rattle.jop_target.specs.declared.event.Event.{Event}
 use Rattle.jop_target.specs.declared.tree.Tree.{Tree}
 use Rattle.lease.specs.Discipline.{KeepsLocks}
@@ -30,7 +30,7 @@ pub record OpensUpgrade (h : History) (place : ℕ) (client : List ℕ) (session
 -- Each write of a synchroniser lands while the target has the version that its session has read,
 -- and so does the first write of each upgrade. Its later writes follow its own steps.
 pub record LandsAsRead (h : History) : Type 0 where
-  pub sync : (place : ℕ) (client : List ℕ) (stamp : ℕ) → Writes h place client →
+  pub sync : (place : ℕ) (client : List ℕ) (stamp : ℕ) → WritesAt h place client →
       Holds h place client Sync stamp → IsAsReadAt h place client
   pub upgrade : (place : ℕ) (client : List ℕ) (session : ℕ) →
       OpensUpgrade h place client session → IsAsReadAt h place client
@@ -54,7 +54,7 @@ pub record EndsAllowed (h : History) (client : List ℕ) (trail : List Event) : 
   pub versions : KeepsVersions client ends.earlier
 
 -- the sessions of all other clients keep their locks and do what is allowed
-pub record OthersObey (h : History) (client : List ℕ) : Type 0 where
+pub record OthersObeyLease (h : History) (client : List ℕ) : Type 0 where
   pub locks : OthersKeepLocks h client
   pub versions : (other : List ℕ) → other ≢ client →
       KeepsVersions other (part_of other h.steps)
@@ -65,7 +65,8 @@ pub record OthersObey (h : History) (client : List ℕ) : Type 0 where
 -- in time and all other clients keep their locks and do what is allowed, it is exclusive.
 abbrev pub KeepsExclusive : List ℕ → List Event → Type 0
 KeepsExclusive client trail =
-    (h : History) → IsHonest h → IsTimely h → EndsAllowed h client trail → OthersObey h client →
+    (h : History) → IsHonest h → IsTimely h → EndsAllowed h client trail →
+    OthersObeyLease h client →
     IsExclusive h
 
 -- so it is of each trail that keeps its locks and does what is allowed

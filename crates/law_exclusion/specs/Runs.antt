@@ -67,7 +67,7 @@ pub record IsStopped (client : List ℕ) (steps : List Step) : Type 0 where
   pub upgrade : is_upgrade_from client begun_course events ≡ true
 
 -- and the session is an upgrade that is done
-pub record IsDone (client : List ℕ) (steps : List Step) : Type 0 where
+pub record IsDoneUpgrade (client : List ℕ) (steps : List Step) : Type 0 where
   pub events : List Event
   pub session : HasSession client steps events
   pub one : begins_none events ≡ true
@@ -83,7 +83,7 @@ pub record IsRedone (h : History) : Type 0 where
   pub second : List Step
   pub steps : h.steps ≡ before ++ (first ++ second)
   pub stopped : IsStopped one first
-  pub done : IsDone two second
+  pub done : IsDoneUpgrade two second
 
 -- the target is then the upgraded one of that before the first run
 abbrev pub IsAsUpgraded : (h : History) → List Step → Type 0

@@ -6,7 +6,7 @@ use Rattle.jop_base.specs.declared.dir.Dir.TheVariants.{Root, Resources, OldSync
 use Rattle.jop_base.specs.declared.lock_name.LockKind.TheVariants.{Sync, Exclusive}
 use Rattle.jop_base.specs.declared.path.Path.{Path}
 use Rattle.jop_base.specs.declared.path.Path.TheVariants.{Info as InfoFile, Item, OldVersion}
-use Rattle.jop_target.specs.History.{History, Step, Stopped, Writes}
+use Rattle.jop_target.specs.History.{History, Step, Stopped, WritesAt}
 use Rattle.jop_target.specs.declared.call.Call.TheVariants.{List as ListDir, Get, MakeDir, Put}
 use Rattle.jop_target.specs.declared.reply.Entry.{Entry}
 use Rattle.jop_target.specs.declared.reply.Reply.TheVariants.{Done, Got, Listed}
@@ -46,7 +46,7 @@ stops client moment = record { client = client; moment = moment; happens = Stopp
 pub record HasSync (h : History) (client : List ℕ) : Type 0 where
   pub place : ℕ
   pub stamp : ℕ
-  pub writes : Writes h place client
+  pub writes : WritesAt h place client
   pub holds : Holds h place client Sync stamp
 
 -- ---- an upgrade between two syncs

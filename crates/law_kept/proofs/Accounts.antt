@@ -8,14 +8,14 @@ use Rattle.item_text.specs.declared.item.Item.{Item}
 use Rattle.local_store.specs.declared.content.Content.{Content}
 use Rattle.local_store.specs.declared.content.Content.TheVariants.{Plain}
 use Rattle.jop_base.proofs.KeyedLaws.{bytes_eq-refl, bytes_eq-other}
-use Rattle.law_kept.specs.Acts.{ItemChange, Saved, Uploaded, Taken, Conflict, Moved, Gone, Opened, Cleared, RowStep, Stays, row_step, is_users, Act, Changes, Step, Version, History}
+use Rattle.law_kept.specs.Acts.{ItemChange, Saved, Uploaded, Taken, Conflict, Moved, Gone, Opened, Cleared, RowStep, Stays, row_step, is_users, Act, Changes, FileStep, Version, FileHistory}
 use Rattle.law_kept.specs.Fair.{StandsAsRead, IsFair}
 use Rattle.law_kept.specs.Fates.{Has, RowStands, CopyStands, IsUsers, WasReplaced, WasCleared, HasFate, OnRow, OnStore, InConflicts, WasMet, IsHeir, WasSaved, IsKept}
 use Rattle.law_kept.specs.Fates as fates
 use Rattle.law_licences.specs.Copies.{is_same_note, must_copy}
 use Rattle.law_licences.specs.Items.{is_note, is_plain_note}
 use Rattle.law_kept.specs.Licences.{is_waiting, is_idle, is_copied, is_copied_from, has_read_item, may_act}
-use Rattle.law_kept.specs.Own.{Row, Own, row_base, row_stepped, new_own, own_after}
+use Rattle.law_kept.specs.Own.{OwnRow, Own, row_base, row_stepped, new_own, own_after}
 use Rattle.law_kept.specs.Standing.{Copy, Standing, Client, World, copies_noted, copies_noted_if, without_number, stood_stepped, stands_after, desk_after, opening_world, happened, world_from, world_at, world_end}
 use Rattle.law_kept.proofs.Clients.{same_or_not, some_same}
 use Rattle.law_kept.proofs.Gaps.{no_gap_at}
@@ -27,7 +27,7 @@ use Rattle.law_kept.proofs.Places.{before_or_here, world_next, take_past, own_ru
 -- ---- the words
 
 -- where the item stands, or how it went
-pub data Account (h : History) (w : World) (item : Item) : Type 0 where
+pub data Account (h : FileHistory) (w : World) (item : Item) : Type 0 where
   ByRow : (client : List ℕ) → RowStands w client item → Account h w item
   ByCopy : (client : List ℕ) → CopyStands w client item → Account h w item
   ByUser : WasReplaced h item → Account h w item
@@ -36,9 +36,9 @@ pub data Account (h : History) (w : World) (item : Item) : Type 0 where
   ByHeir : (other : Item) → WasMet h item other → FileFate h w.file other → Account h w item
 
 -- what becomes of a row that stands for the item, by something that its client does
-data RowGoes (h : History) (file : Option Version) (o : Own) (s : Standing) (item : Item) (x : Act)
-    : Type 0 where
-  RowStays : (row : Row) → (own_after o x).row ≡ Some row
+data RowGoes (h : FileHistory) (file : Option Version) (o : Own) (s : Standing) (item : Item)
+    (x : Act) : Type 0 where
+  RowStays : (row : OwnRow) → (own_after o x).row ≡ Some row
       → (stands_after file s x).row ≡ Some item → RowGoes h file o s item x
   RowLetGo : IsUsers x → RowGoes h file o s item x
   RowSafe : FileFate h file item → RowGoes h file o s item x
@@ -112,7 +112,8 @@ not_not true e = refl
 not_not false e = sym e
 
 -- a row that isn't to be uploaded stands for what has a fate by the file
-safe_if_idle : (h : History) (file : Option Version) (row : Row) (stood : Option Item) (item : Item)
+safe_if_idle : (h : FileHistory) (file : Option Version) (row : OwnRow) (stood : Option Item)
+    (item : Item)
     → stood ≡ Some item → is_idle (Some row) ≡ true → RowStandsFor h file row stood
     → FileFate h file item
 safe_if_idle h file row stood item stands idle r =
@@ -120,7 +121,8 @@ safe_if_idle h file row stood item stands idle r =
     subst (FileFate h file) same (r.idle (not_false row.pending idle))
 
 -- a row that goes without a copy though it is to be uploaded is no note
-no_note_goes : (h : History) (file : Option Version) (row : Row) (stood : Option Item) (item : Item)
+no_note_goes : (h : FileHistory) (file : Option Version) (row : OwnRow) (stood : Option Item)
+    (item : Item)
     → stood ≡ Some item → is_note item ≡ true → row.pending ≡ true
     → is_copied (Some row) None ≡ true → RowStandsFor h file row stood → ⊥
 no_note_goes h file row stood item stands note pending copied r =
@@ -131,8 +133,8 @@ no_note_goes h file row stood item stands note pending copied r =
     false≢true (sym none ∙ is_one)
 
 -- a note that gives way without a copy gives way to its own title and body
-alike_if_met : (h : History) (file : Option Version) (row : Row) (stood : Option Item) (item : Item)
-    (remote : Content)
+alike_if_met : (h : FileHistory) (file : Option Version) (row : OwnRow) (stood : Option Item)
+    (item : Item) (remote : Content)
     → stood ≡ Some item → is_note item ≡ true → row.pending ≡ true
     → is_copied_from (Some row) remote None ≡ true → RowStandsFor h file row stood
     → is_same_note item remote ≡ true
@@ -152,8 +154,8 @@ is_staying Stays = true
 is_staying step = false
 
 -- so it is by each change that the user makes, and by each that leaves the row
-plain_goes : (h : History) (file : Option Version) (o : Own) (s : Standing) (item : Item)
-    (row : Row) (change : ItemChange)
+plain_goes : (h : FileHistory) (file : Option Version) (o : Own) (s : Standing) (item : Item)
+    (row : OwnRow) (change : ItemChange)
     → o.row ≡ Some row → s.row ≡ Some item
     → (is_users change || is_staying (row_step change)) ≡ true
     → RowGoes h file o s item (Changes change)
@@ -168,8 +170,8 @@ plain_goes h file o s item row change there stands plain =
         (ap (λ (step : RowStep). stood_stepped s step) is ∙ stands)
     by false users step is plain = absurd (false≢true plain)
 
-row_goes : (reads : List ℕ → Option Item) (h : History) (file : Option Version) (o : Own)
-    (s : Standing) (item : Item) (row : Row) (x : Act)
+row_goes : (reads : List ℕ → Option Item) (h : FileHistory) (file : Option Version) (o : Own)
+    (s : Standing) (item : Item) (row : OwnRow) (x : Act)
     → o.row ≡ Some row → s.row ≡ Some item → is_note item ≡ true → may_act reads o x ≡ true
     → RowStandsFor h file row s.row → CheckHolds reads h file s o.session
     → RowGoes h file o s item x
@@ -213,11 +215,11 @@ row_goes reads h file o s item row x there stands note may r c = RowStays row th
 
 -- ---- one step more
 
-own_desk : (w : World) (s : Step)
+own_desk : (w : World) (s : FileStep)
     → (happened w s).at s.client ≡ desk_after w.file (w.at s.client) s.act
 own_desk w s = rw (bytes_eq-refl s.client) refl
 
-row_account : (reads : List ℕ → Option Item) (h : History) (place : ℕ) (item : Item)
+row_account : (reads : List ℕ → Option Item) (h : FileHistory) (place : ℕ) (item : Item)
     (t : Turn reads h place)
     → Invariant reads h (world_at h place) → RowStands (world_at h place) t.step.client item
     → RowGoes h (world_at h place).file ((world_at h place).at t.step.client).own
@@ -252,7 +254,7 @@ row_account reads h place item t i s (RowCopied copy has stands) =
       stands = stands;
     })
 
-account_of_row : (reads : List ℕ → Option Item) (h : History) (place : ℕ) (item : Item)
+account_of_row : (reads : List ℕ → Option Item) (h : FileHistory) (place : ℕ) (item : Item)
     (t : Turn reads h place)
     → Invariant reads h (world_at h place) → is_note item ≡ true
     → RowStands (world_at h place) t.step.client item
@@ -264,7 +266,7 @@ account_of_row reads h place item t i note s =
     (row_goes reads h (world_at h place).file d.own d.stands item s.row t.step.act s.there s.stands
     note t.licensed row (i.check t.step.client))
 
-copy_next : (reads : List ℕ → Option Item) (h : History) (place : ℕ) (item : Item)
+copy_next : (reads : List ℕ → Option Item) (h : FileHistory) (place : ℕ) (item : Item)
     (t : Turn reads h place)
     → CopyStands (world_at h place) t.step.client item
     → Account h (happened (world_at h place) t.step) item
@@ -281,7 +283,7 @@ copy_next reads h place item t s =
     ]
 
 -- what a client has isn't changed by what another one does, but for whether its check was crossed
-row_beside : (w : World) (s : Step) (client : List ℕ) (item : Item) → ¬ (s.client ≡ client)
+row_beside : (w : World) (s : FileStep) (client : List ℕ) (item : Item) → ¬ (s.client ≡ client)
     → RowStands w client item → RowStands (happened w s) client item
 row_beside w s client item differ r = record {
   row = r.row;
@@ -289,7 +291,7 @@ row_beside w s client item differ r = record {
   stands = rw (bytes_eq-other s.client client differ) r.stands;
 }
 
-copy_beside : (w : World) (s : Step) (client : List ℕ) (item : Item) → ¬ (s.client ≡ client)
+copy_beside : (w : World) (s : FileStep) (client : List ℕ) (item : Item) → ¬ (s.client ≡ client)
     → CopyStands w client item → CopyStands (happened w s) client item
 copy_beside w s client item differ c = record {
   copy = c.copy;
@@ -297,7 +299,7 @@ copy_beside w s client item differ c = record {
   stands = c.stands;
 }
 
-account_next : (reads : List ℕ → Option Item) (h : History) (place : ℕ) (item : Item)
+account_next : (reads : List ℕ → Option Item) (h : FileHistory) (place : ℕ) (item : Item)
     (t : Turn reads h place)
     → Invariant reads h (world_at h place) → is_note item ≡ true
     → Account h (world_at h place) item → Account h (happened (world_at h place) t.step) item
@@ -321,7 +323,7 @@ account_next reads h place item t i note (ByFile f) = ByFile (fate_next reads h 
 account_next reads h place item t i note (ByHeir other m f) =
     ByHeir other m (fate_next reads h place t other i f)
 
-account_saved : (reads : List ℕ → Option Item) (h : History) (place : ℕ) (item : Item)
+account_saved : (reads : List ℕ → Option Item) (h : FileHistory) (place : ℕ) (item : Item)
     (t : Turn reads h place) → t.step.act ≡ Changes (Saved item)
     → Account h (happened (world_at h place) t.step) item
 account_saved reads h place item t by =
@@ -334,7 +336,8 @@ account_saved reads h place item t by =
 
 -- ---- all places
 
-turn_at : (reads : List ℕ → Option Item) (h : History) (place : ℕ) (s : Step) → IsFair reads h
+turn_at : (reads : List ℕ → Option Item) (h : FileHistory) (place : ℕ) (s : FileStep)
+    → IsFair reads h
     → slice_get h.steps place ≡ Some s → Turn reads h place
 turn_at reads h place s fair here =
     let start : World = opening_world h.opening in
@@ -350,11 +353,11 @@ turn_at reads h place s fair here =
       next = world_next start h.steps place s here;
     }
 
-place_next : (reads : List ℕ → Option Item) (h : History) (P : World → Type 0) (place : ℕ)
+place_next : (reads : List ℕ → Option Item) (h : FileHistory) (P : World → Type 0) (place : ℕ)
     → IsFair reads h → ((t : Turn reads h place) → P (happened (world_at h place) t.step))
     → P (world_at h place) → P (world_at h (suc place))
 place_next reads h P place fair made stays = by (slice_get h.steps place) refl where
-  by : (s : Option Step) → slice_get h.steps place ≡ s → P (world_at h (suc place))
+  by : (s : Option FileStep) → slice_get h.steps place ≡ s → P (world_at h (suc place))
   by None past =
       let same = ap (world_from (opening_world h.opening)) (take_past h.steps place past) in
       subst P (sym same) stays
@@ -367,7 +370,7 @@ readable_at_first : (reads : List ℕ → Option Item) (file : Option Version) �
 readable_at_first reads None as_read = tt
 readable_at_first reads (Some v) as_read = λ none. sym as_read ∙ none
 
-invariant : (reads : List ℕ → Option Item) (h : History) (place : ℕ) → IsFair reads h
+invariant : (reads : List ℕ → Option Item) (h : FileHistory) (place : ℕ) → IsFair reads h
     → Invariant reads h (world_at h place)
 unfolding world_from
 invariant reads h zero fair = record {
@@ -380,7 +383,8 @@ invariant reads h (suc place) fair =
     place_next reads h (Invariant reads h) place fair (λ t. invariant_next reads h place t before)
     before
 
-account_here : (reads : List ℕ → Option Item) (h : History) (saved : ℕ) (item : Item) (place : ℕ)
+account_here : (reads : List ℕ → Option Item) (h : FileHistory) (saved : ℕ) (item : Item)
+    (place : ℕ)
     → IsFair reads h → WasSaved h saved item → saved ≡ place
     → Account h (world_at h (suc place)) item
 unfolding turn_at
@@ -389,7 +393,7 @@ account_here reads h saved item place fair s same =
     let t : Turn reads h place = turn_at reads h place s.step fair here in
     subst (λ (w : World). Account h w item) (sym t.next) (account_saved reads h place item t s.by)
 
-account : (reads : List ℕ → Option Item) (h : History) (saved : ℕ) (item : Item) (place : ℕ)
+account : (reads : List ℕ → Option Item) (h : FileHistory) (saved : ℕ) (item : Item) (place : ℕ)
     → IsFair reads h → WasSaved h saved item → is_note item ≡ true → saved < place
     → Account h (world_at h place) item
 account reads h saved item zero fair s note later = absurd (omega arith)
@@ -404,13 +408,13 @@ account reads h saved item (suc place) fair s note later =
 
 -- ---- the end
 
-fate_of : (h : History) (item : Item) → FileFate h (world_end h).file item → HasFate h item
+fate_of : (h : FileHistory) (item : Item) → FileFate h (world_end h).file item → HasFate h item
 fate_of h item (Stands v there stands) =
     OnStore (record { version = v; there = there; stands = stands })
 fate_of h item (WentOver p) = fates.PutOver p
 fate_of h item (Went d) = fates.Deleted d
 
-kept_by : (h : History) (item : Item) → Account h (world_end h) item
+kept_by : (h : FileHistory) (item : Item) → Account h (world_end h) item
     → (other : Item) × IsHeir h item other × HasFate h other
 kept_by h item (ByRow client s) = (item, inl refl, OnRow client s)
 kept_by h item (ByCopy client s) = (item, inl refl, InConflicts client s)
@@ -419,10 +423,10 @@ kept_by h item (ByClearing f) = (item, inl refl, fates.Cleared f)
 kept_by h item (ByFile f) = (item, inl refl, fate_of h item f)
 kept_by h item (ByHeir other m f) = (other, inr m, fate_of h other f)
 
-pub is_kept : (reads : List ℕ → Option Item) (h : History) → IsFair reads h → IsKept h
+pub is_kept : (reads : List ℕ → Option Item) (h : FileHistory) → IsFair reads h → IsKept h
 is_kept reads h fair place item s note =
     let all : take (length h.steps) h.steps ≡ h.steps = take-length h.steps in
     let within = slice_get_within h.steps place s.step s.here in
     kept_by h item
-    (subst (λ (ss : List Step). Account h (world_from (opening_world h.opening) ss) item) all
+    (subst (λ (ss : List FileStep). Account h (world_from (opening_world h.opening) ss) item) all
     (account reads h place item (length h.steps) fair s note within))

@@ -3,7 +3,7 @@ use Rattle.std.proofs.Common.{◌≡◌, ◌⊎◌, ◌∙◌, refl, sym, inl, i
 use Rattle.std.specs.Prelude.{bytes_eq}
 use Rattle.std.proofs.lemmas.Bool.{false≢true}
 use Rattle.jop_base.proofs.KeyedLaws.{same_text, bytes_eq-refl}
-use Rattle.law_licences.specs.Items.{is_text}
+use Rattle.item_text.specs.Props.{is_text}
 
 pub same_or_not : (a b : List ℕ) → (a ≡ b) ⊎ ¬ (a ≡ b)
 same_or_not a b = by (bytes_eq a b) refl where

@@ -22,7 +22,7 @@ use Rattle.law_licences.specs.Views as views
 use Rattle.law_kept.specs.Acts.{ItemChange, Saved, Removed, Uploaded, Dropped, Taken, Conflict, Moved, Gone, Opened, Version}
 use Rattle.law_kept.specs.Known.{check_known, session_known, tables_known, known}
 use Rattle.law_kept.specs.Licences.{may_act}
-use Rattle.law_kept.specs.Own.{Session, Out, Own, own_after}
+use Rattle.law_kept.specs.Own.{OwnSession, Out, Own, own_after}
 use Rattle.law_kept.specs.Standing.{Standing, stands_changed, stands_after, file_after, without_number}
 use Rattle.law_kept.specs.Telling.{number_if, change_act, item_change, change_told}
 use Rattle.law_kept.proofs.Copies.{copies_less}
@@ -34,7 +34,7 @@ use Rattle.law_kept.proofs.TrueChanges.{Parts, parts_of, parts_beside, uploaded_
 -- ---- known
 
 -- what a change leaves in the tables is what is known of the item then
-pub change_known : (t : Tables) (id : List ℕ) (next : ℕ) (s : Session) (c : Change) → IsOrdered t
+pub change_known : (t : Tables) (id : List ℕ) (next : ℕ) (s : OwnSession) (c : Change) → IsOrdered t
     → tables_known id (after t c) s ≡ own_after (tables_known id t s) (change_told id next c)
 change_known t id next s (tables.Saved i item) o =
     by_id t id i s (λ k. tables.Saved k item) (Saved item)
@@ -189,12 +189,12 @@ change_parts id v t s file c h may = record { row = h.row; copies = h.copies; go
 
 pub true_changed : (id : List ℕ) (v : View) (t : Tables) (s : Standing) (file : Option Version)
     (c : Change) → IsTrue id v t s → MayMake v c → IsAllowed c
-    → IsTrue id (views.changed v c) (after t c)
+    → IsTrue id (views.view_after_change v c) (after t c)
     (stands_after file s (change_told id t.next_conflict c))
 true_changed id v t s file c h may allowed =
     let parts = change_parts id v t s file c h may in
     subst
-    (λ (u : Tables). IsTrue id (views.changed v c) (after t c)
+    (λ (u : Tables). IsTrue id (views.view_after_change v c) (after t c)
     (stands_after file s (change_told id u.next_conflict c)))
     h.same
     (record {

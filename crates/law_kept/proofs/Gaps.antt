@@ -3,9 +3,9 @@ use Rattle.std.proofs.Common.{◌≡◌, ◌<◌, ◌∙◌, refl, ap, sym, subs
 use Rattle.std.specs.Prelude.{take, slice_get}
 use Rattle.std.proofs.lemmas.Bool.{false≢true}
 use Rattle.jop_base.proofs.KeyedLaws.{bytes_eq-refl, bytes_eq-other}
-use Rattle.law_kept.specs.Acts.{Answer, Shown, Missing, Unknown, Act, Begins, Gets, Puts, Deletes, Changes, Ends, Elsewhere, Step, Version}
+use Rattle.law_kept.specs.Acts.{Answer, Shown, Missing, Unknown, Act, Begins, Gets, Puts, Deletes, Changes, Ends, Elsewhere, FileStep, Version}
 use Rattle.law_kept.specs.Gap.{is_touching, does, IsStillBetween, IsCrossed, NoOtherUploadBetween}
-use Rattle.law_kept.specs.Own.{Unchecked, Read, ReadNothing, Wrote, Session, Out, In, session_checked, check_of, check_put}
+use Rattle.law_kept.specs.Own.{Unchecked, Read, ReadNothing, Wrote, OwnSession, Out, In, session_checked, check_of, check_put}
 use Rattle.law_kept.specs.Standing.{Standing, Client, World, stands_beside, desk_after, opening_world, happened, world_from}
 use Rattle.law_kept.proofs.Clients.{same_or_not, some_same}
 use Rattle.law_kept.proofs.Places.{before_or_here, world_next}
@@ -13,7 +13,7 @@ use Rattle.law_kept.proofs.Places.{before_or_here, world_next}
 -- ---- the words
 
 -- the client's last call on the file was a get; whether another client's put landed since
-pub record Checked (ss : List Step) (now : ℕ) (client : List ℕ) (crossed : Bool) : Type 0 where
+pub record Checked (ss : List FileStep) (now : ℕ) (client : List ℕ) (crossed : Bool) : Type 0 where
   pub check : ℕ
   pub answer : Answer
   pub here : slice_get ss check ≡ Some (does client (Gets answer))
@@ -21,7 +21,7 @@ pub record Checked (ss : List Step) (now : ℕ) (client : List ℕ) (crossed : B
   pub still : IsStillBetween ss client check now
   pub cross : crossed ≡ true → IsCrossed ss client check now
 
-abbrev pub Since : List Step → ℕ → List ℕ → Session → Bool → Type 0
+abbrev pub Since : List FileStep → ℕ → List ℕ → OwnSession → Bool → Type 0
 Since ss now client Out crossed = Unit {0}
 Since ss now client (In Unchecked) crossed = Unit {0}
 Since ss now client (In (Read bytes)) crossed = Checked ss now client crossed
@@ -29,7 +29,7 @@ Since ss now client (In ReadNothing) crossed = Checked ss now client crossed
 Since ss now client (In (Wrote bytes)) crossed = Unit {0}
 
 -- a check that is read isn't crossed
-abbrev pub IsUncrossed : Session → Bool → Type 0
+abbrev pub IsUncrossed : OwnSession → Bool → Type 0
 IsUncrossed Out crossed = Unit {0}
 IsUncrossed (In Unchecked) crossed = Unit {0}
 IsUncrossed (In (Read bytes)) crossed = crossed ≡ false
@@ -37,13 +37,13 @@ IsUncrossed (In ReadNothing) crossed = crossed ≡ false
 IsUncrossed (In (Wrote bytes)) crossed = Unit {0}
 
 -- so it is where a put lands
-abbrev pub HasNoGap : Session → Bool → Act → Type 0
+abbrev pub HasNoGap : OwnSession → Bool → Act → Type 0
 HasNoGap session crossed (Puts bytes true heard) = IsUncrossed session crossed
 HasNoGap session crossed act = Unit {0}
 
 -- ---- one step more
 
-later : (ss : List Step) (now : ℕ) (client : List ℕ) (check : ℕ)
+later : (ss : List FileStep) (now : ℕ) (client : List ℕ) (check : ℕ)
     → IsCrossed ss client check now → IsCrossed ss client check (suc now)
 later ss now client check c = record {
   place = c.place;
@@ -56,7 +56,7 @@ later ss now client check c = record {
   before = (let b = c.before in omega arith);
 }
 
-still_next : (ss : List Step) (now : ℕ) (s : Step) (client : List ℕ) (check : ℕ)
+still_next : (ss : List FileStep) (now : ℕ) (s : FileStep) (client : List ℕ) (check : ℕ)
     → slice_get ss now ≡ Some s → (s.client ≡ client → is_touching s.act ≡ false)
     → IsStillBetween ss client check now → IsStillBetween ss client check (suc now)
 still_next ss now s client check here quiet still place t after before there by =
@@ -65,11 +65,11 @@ still_next ss now s client check here quiet still place t after before there by 
       | inr same ↦
           let at_now = subst (λ (k : ℕ). slice_get ss k ≡ Some t) same there in
           let is : s ≡ t = some_same s t (sym here ∙ at_now) in
-          subst (λ (u : Step). is_touching u.act ≡ false) is
-          (quiet (ap (λ (u : Step). u.client) is ∙ by))
+          subst (λ (u : FileStep). is_touching u.act ≡ false) is
+          (quiet (ap (λ (u : FileStep). u.client) is ∙ by))
     ]
 
-checked_next : (ss : List Step) (now : ℕ) (s : Step) (client : List ℕ) (crossed : Bool)
+checked_next : (ss : List FileStep) (now : ℕ) (s : FileStep) (client : List ℕ) (crossed : Bool)
     → slice_get ss now ≡ Some s → (s.client ≡ client → is_touching s.act ≡ false)
     → Checked ss now client crossed → Checked ss (suc now) client crossed
 checked_next ss now s client crossed here quiet c = record {
@@ -82,7 +82,7 @@ checked_next ss now s client crossed here quiet c = record {
 }
 
 -- another client's put lands now
-crossed_next : (ss : List Step) (now : ℕ) (other client bytes : List ℕ) (heard crossed : Bool)
+crossed_next : (ss : List FileStep) (now : ℕ) (other client bytes : List ℕ) (heard crossed : Bool)
     → slice_get ss now ≡ Some (does other (Puts bytes true heard)) → ¬ (other ≡ client)
     → Checked ss now client crossed → Checked ss (suc now) client true
 crossed_next ss now other client bytes heard crossed here differ c = record {
@@ -105,7 +105,7 @@ crossed_next ss now other client bytes heard crossed here differ c = record {
 }
 
 -- the client checks now
-check_now : (ss : List Step) (now : ℕ) (client : List ℕ) (answer : Answer)
+check_now : (ss : List FileStep) (now : ℕ) (client : List ℕ) (answer : Answer)
     → slice_get ss now ≡ Some (does client (Gets answer)) → Checked ss (suc now) client false
 check_now ss now client answer here = record {
   check = now;
@@ -118,7 +118,7 @@ check_now ss now client answer here = record {
 
 -- ---- sessions
 
-since_same : (ss : List Step) (now : ℕ) (s : Step) (client : List ℕ) (session : Session)
+since_same : (ss : List FileStep) (now : ℕ) (s : FileStep) (client : List ℕ) (session : OwnSession)
     (crossed : Bool)
     → slice_get ss now ≡ Some s → (s.client ≡ client → is_touching s.act ≡ false)
     → Since ss now client session crossed → Since ss (suc now) client session crossed
@@ -130,8 +130,8 @@ since_same ss now s client (In ReadNothing) crossed here quiet since =
     checked_next ss now s client crossed here quiet since
 since_same ss now s client (In (Wrote bytes)) crossed here quiet since = tt
 
-since_put : (ss : List Step) (now : ℕ) (other client bytes : List ℕ) (heard : Bool)
-    (session : Session) (crossed : Bool)
+since_put : (ss : List FileStep) (now : ℕ) (other client bytes : List ℕ) (heard : Bool)
+    (session : OwnSession) (crossed : Bool)
     → slice_get ss now ≡ Some (does other (Puts bytes true heard)) → ¬ (other ≡ client)
     → Since ss now client session crossed → Since ss (suc now) client session true
 since_put ss now other client bytes heard Out crossed here differ since = tt
@@ -142,8 +142,8 @@ since_put ss now other client bytes heard (In ReadNothing) crossed here differ s
     crossed_next ss now other client bytes heard crossed here differ since
 since_put ss now other client bytes heard (In (Wrote b)) crossed here differ since = tt
 
-since_beside : (ss : List Step) (now : ℕ) (other client : List ℕ) (x : Act) (session : Session)
-    (s : Standing)
+since_beside : (ss : List FileStep) (now : ℕ) (other client : List ℕ) (x : Act)
+    (session : OwnSession) (s : Standing)
     → slice_get ss now ≡ Some (does other x) → ¬ (other ≡ client)
     → Since ss now client session s.crossed
     → Since ss (suc now) client session (stands_beside s x).crossed
@@ -171,7 +171,8 @@ since_beside ss now other client Elsewhere session s here differ since =
     since_same ss now (does other Elsewhere) client session s.crossed here
     (λ same. absurd (differ same)) since
 
-since_got : (ss : List Step) (now : ℕ) (client : List ℕ) (answer : Answer) (session : Session)
+since_got : (ss : List FileStep) (now : ℕ) (client : List ℕ) (answer : Answer)
+    (session : OwnSession)
     → slice_get ss now ≡ Some (does client (Gets answer))
     → Since ss (suc now) client (session_checked session (check_of answer)) false
 since_got ss now client answer Out here = tt
@@ -179,19 +180,20 @@ since_got ss now client (Shown bytes) (In old) here = check_now ss now client (S
 since_got ss now client Missing (In old) here = check_now ss now client Missing here
 since_got ss now client Unknown (In old) here = tt
 
-since_wrote : (ss : List Step) (now : ℕ) (client bytes : List ℕ) (heard : Bool) (session : Session)
-    (crossed : Bool)
+since_wrote : (ss : List FileStep) (now : ℕ) (client bytes : List ℕ) (heard : Bool)
+    (session : OwnSession) (crossed : Bool)
     → Since ss now client (session_checked session (check_put bytes heard)) crossed
 since_wrote ss now client bytes heard Out crossed = tt
 since_wrote ss now client bytes true (In old) crossed = tt
 since_wrote ss now client bytes false (In old) crossed = tt
 
-since_none : (ss : List Step) (now : ℕ) (client : List ℕ) (session : Session) (crossed : Bool)
+since_none : (ss : List FileStep) (now : ℕ) (client : List ℕ) (session : OwnSession)
+    (crossed : Bool)
     → Since ss now client (session_checked session Unchecked) crossed
 since_none ss now client Out crossed = tt
 since_none ss now client (In old) crossed = tt
 
-since_own : (ss : List Step) (now : ℕ) (client : List ℕ) (file : Option Version) (d : Client)
+since_own : (ss : List FileStep) (now : ℕ) (client : List ℕ) (file : Option Version) (d : Client)
     (x : Act)
     → slice_get ss now ≡ Some (does client x)
     → Since ss now client d.own.session d.stands.crossed
@@ -214,10 +216,10 @@ since_own ss now client file d Elsewhere here since =
 
 -- ---- all steps
 
-abbrev SinceIn : List Step → ℕ → List ℕ → Client → Type 0
+abbrev SinceIn : List FileStep → ℕ → List ℕ → Client → Type 0
 SinceIn ss now client d = Since ss now client d.own.session d.stands.crossed
 
-since_step : (ss : List Step) (now : ℕ) (client : List ℕ) (w : World) (s : Step)
+since_step : (ss : List FileStep) (now : ℕ) (client : List ℕ) (w : World) (s : FileStep)
     → slice_get ss now ≡ Some s → SinceIn ss now client (w.at client)
     → SinceIn ss (suc now) client ((happened w s).at client)
 since_step ss now client w s here since = elim (same_or_not s.client client) [
@@ -232,18 +234,19 @@ since_step ss now client w s here since = elim (same_or_not s.client client) [
       here differ since)
 ]
 
-past_end : (ss : List Step) (place : ℕ) → slice_get ss place ≡ None
+past_end : (ss : List FileStep) (place : ℕ) → slice_get ss place ≡ None
     → slice_get ss (suc place) ≡ None
 past_end [] place past = refl
 past_end (s ∷ ss) zero past = cc
 past_end (s ∷ ss) (suc place) past = past_end ss place past
 
-abbrev site_at : Option Version → List Step → ℕ → List ℕ → Client
+abbrev site_at : Option Version → List FileStep → ℕ → List ℕ → Client
 site_at file ss place client = (world_from (opening_world file) (take place ss)).at client
 
-since_next : (file : Option Version) (ss : List Step) (now : ℕ) (client : List ℕ) (s : Step)
-    (t : Option Step)
-    → ((u : Step) → slice_get ss now ≡ Some u → SinceIn ss now client (site_at file ss now client))
+since_next : (file : Option Version) (ss : List FileStep) (now : ℕ) (client : List ℕ) (s : FileStep)
+    (t : Option FileStep)
+    → ((u : FileStep) → slice_get ss now ≡ Some u → SinceIn ss now client
+    (site_at file ss now client))
     → slice_get ss (suc now) ≡ Some s → slice_get ss now ≡ t
     → SinceIn ss (suc now) client (site_at file ss (suc now) client)
 since_next file ss now client s None before here there =
@@ -256,14 +259,14 @@ since_next file ss now client s (Some t) before here there =
     (since_step ss now client (world_from (opening_world file) (take now ss)) t there
     (before t there))
 
-since : (file : Option Version) (ss : List Step) (now : ℕ) (client : List ℕ) (s : Step)
+since : (file : Option Version) (ss : List FileStep) (now : ℕ) (client : List ℕ) (s : FileStep)
     → slice_get ss now ≡ Some s → SinceIn ss now client (site_at file ss now client)
 unfolding world_from
 since file ss zero client s here = tt
 since file ss (suc now) client s here =
     since_next file ss now client s (slice_get ss now) (since file ss now client) here refl
 
-uncrossed : (ss : List Step) (now : ℕ) (client bytes : List ℕ) (heard crossed : Bool)
+uncrossed : (ss : List FileStep) (now : ℕ) (client bytes : List ℕ) (heard crossed : Bool)
     → slice_get ss now ≡ Some (does client (Puts bytes true heard)) → NoOtherUploadBetween ss
     → Checked ss now client crossed → crossed ≡ false
 uncrossed ss now client bytes heard false here gapless c = refl
@@ -280,8 +283,8 @@ uncrossed ss now client bytes heard true here gapless c = absurd (gapless (recor
   crossed = c.cross refl;
 }))
 
-uncrossed_since : (ss : List Step) (now : ℕ) (client bytes : List ℕ) (heard : Bool)
-    (session : Session) (crossed : Bool)
+uncrossed_since : (ss : List FileStep) (now : ℕ) (client bytes : List ℕ) (heard : Bool)
+    (session : OwnSession) (crossed : Bool)
     → slice_get ss now ≡ Some (does client (Puts bytes true heard)) → NoOtherUploadBetween ss
     → Since ss now client session crossed → IsUncrossed session crossed
 uncrossed_since ss now client bytes heard Out crossed here gapless since = tt
@@ -293,7 +296,7 @@ uncrossed_since ss now client bytes heard (In ReadNothing) crossed here gapless 
 uncrossed_since ss now client bytes heard (In (Wrote b)) crossed here gapless since = tt
 
 -- no client puts after a check that was crossed
-pub no_gap_at : (file : Option Version) (ss : List Step) (now : ℕ) (client : List ℕ) (x : Act)
+pub no_gap_at : (file : Option Version) (ss : List FileStep) (now : ℕ) (client : List ℕ) (x : Act)
     → NoOtherUploadBetween ss → slice_get ss now ≡ Some (does client x)
     → HasNoGap (site_at file ss now client).own.session (site_at file ss now client).stands.crossed
     x

@@ -15,7 +15,7 @@ use Rattle.law_licences.specs.Licences.{Each, MayDo, ObeysData}
 use Rattle.law_licences.specs.Views.{View, seen, at_rest, view_from}
 use Rattle.law_kept.proofs.Clients.{same_or_not}
 use Rattle.law_kept.specs.FairTables.{new_view, ClientObeys, AllObeyData}
-use Rattle.law_kept.specs.Trails.{IsStop, GoesOn, AreStops, EndsIn, OthersObey}
+use Rattle.law_kept.specs.Trails.{IsStop, IsUnstopped, AreStops, EndsInRun, OthersObey}
 
 -- ---- deeds
 
@@ -65,7 +65,8 @@ told_if x change es cs ds true beside goes same =
 told_if x change es cs ds false beside goes same = same
 
 -- what a trail and its changes tell is what was done
-deeds_told : (client : List ℕ) (ss : List TaleStep) → All IsToldStep ss → All (GoesOn client) ss
+deeds_told : (client : List ℕ) (ss : List TaleStep) → All IsToldStep ss
+    → All (IsUnstopped client) ss
     → deeds_of (target.part_of client (plain_steps ss)) (changes_of client ss)
     ≡ deeds_in client ss
 unfolding deeds_of deeds_in changes_of
@@ -73,8 +74,8 @@ deeds_told client [] told goes = refl
 deeds_told client (s ∷ ss) told goes =
     told_if s.step.happens s.change (target.part_of client (plain_steps ss)) (changes_of client ss)
     (deeds_in client ss) (bytes_eq s.step.client client) (All-head IsToldStep s ss told)
-    (All-head (GoesOn client) s ss goes)
-    (deeds_told client ss (All-tail IsToldStep s ss told) (All-tail (GoesOn client) s ss goes))
+    (All-head (IsUnstopped client) s ss goes)
+    (deeds_told client ss (All-tail IsToldStep s ss told) (All-tail (IsUnstopped client) s ss goes))
 
 -- ---- all obey
 
@@ -90,7 +91,7 @@ stops_obey v (Ends ∷ ds) over = absurd over
 
 -- what the client did in the run is what it tells
 run_told : (tale : Tale) (client : List ℕ) (t : Tables) (trail : List Event) (made : List Change)
-    (ends : EndsIn tale client t trail made) → deeds_of trail made ≡ deeds_in client ends.run
+    (ends : EndsInRun tale client t trail made) → deeds_of trail made ≡ deeds_in client ends.run
 run_told tale client t trail made ends =
     let changes = changes_of_run client trail made ends.run ends.told in
     ap (λ (es : List Event). deeds_of es made) (sym ends.told.part)
@@ -99,7 +100,7 @@ run_told tale client t trail made ends =
     ∙ deeds_told client ends.run ends.told.told ends.whole)
 
 client_obeys : (tale : Tale) (client : List ℕ) (t : Tables) (trail : List Event)
-    (made : List Change) → EndsIn tale client t trail made
+    (made : List Change) → EndsInRun tale client t trail made
     → ObeysData (at_rest t) (deeds_of trail made) → ClientObeys tale client
 client_obeys tale client t trail made ends obeys =
     let first = deeds_in client ends.earlier in
@@ -118,7 +119,7 @@ client_obeys tale client t trail made ends obeys =
     subst (λ (ds : List Deed). ObeysData new_view ds) (sym parts) all
 
 pub all_obey_data : (tale : Tale) (client : List ℕ) (t : Tables) (trail : List Event)
-    (made : List Change) → EndsIn tale client t trail made → OthersObey tale client
+    (made : List Change) → EndsInRun tale client t trail made → OthersObey tale client
     → ObeysData (at_rest t) (deeds_of trail made) → AllObeyData tale
 all_obey_data tale client t trail made ends others obeys other = elim (same_or_not other client) [
   | inl same ↦

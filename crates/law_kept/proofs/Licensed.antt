@@ -22,7 +22,7 @@ use Rattle.law_licences.specs.Puts.{MayUpload}
 use Rattle.law_licences.specs.Views.{Heard, View, Stage, Outside, Working, Finished}
 use Rattle.law_kept.specs.Acts.{ItemChange, Taken, Conflict}
 use Rattle.law_kept.specs.Licences.{is_waiting, is_idle, is_copied, is_copied_from, has_read_base, has_read_nothing, has_written, has_read_item, may_change, may_act}
-use Rattle.law_kept.specs.Own.{Row as OwnRow, Wrote, Session, In, Own}
+use Rattle.law_kept.specs.Own.{OwnRow, Wrote, OwnSession, In, Own}
 use Rattle.law_kept.specs.Own as own
 use Rattle.law_kept.proofs.Clients.{some_same}
 use Rattle.law_kept.specs.Telling.{change_act, if_its, number_if}
@@ -58,7 +58,7 @@ got_known v id reply is got =
 
 -- the file is as the client left it
 pub base_read : (id : List ℕ) (base : Option (List ℕ)) (reply : Reply) (row : Option OwnRow)
-    (session : Session)
+    (session : OwnSession)
     → own.row_base row ≡ base → session ≡ In (check_by (Get (Item id)) (Some reply))
     → IsBase base reply
     → (has_read_base session row || has_read_nothing session) ≡ true
@@ -80,7 +80,7 @@ base_read id (Some base) (TooLarge len) row session based is same = absurd same
 
 -- another file was got, and is an item's text
 other_read : (id : List ℕ) (base : Option (List ℕ)) (reply : Reply) (remote : List ℕ × Content)
-    (session : Session)
+    (session : OwnSession)
     → session ≡ In (check_by (Get (Item id)) (Some reply)) → IsOther id base reply (Some remote)
     → has_read_item (item_of_file id) session remote.0 ≡ true
 other_read id base (Got now bytes) remote session is other =

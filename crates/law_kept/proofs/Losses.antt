@@ -2,14 +2,14 @@
 use Rattle.std.proofs.Common.{◌≡◌, ◌⊎◌, ◌∙◌, refl, ap, sym, subst, inl, inr, ℕ, zero, suc, List, [], ◌∷◌, Bool, true, false, Option, Some, None}
 use Rattle.std.specs.Prelude.{take, slice_get, bytes_eq, ◌&&◌, ◌||◌}
 use Rattle.std.proofs.lemmas.Bool.{false≢true, and_parts, and_from, or_parts, or_left, or_right}
+use Rattle.item_text.specs.Props.{is_text}
 use Rattle.item_text.specs.declared.item.Item.{Item}
 use Rattle.jop_base.proofs.KeyedLaws.{bytes_eq-refl, bytes_eq-other}
-use Rattle.law_kept.specs.Acts.{ItemChange, Conflict, Cleared, is_users, Act, Puts, Deletes, Changes, Step, Version, History}
-use Rattle.law_kept.specs.Fates.{Has, FileStands, IsUsers, WasReplaced, WasCleared, WasPutOver, WasDeleted, HasFate, OnRow, OnStore, InConflicts, WasMet, IsLost}
+use Rattle.law_kept.specs.Acts.{ItemChange, Conflict, Cleared, is_users, Act, Puts, Deletes, Changes, FileStep, Version, FileHistory}
+use Rattle.law_kept.specs.Fates.{Has, FileStands, IsUsers, WasReplaced, WasCleared, WasPutOver, ItemWasDeleted, HasFate, OnRow, OnStore, InConflicts, WasMet, IsLost}
 use Rattle.law_kept.specs.Fates as fates
 use Rattle.law_licences.specs.Copies.{is_alike, is_same_note}
-use Rattle.law_licences.specs.Items.{is_text}
-use Rattle.law_kept.specs.Own.{Row, row_base}
+use Rattle.law_kept.specs.Own.{OwnRow, row_base}
 use Rattle.law_kept.specs.Standing.{Copy, Client, World, file_item, opening_world, happened, world_from, world_at, world_end}
 use Rattle.law_kept.specs.Stories.{first_client, second_client}
 use Rattle.law_kept.proofs.Clients.{same_or_not, some_same}
@@ -25,7 +25,7 @@ unfoldable pub is_copied_in : Item → List Copy → Bool
 is_copied_in item [] = false
 is_copied_in item (copy ∷ copies) = is_alike item copy.item || is_copied_in item copies
 
-abbrev pub is_base : Option Row → Option Version → Bool
+abbrev pub is_base : Option OwnRow → Option Version → Bool
 is_base row None = false
 is_base row (Some version) = is_text version.bytes (row_base row)
 
@@ -47,7 +47,7 @@ goes item file d (Puts bytes true heard) = is_it item (file_item file) && is_bas
 goes item file d (Deletes true) = is_it item (file_item file) && d.own.deleted
 goes item file d act = false
 
-unfoldable pub goes_in : Item → World → List Step → Bool
+unfoldable pub goes_in : Item → World → List FileStep → Bool
 goes_in item w [] = false
 goes_in item w (s ∷ ss) = goes item w.file (w.at s.client) s.act || goes_in item (happened w s) ss
 
@@ -59,7 +59,7 @@ abbrev pub is_of_two : List ℕ → Bool
 is_of_two client = bytes_eq client first_client || bytes_eq client second_client
 
 -- whether the two clients do all that is done
-unfoldable pub are_of_two : List Step → Bool
+unfoldable pub are_of_two : List FileStep → Bool
 are_of_two [] = true
 are_of_two (s ∷ ss) = is_of_two s.client && are_of_two ss
 
@@ -86,7 +86,7 @@ users_let_go item file d (Changes change) users is =
     ap (lets_go item d change) users ∙ is
 users_let_go item file d x users is = absurd users
 
-goes_at : (item : Item) (w : World) (ss : List Step) (place : ℕ) (s : Step)
+goes_at : (item : Item) (w : World) (ss : List FileStep) (place : ℕ) (s : FileStep)
     → slice_get ss place ≡ Some s → goes_in item w ss ≡ false
     → goes item (world_from w (take place ss)).file ((world_from w (take place ss)).at s.client)
     s.act ≡ false
@@ -96,25 +96,26 @@ goes_at item w (t ∷ ss) zero s here none =
     let first =
     (or_parts (goes item w.file (w.at t.client) t.act) (goes_in item (happened w t) ss)
     none).0 in
-    subst (λ (u : Step). goes item w.file (w.at u.client) u.act ≡ false) (some_same t s here) first
+    subst (λ (u : FileStep). goes item w.file (w.at u.client) u.act ≡ false)
+    (some_same t s here) first
 goes_at item w (t ∷ ss) (suc place) s here none =
     let rest =
     (or_parts (goes item w.file (w.at t.client) t.act) (goes_in item (happened w t) ss)
     none).1 in
     goes_at item (happened w t) ss place s here rest
 
-abbrev Goes : History → Item → ℕ → Step → Type 0
+abbrev Goes : FileHistory → Item → ℕ → FileStep → Type 0
 Goes h item place s =
     goes item (world_at h place).file ((world_at h place).at s.client) s.act ≡ true
 
-replaced_goes : (h : History) (item : Item) → is_alike item item ≡ true
+replaced_goes : (h : FileHistory) (item : Item) → is_alike item item ≡ true
     → (f : WasReplaced h item) → Goes h item f.place f.step
 replaced_goes h item same f =
     users_let_go item (world_at h f.place).file ((world_at h f.place).at f.step.client) f.step.act
     f.by
     (it_is item ((world_at h f.place).at f.step.client).stands.row same f.stood.stands)
 
-cleared_goes : (h : History) (item : Item) → is_alike item item ≡ true
+cleared_goes : (h : FileHistory) (item : Item) → is_alike item item ≡ true
     → (f : WasCleared h item) → Goes h item f.place f.step
 cleared_goes h item same f =
     rw f.by (has_copied item ((world_at h f.place).at f.step.client).stands.copies f.stood.copy same
@@ -124,7 +125,7 @@ file_is : (item : Item) (w : World) → is_alike item item ≡ true → FileStan
     → is_it item (file_item w.file) ≡ true
 file_is item w same f = rw f.there (it_is item f.version.item same f.stands)
 
-put_over_goes : (h : History) (item : Item) → is_alike item item ≡ true
+put_over_goes : (h : FileHistory) (item : Item) → is_alike item item ≡ true
     → (f : WasPutOver h item) → Goes h item f.place f.step
 put_over_goes h item same f =
     let w : World = world_at h f.place in
@@ -132,14 +133,14 @@ put_over_goes h item same f =
     (file_is item w same f.stood)
     (rw f.stood.there (rw f.based (bytes_eq-refl f.stood.version.bytes))))
 
-deleted_goes : (h : History) (item : Item) → is_alike item item ≡ true
-    → (f : WasDeleted h item) → Goes h item f.place f.step
+deleted_goes : (h : FileHistory) (item : Item) → is_alike item item ≡ true
+    → (f : ItemWasDeleted h item) → Goes h item f.place f.step
 deleted_goes h item same f =
     let w : World = world_at h f.place in
     rw f.by (and_from (is_it item (file_item w.file)) (w.at f.step.client).own.deleted
     (file_is item w same f.stood) f.recorded)
 
-met_goes : (h : History) (item other : Item) → is_alike item item ≡ true
+met_goes : (h : FileHistory) (item other : Item) → is_alike item item ≡ true
     → (f : WasMet h item other) → Goes h item f.place f.step
 met_goes h item other same f =
     let d : Client = (world_at h f.place).at f.step.client in
@@ -148,7 +149,7 @@ met_goes h item other same f =
 
 -- ---- the others have nothing
 
-idle_step : (w : World) (s : Step) (client : List ℕ) → ¬ (s.client ≡ client) → (item : Item)
+idle_step : (w : World) (s : FileStep) (client : List ℕ) → ¬ (s.client ≡ client) → (item : Item)
     → has_it item ((happened w s).at client) ≡ has_it item (w.at client)
 idle_step w s client differ item = rw (bytes_eq-other s.client client differ) refl
 
@@ -156,7 +157,8 @@ apart_from : (client other : List ℕ) → is_of_two client ≡ true → is_of_t
     → ¬ (client ≡ other)
 apart_from client other is isnt same = false≢true (sym isnt ∙ (ap is_of_two (sym same) ∙ is))
 
-others_have : (w : World) (ss : List Step) (client : List ℕ) (item : Item) → are_of_two ss ≡ true
+others_have : (w : World) (ss : List FileStep) (client : List ℕ) (item : Item)
+    → are_of_two ss ≡ true
     → is_of_two client ≡ false → has_it item ((world_from w ss).at client)
     ≡ has_it item (w.at client)
 unfolding are_of_two world_from
@@ -179,7 +181,7 @@ two_or_not client = elim (same_or_not client first_client) [
 ]
 
 -- the item stands nowhere at the end, and nobody let it go
-pub record SeemsLost (h : History) (item : Item) : Type 0 where
+pub record SeemsLost (h : FileHistory) (item : Item) : Type 0 where
   pub same : is_alike item item ≡ true
   pub by_two : are_of_two h.steps ≡ true
   pub never : goes_in item (opening_world h.opening) h.steps ≡ false
@@ -187,7 +189,7 @@ pub record SeemsLost (h : History) (item : Item) : Type 0 where
   pub first : has_it item ((world_end h).at first_client) ≡ false
   pub second : has_it item ((world_end h).at second_client) ≡ false
 
-has_nothing : (h : History) (item : Item) → SeemsLost h item → (client : List ℕ)
+has_nothing : (h : FileHistory) (item : Item) → SeemsLost h item → (client : List ℕ)
     → has_it item ((world_end h).at client) ≡ false
 unfolding is_copied_in
 has_nothing h item lost client = elim (two_or_not client) [
@@ -201,13 +203,13 @@ has_nothing h item lost client = elim (two_or_not client) [
 contrary : (b : Bool) → b ≡ true → b ≡ false → ⊥
 contrary b is isnt = false≢true (sym isnt ∙ is)
 
-never_goes : (h : History) (item : Item) (place : ℕ) (s : Step) → SeemsLost h item
+never_goes : (h : FileHistory) (item : Item) (place : ℕ) (s : FileStep) → SeemsLost h item
     → slice_get h.steps place ≡ Some s → Goes h item place s → ⊥
 never_goes h item place s lost here is =
     contrary (goes item (world_at h place).file ((world_at h place).at s.client) s.act) is
     (goes_at item (opening_world h.opening) h.steps place s here lost.never)
 
-no_fate : (h : History) (item : Item) → SeemsLost h item → HasFate h item → ⊥
+no_fate : (h : FileHistory) (item : Item) → SeemsLost h item → HasFate h item → ⊥
 no_fate h item lost (OnRow client r) =
     let d : Client = (world_end h).at client in
     let none =
@@ -233,7 +235,7 @@ no_fate h item lost (fates.PutOver f) =
 no_fate h item lost (fates.Deleted f) =
     never_goes h item f.place f.step lost f.here (deleted_goes h item lost.same f)
 
-pub is_lost : (h : History) (item : Item) → SeemsLost h item → IsLost h item
+pub is_lost : (h : FileHistory) (item : Item) → SeemsLost h item → IsLost h item
 is_lost h item lost other (inl is) fate = no_fate h item lost (subst (HasFate h) is fate)
 is_lost h item lost other (inr met) fate =
     never_goes h item met.place met.step lost met.here (met_goes h item other lost.same met)

@@ -4,7 +4,7 @@ use Rattle.std.specs.Prelude.{bytes_eq}
 use Rattle.std.proofs.lemmas.Bool.{and_from}
 use Rattle.item_text.specs.declared.item.Item.{Item}
 use Rattle.jop_base.proofs.KeyedLaws.{same_text}
-use Rattle.law_kept.specs.Acts.{Act, Step, History}
+use Rattle.law_kept.specs.Acts.{Act, FileStep, FileHistory}
 use Rattle.law_kept.specs.Fair.{AllObey}
 use Rattle.law_kept.specs.Licences.{may_act, obeys}
 use Rattle.law_kept.specs.Own.{own_after, acts_by}
@@ -25,7 +25,8 @@ obeys_first reads w client act whole true may rest =
     (may refl) rest
 obeys_first reads w client act whole false may rest = rest
 
-obeys_if : (reads : List ℕ → Option Item) (place : ℕ) (w : World) (ss : List Step) (client : List ℕ)
+obeys_if : (reads : List ℕ → Option Item) (place : ℕ) (w : World) (ss : List FileStep)
+    (client : List ℕ)
     → refused_from reads place w ss ≡ [] → obeys reads (w.at client).own (acts_by client ss) ≡ true
 unfolding refused_from obeys acts_by
 obeys_if reads place w [] client none = refl
@@ -47,6 +48,6 @@ obeys_if reads place w (s ∷ ss) client none =
         (later rest)
     by false may rest later = cc
 
-pub all_obey : (reads : List ℕ → Option Item) (h : History) → refused_places reads h ≡ []
+pub all_obey : (reads : List ℕ → Option Item) (h : FileHistory) → refused_places reads h ≡ []
     → AllObey reads h.steps
 all_obey reads h none client = obeys_if reads 0 (opening_world h.opening) h.steps client none

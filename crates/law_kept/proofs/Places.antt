@@ -4,7 +4,7 @@ use Rattle.std.specs.Prelude.{take, slice_get, bytes_eq}
 use Rattle.std.proofs.lemmas.Bool.{false≢true, and_parts}
 use Rattle.item_text.specs.declared.item.Item.{Item}
 use Rattle.jop_base.proofs.KeyedLaws.{bytes_eq-refl}
-use Rattle.law_kept.specs.Acts.{Act, Begins, Gets, Puts, Deletes, Changes, Ends, Elsewhere, Step, Version}
+use Rattle.law_kept.specs.Acts.{Act, Begins, Gets, Puts, Deletes, Changes, Ends, Elsewhere, FileStep, Version}
 use Rattle.law_kept.specs.Fair.{file_bytes}
 use Rattle.law_kept.specs.Honest.{bytes_after, is_honest, is_honest_from}
 use Rattle.law_kept.specs.Licences.{may_act, obeys}
@@ -14,23 +14,24 @@ use Rattle.law_kept.proofs.Clients.{some_same}
 
 -- ---- the world
 
-pub world_next : (w : World) (ss : List Step) (place : ℕ) (s : Step) → slice_get ss place ≡ Some s
+pub world_next : (w : World) (ss : List FileStep) (place : ℕ) (s : FileStep)
+    → slice_get ss place ≡ Some s
     → world_from w (take (suc place) ss) ≡ happened (world_from w (take place ss)) s
 unfolding world_from
 world_next w [] place s here = cc
 world_next w (t ∷ ss) zero s here = ap (happened w) (some_same t s here)
 world_next w (t ∷ ss) (suc place) s here = world_next (happened w t) ss place s here
 
-pub take_past : (ss : List Step) (place : ℕ) → slice_get ss place ≡ None
+pub take_past : (ss : List FileStep) (place : ℕ) → slice_get ss place ≡ None
     → take (suc place) ss ≡ take place ss
 take_past [] zero past = refl
 take_past [] (suc place) past = refl
 take_past (s ∷ ss) zero past = cc
-take_past (s ∷ ss) (suc place) past = ap (λ (l : List Step). s ∷ l) (take_past ss place past)
+take_past (s ∷ ss) (suc place) past = ap (λ (l : List FileStep). s ∷ l) (take_past ss place past)
 
 -- ---- what a client knows is what it knows by its own part
 
-own_step : (w : World) (client : List ℕ) (s : Step) (ss : List Step) (mine : Bool)
+own_step : (w : World) (client : List ℕ) (s : FileStep) (ss : List FileStep) (mine : Bool)
     → own_from
     (cond mine (desk_after w.file (w.at client) s.act) (desk_beside (w.at client) s.act)).own
     (acts_by client ss)
@@ -39,7 +40,7 @@ unfolding own_from
 own_step w client s ss true = refl
 own_step w client s ss false = refl
 
-pub own_run : (w : World) (client : List ℕ) (ss : List Step)
+pub own_run : (w : World) (client : List ℕ) (ss : List FileStep)
     → ((world_from w ss).at client).own ≡ own_from (w.at client).own (acts_by client ss)
 unfolding world_from own_from acts_by
 own_run w client [] = refl
@@ -65,21 +66,22 @@ may_if_first reads o act whole true is all =
     (and_parts (may_act reads o act) (obeys reads (own_after o act) whole) all).0
 may_if_first reads o act whole false is all = absurd (false≢true is)
 
-obeys_here : (reads : List ℕ → Option Item) (o : Own) (s : Step) (ss : List Step)
+obeys_here : (reads : List ℕ → Option Item) (o : Own) (s : FileStep) (ss : List FileStep)
     → obeys reads o (acts_by s.client (s ∷ ss)) ≡ true → may_act reads o s.act ≡ true
 unfolding acts_by
 obeys_here reads o s ss all =
     may_if_first reads o s.act (acts_by s.client ss) (bytes_eq s.client s.client)
     (bytes_eq-refl s.client) all
 
-pub obeys_at : (reads : List ℕ → Option Item) (o : Own) (ss : List Step) (place : ℕ) (s : Step)
+pub obeys_at : (reads : List ℕ → Option Item) (o : Own) (ss : List FileStep) (place : ℕ)
+    (s : FileStep)
     → slice_get ss place ≡ Some s → obeys reads o (acts_by s.client ss) ≡ true
     → may_act reads (own_from o (acts_by s.client (take place ss))) s.act ≡ true
 unfolding own_from acts_by
 obeys_at reads o [] place s here all = cc
 obeys_at reads o (t ∷ ss) zero s here all =
     obeys_here reads o s ss
-    (subst (λ (u : Step). obeys reads o (acts_by s.client (u ∷ ss)) ≡ true) (some_same t s here)
+    (subst (λ (u : FileStep). obeys reads o (acts_by s.client (u ∷ ss)) ≡ true) (some_same t s here)
     all)
 obeys_at reads o (t ∷ ss) (suc place) s here all =
     obeys_later reads o t.act (acts_by s.client ss) (acts_by s.client (take place ss)) s.act
@@ -99,7 +101,8 @@ file_bytes-file_after stood file (Changes change) = refl
 file_bytes-file_after stood file Ends = refl
 file_bytes-file_after stood file Elsewhere = refl
 
-pub honest_at : (w : World) (ss : List Step) (place : ℕ) (s : Step) → slice_get ss place ≡ Some s
+pub honest_at : (w : World) (ss : List FileStep) (place : ℕ) (s : FileStep)
+    → slice_get ss place ≡ Some s
     → is_honest_from (file_bytes w.file) ss ≡ true
     → is_honest (file_bytes (world_from w (take place ss)).file) s.act ≡ true
 unfolding world_from is_honest_from
@@ -108,7 +111,7 @@ honest_at w (t ∷ ss) zero s here all =
     let first =
     (and_parts (is_honest (file_bytes w.file) t.act)
     (is_honest_from (bytes_after (file_bytes w.file) t.act) ss) all).0 in
-    subst (λ (u : Step). is_honest (file_bytes w.file) u.act ≡ true) (some_same t s here) first
+    subst (λ (u : FileStep). is_honest (file_bytes w.file) u.act ≡ true) (some_same t s here) first
 honest_at w (t ∷ ss) (suc place) s here all =
     let rest =
     (and_parts (is_honest (file_bytes w.file) t.act)

@@ -6,19 +6,20 @@ use Rattle.item_text.specs.declared.item.Item.{Item}
 use Rattle.local_store.specs.declared.content.Content.{Content}
 use Rattle.local_store.specs.declared.content.Content.TheVariants.{Plain}
 use Rattle.jop_base.proofs.KeyedLaws.{same_text}
-use Rattle.law_kept.specs.Acts.{ItemChange, Saved, Uploaded, Taken, Conflict, Opened, RowStep, Stays, Saves, Sends, Reads, Meets, Unseals, Goes, row_step, Act, Begins, Gets, Puts, Deletes, Changes, Ends, Elsewhere, Version, History}
+use Rattle.law_kept.specs.Acts.{ItemChange, Saved, Uploaded, Taken, Conflict, Opened, RowStep, Stays, Saves, Sends, Reads, Meets, Unseals, Goes, row_step, Act, Begins, Gets, Puts, Deletes, Changes, Ends, Elsewhere, Version, FileHistory}
 use Rattle.law_kept.specs.Licences.{is_waiting, is_idle, is_outside, is_sealed_row, is_copied_from, has_written, has_read_item, may_change, may_act}
-use Rattle.law_kept.specs.Own.{Row, Unchecked, Read, ReadNothing, Wrote, Session, Out, In, Own, row_sent, met, row_unsealed, row_stepped, own_after}
+use Rattle.law_kept.specs.Own.{OwnRow, Unchecked, Read, ReadNothing, Wrote, OwnSession, Out, In, Own, row_sent, met, row_unsealed, row_stepped, own_after}
 use Rattle.law_kept.specs.Standing.{Standing, version_put, file_after, stood_stepped, stands_after}
 use Rattle.law_kept.proofs.FileFates.{FileFate, RowStandsFor, RowHolds, ReadHolds, CheckHolds}
 
 -- ---- rows
 
 -- each fate by the file lasts
-abbrev pub Keeps : History → Option Version → Option Version → Type 0
+abbrev pub Keeps : FileHistory → Option Version → Option Version → Type 0
 Keeps h old new = (item : Item) → FileFate h old item → FileFate h new item
 
-pub row_keeps : (h : History) (old new : Option Version) (row : Option Row) (stood : Option Item)
+pub row_keeps : (h : FileHistory) (old new : Option Version) (row : Option OwnRow)
+    (stood : Option Item)
     → Keeps h old new → RowHolds h old row stood → RowHolds h new row stood
 row_keeps h old new None stood keeps r = tt
 row_keeps h old new (Some row) stood keeps r = record {
@@ -29,12 +30,13 @@ row_keeps h old new (Some row) stood keeps r = record {
 }
 
 -- what a check got, if it was a text of the item
-pub record GotItem (h : History) (file : Option Version) (got : Option Item) : Type 0 where
+pub record GotItem (h : FileHistory) (file : Option Version) (got : Option Item) : Type 0 where
   pub item : Item
   pub stands : got ≡ Some item
   pub fate : FileFate h file item
 
-read_item : (reads : List ℕ → Option Item) (h : History) (file : Option Version) (got : Option Item)
+read_item : (reads : List ℕ → Option Item) (h : FileHistory) (file : Option Version)
+    (got : Option Item)
     (crossed : Bool) (found bytes : List ℕ)
     → ReadHolds reads h file got crossed found → bytes_eq found bytes ≡ true
     → is_some (reads bytes) ≡ true → GotItem h file got
@@ -46,8 +48,8 @@ read_item reads h file None crossed found bytes read is some =
 read_item reads h file (Some item) crossed found bytes read is some =
     record { item = item; stands = refl; fate = read.safe item refl }
 
-pub got_item : (reads : List ℕ → Option Item) (h : History) (file : Option Version) (s : Standing)
-    (session : Session) (bytes : List ℕ)
+pub got_item : (reads : List ℕ → Option Item) (h : FileHistory) (file : Option Version)
+    (s : Standing) (session : OwnSession) (bytes : List ℕ)
     → has_read_item reads session bytes ≡ true → CheckHolds reads h file s session
     → GotItem h file s.got
 got_item reads h file s Out bytes may check = absurd (false≢true may)
@@ -59,7 +61,7 @@ got_item reads h file s (In (Read found)) bytes may check =
     read_item reads h file s.got s.crossed found bytes check both.0 both.1
 
 -- the row that was taken stands for what was got
-row_taken : (h : History) (file : Option Version) (bytes : List ℕ) (content : Content)
+row_taken : (h : FileHistory) (file : Option Version) (bytes : List ℕ) (content : Content)
     (got : Option Item)
     → GotItem h file got
     → RowStandsFor h file (record { content = content; base = Some bytes; pending = false }) got
@@ -67,12 +69,13 @@ row_taken h file bytes content got g =
     record
     { item = g.item; stands = g.stands; idle = λ e. g.fate; due = λ e. absurd (false≢true e) }
 
-row_met : (h : History) (file : Option Version) (remote : List ℕ × Content) (row : Option Row)
+row_met : (h : FileHistory) (file : Option Version) (remote : List ℕ × Content)
+    (row : Option OwnRow)
     (got : Option Item) → GotItem h file got → RowHolds h file (met remote row) got
 row_met h file remote None got g = tt
 row_met h file remote (Some row) got g = row_taken h file remote.0 remote.1 got g
 
-row_uploaded : (h : History) (file : Option Version) (bytes : List ℕ) (row : Option Row)
+row_uploaded : (h : FileHistory) (file : Option Version) (bytes : List ℕ) (row : Option OwnRow)
     (stood : Option Item) → ((item : Item) → stood ≡ Some item → FileFate h file item)
     → RowHolds h file row stood → RowHolds h file (row_sent bytes row) stood
 row_uploaded h file bytes None stood fate r = tt
@@ -83,7 +86,7 @@ row_uploaded h file bytes (Some row) stood fate r = record {
   due = λ e. absurd (false≢true e);
 }
 
-row_opened : (h : History) (file : Option Version) (item : Item) (row : Option Row)
+row_opened : (h : FileHistory) (file : Option Version) (item : Item) (row : Option OwnRow)
     (stood : Option Item) → is_sealed_row row ≡ true → RowHolds h file row stood
     → RowHolds h file (row_unsealed item row) stood
 row_opened h file item None stood sealed r = tt
@@ -96,8 +99,8 @@ row_opened h file item (Some row) stood sealed r = record {
 }
 
 -- a check that heard of its put
-wrote_fate : (reads : List ℕ → Option Item) (h : History) (file : Option Version) (s : Standing)
-    (session : Session) (bytes : List ℕ)
+wrote_fate : (reads : List ℕ → Option Item) (h : FileHistory) (file : Option Version) (s : Standing)
+    (session : OwnSession) (bytes : List ℕ)
     → has_written session bytes ≡ true → CheckHolds reads h file s session
     → (item : Item) → s.row ≡ Some item → FileFate h file item
 wrote_fate reads h file s Out bytes may check = absurd (false≢true may)
@@ -136,7 +139,7 @@ step_may reads o (Conflict (Some remote) copied) may = conflict_read reads o rem
 step_may reads o (Opened item) may = may
 step_may reads o change may = tt
 
-row_after_step : (reads : List ℕ → Option Item) (h : History) (file : Option Version) (o : Own)
+row_after_step : (reads : List ℕ → Option Item) (h : FileHistory) (file : Option Version) (o : Own)
     (s : Standing) (step : RowStep)
     → MayStep reads o step → RowHolds h file o.row s.row
     → CheckHolds reads h file s o.session
@@ -153,7 +156,7 @@ row_after_step reads h file o s (Meets remote) may r c =
 row_after_step reads h file o s (Unseals item) may r c = row_opened h file item o.row s.row may r
 row_after_step reads h file o s Goes may r c = tt
 
-pub row_own : (reads : List ℕ → Option Item) (h : History) (file : Option Version) (o : Own)
+pub row_own : (reads : List ℕ → Option Item) (h : FileHistory) (file : Option Version) (o : Own)
     (s : Standing) (x : Act)
     → may_act reads o x ≡ true → Keeps h file (file_after s.row file x)
     → RowHolds h file o.row s.row → CheckHolds reads h file s o.session

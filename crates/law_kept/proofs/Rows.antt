@@ -6,7 +6,7 @@ use Rattle.jop_base.proofs.KeyedLaws.{same_text, at-put_same, at-put_other, at-c
 use Rattle.item_text.specs.declared.item.Item.{Item}
 use Rattle.local_store.specs.Changing.{after, with_row, without_row, uploaded, noted_if, with_remote, conflicted, opened}
 use Rattle.local_store.specs.Rows.{row_id, deletion_id, item_of}
-use Rattle.local_store.specs.Tables.{row_at, deletion_at, base_of, is_synced, is_resource}
+use Rattle.local_store.specs.Tables.{row_at, deletion_at, base_of, is_synced, is_resource_row}
 use Rattle.local_store.specs.declared.change.Change.{Change}
 use Rattle.local_store.specs.declared.change.Change.TheVariants as tables
 use Rattle.local_store.specs.declared.content.Content.{Content}
@@ -14,7 +14,7 @@ use Rattle.local_store.specs.declared.content.Content.TheVariants.{Plain}
 use Rattle.local_store.specs.declared.row.Row.{Row}
 use Rattle.local_store.specs.declared.tables.Tables.{Tables}
 use Rattle.law_kept.specs.Acts.{ItemChange, Removed, Dropped, Conflict}
-use Rattle.law_kept.specs.Own.{Row as OwnRow, Session, Own, own_changed, own_after}
+use Rattle.law_kept.specs.Own.{OwnRow, OwnSession, Own, own_changed, own_after}
 use Rattle.law_kept.specs.Own as own
 use Rattle.law_kept.specs.Telling.{change_act, if_its}
 use Rattle.law_kept.specs.Known.{row_known, tables_known}
@@ -52,29 +52,29 @@ synced_known (Some r) = refl
 abbrev pub row_set : Own → Option OwnRow → Own
 row_set o row = record o { row = row }
 
-pub put_known : (t : Tables) (r : Row) (id : List ℕ) (s : Session) → r.id ≡ id
+pub put_known : (t : Tables) (r : Row) (id : List ℕ) (s : OwnSession) → r.id ≡ id
     → tables_known id (with_row t r) s ≡ row_set (tables_known id t s) (row_known (Some r))
 put_known t r id s same =
     ap (λ (row : Option Row). row_set (tables_known id t s) (row_known row)) (with_own t r id same)
 
-pub put_beside : (t : Tables) (r : Row) (id : List ℕ) (s : Session) → bytes_eq r.id id ≡ false
+pub put_beside : (t : Tables) (r : Row) (id : List ℕ) (s : OwnSession) → bytes_eq r.id id ≡ false
     → tables_known id (with_row t r) s ≡ tables_known id t s
 put_beside t r id s differ =
     ap (λ (row : Option Row). row_set (tables_known id t s) (row_known row))
     (with_other t r id differ)
 
-pub cut_known : (t : Tables) (id : List ℕ) (s : Session) → IsOrdered t
+pub cut_known : (t : Tables) (id : List ℕ) (s : OwnSession) → IsOrdered t
     → tables_known id (without_row t id) s ≡ row_set (tables_known id t s) None
 cut_known t id s o =
     ap (λ (row : Option Row). row_set (tables_known id t s) (row_known row)) (without_own t id o)
 
-pub cut_beside : (t : Tables) (i id : List ℕ) (s : Session) → bytes_eq i id ≡ false
+pub cut_beside : (t : Tables) (i id : List ℕ) (s : OwnSession) → bytes_eq i id ≡ false
     → tables_known id (without_row t i) s ≡ tables_known id t s
 cut_beside t i id s differ =
     ap (λ (row : Option Row). row_set (tables_known id t s) (row_known row))
     (without_other t i id differ)
 
-pub uploaded_known : (t : Tables) (id bytes : List ℕ) (s : Session) (row : Option Row)
+pub uploaded_known : (t : Tables) (id bytes : List ℕ) (s : OwnSession) (row : Option Row)
     → row_at t id ≡ row
     → tables_known id (uploaded t id bytes row) s
     ≡ row_set (tables_known id t s) (own.row_sent bytes (row_known row))
@@ -82,13 +82,13 @@ uploaded_known t id bytes s None is = rw is refl
 uploaded_known t id bytes s (Some r) is = put_known t
     (record { id = id; content = r.content; base = Some bytes; pending = false }) id s refl
 
-pub uploaded_beside : (t : Tables) (i bytes id : List ℕ) (s : Session) (row : Option Row)
+pub uploaded_beside : (t : Tables) (i bytes id : List ℕ) (s : OwnSession) (row : Option Row)
     → bytes_eq i id ≡ false → tables_known id (uploaded t i bytes row) s ≡ tables_known id t s
 uploaded_beside t i bytes id s None differ = refl
 uploaded_beside t i bytes id s (Some r) differ = put_beside t
     (record { id = i; content = r.content; base = Some bytes; pending = false }) id s differ
 
-pub opened_known : (t : Tables) (id : List ℕ) (item : Item) (s : Session) (row : Option Row)
+pub opened_known : (t : Tables) (id : List ℕ) (item : Item) (s : OwnSession) (row : Option Row)
     → row_at t id ≡ row
     → tables_known id (opened t id item row) s
     ≡ row_set (tables_known id t s) (own.row_unsealed item (row_known row))
@@ -96,7 +96,7 @@ opened_known t id item s None is = rw is refl
 opened_known t id item s (Some r) is = put_known t
     (record { id = id; content = Plain item; base = r.base; pending = r.pending }) id s refl
 
-pub opened_beside : (t : Tables) (i : List ℕ) (item : Item) (id : List ℕ) (s : Session)
+pub opened_beside : (t : Tables) (i : List ℕ) (item : Item) (id : List ℕ) (s : OwnSession)
     (row : Option Row)
     → bytes_eq i id ≡ false → tables_known id (opened t i item row) s ≡ tables_known id t s
 opened_beside t i item id s None differ = refl
@@ -104,7 +104,7 @@ opened_beside t i item id s (Some r) differ = put_beside t
     (record { id = i; content = Plain item; base = r.base; pending = r.pending }) id s differ
 
 -- the row that gives way, and is there
-remote_known : (t : Tables) (id : List ℕ) (remote : Option (List ℕ × Content)) (s : Session)
+remote_known : (t : Tables) (id : List ℕ) (remote : Option (List ℕ × Content)) (s : OwnSession)
     (r : OwnRow) (copied : Option ℕ) → IsOrdered t
     → tables_known id (with_remote t id remote) s
     ≡ row_set (tables_known id t s) (own.row_changed (Some r) (Conflict remote copied))
@@ -113,14 +113,14 @@ remote_known t id (Some remote) s r copied o = put_known t
     (record { id = id; content = remote.1; base = Some remote.0; pending = false }) id s refl
 
 remote_beside : (t : Tables) (i : List ℕ) (remote : Option (List ℕ × Content)) (id : List ℕ)
-    (s : Session)
+    (s : OwnSession)
     → bytes_eq i id ≡ false → tables_known id (with_remote t i remote) s ≡ tables_known id t s
 remote_beside t i None id s differ = cut_beside t i id s differ
 remote_beside t i (Some remote) id s differ = put_beside t
     (record { id = i; content = remote.1; base = Some remote.0; pending = false }) id s differ
 
 pub conflicted_known : (t : Tables) (id : List ℕ) (remote : Option (List ℕ × Content)) (copies : Bool)
-    (copied : Option ℕ) (s : Session) (row : Option Row)
+    (copied : Option ℕ) (s : OwnSession) (row : Option Row)
     → row_at t id ≡ row → IsOrdered t
     → tables_known id (conflicted t id remote copies row) s
     ≡ row_set (tables_known id t s) (own.row_changed (row_known row) (Conflict remote copied))
@@ -136,7 +136,7 @@ conflicted_known t id remote false copied s (Some r) is o =
     (record { content = r.content; base = r.base; pending = r.pending }) copied o
 
 pub conflicted_beside : (t : Tables) (i : List ℕ) (remote : Option (List ℕ × Content)) (copies : Bool)
-    (id : List ℕ) (s : Session) (row : Option Row)
+    (id : List ℕ) (s : OwnSession) (row : Option Row)
     → bytes_eq i id ≡ false
     → tables_known id (conflicted t i remote copies row) s ≡ tables_known id t s
 conflicted_beside t i remote copies id s None differ = refl
@@ -165,35 +165,36 @@ deletions_beside t i id resource true differ =
     at-put_other deletion_id t.deletions (record { id = i; resource = resource }) id differ
 deletions_beside t i id resource false differ = refl
 
-pub removed_known : (t : Tables) (id : List ℕ) (s : Session) → IsOrdered t
+pub removed_known : (t : Tables) (id : List ℕ) (s : OwnSession) → IsOrdered t
     → tables_known id (after t (tables.Removed id)) s ≡ own_changed (tables_known id t s) Removed
 removed_known t id s o =
     rw (
       without_own t id o,
-      deletions_known t id (is_resource (row_at t id)) (is_synced (row_at t id)),
+      deletions_known t id (is_resource_row (row_at t id)) (is_synced (row_at t id)),
       synced_known (row_at t id),
     ) refl
 
-pub removed_beside : (t : Tables) (i id : List ℕ) (s : Session) → bytes_eq i id ≡ false
+pub removed_beside : (t : Tables) (i id : List ℕ) (s : OwnSession) → bytes_eq i id ≡ false
     → tables_known id (after t (tables.Removed i)) s ≡ tables_known id t s
 removed_beside t i id s differ =
     rw (
       without_other t i id differ,
-      deletions_beside t i id (is_resource (row_at t i)) (is_synced (row_at t i)) differ,
+      deletions_beside t i id (is_resource_row (row_at t i)) (is_synced (row_at t i)) differ,
     ) refl
 
-pub dropped_known : (t : Tables) (id : List ℕ) (s : Session) → IsOrdered t
+pub dropped_known : (t : Tables) (id : List ℕ) (s : OwnSession) → IsOrdered t
     → tables_known id (after t (tables.Dropped id)) s ≡ own_changed (tables_known id t s) Dropped
 dropped_known t id s o = rw (at-cut deletion_id t.deletions id o.deletions) refl
 
-pub dropped_beside : (t : Tables) (i id : List ℕ) (s : Session) → bytes_eq i id ≡ false
+pub dropped_beside : (t : Tables) (i id : List ℕ) (s : OwnSession) → bytes_eq i id ≡ false
     → tables_known id (after t (tables.Dropped i)) s ≡ tables_known id t s
 dropped_beside t i id s differ = rw (at-cut_other deletion_id t.deletions i id differ) refl
 
 -- ---- any change of one item
 
 -- a change of the item's own row, or of another one's
-pub by_id : (t : Tables) (id i : List ℕ) (s : Session) (change : List ℕ → Change) (its : ItemChange)
+pub by_id : (t : Tables) (id i : List ℕ) (s : OwnSession) (change : List ℕ → Change)
+    (its : ItemChange)
     → tables_known id (after t (change id)) s ≡ own_changed (tables_known id t s) its
     → (bytes_eq i id ≡ false → tables_known id (after t (change i)) s ≡ tables_known id t s)
     → tables_known id (after t (change i)) s

@@ -16,7 +16,7 @@ use Rattle.local_store.specs.declared.tables.Tables.{Tables}
 use Rattle.law_licences.specs.Checks.{is_file_of, is_on, last_on}
 use Rattle.law_licences.specs.Deeds.{Deed, Begins, Asks, Makes, MakesUntold, Ends, Stops, deed_by, deeds_in}
 use Rattle.law_licences.specs.Licences.{MayMakeAt, MayMake, MayDo, Each, ObeysData}
-use Rattle.law_licences.specs.Views.{Heard, View, Stage, Outside, Working, Finished, heard, seen, stage_after, view_from}
+use Rattle.law_licences.specs.Views.{Heard, View, Stage, Outside, Working, Finished, view_after_call, seen, stage_after, view_from}
 use Rattle.law_licences.specs.Views as views
 use Rattle.law_kept.specs.Acts.{Act, Gets, Puts, Deletes, Elsewhere}
 use Rattle.law_kept.specs.Acts as acts
@@ -43,7 +43,7 @@ known_if id v h on =
     (session_known v.stage (check_known (cond on (Some h) (last_on id v.calls))))
 
 known_heard : (id : List ℕ) (v : View) (call : Call) (reply : Option Reply)
-    → known id (heard v call reply)
+    → known id (view_after_call v call reply)
     ≡ known_if id v (record { call = call; reply = reply }) (is_on id call)
 known_heard id v call reply =
     ap
@@ -114,7 +114,8 @@ session_after Finished v (ContextIs context) check may = refl
 session_after stage v c check may = refl
 
 known_changed : (id : List ℕ) (next : ℕ) (v : View) (c : Change) → IsOrdered v.tables
-    → MayMake v c → known id (views.changed v c) ≡ own_after (known id v) (change_told id next c)
+    → MayMake v c → known id (views.view_after_change v c)
+    ≡ own_after (known id v) (change_told id next c)
 known_changed id next v c o may =
     let check = check_known (last_on id v.calls) in
     ap (tables_known id (after v.tables c)) (session_after v.stage v c check may)

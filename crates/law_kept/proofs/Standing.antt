@@ -20,7 +20,7 @@ use Rattle.law_licences.specs.Deeds.{Deed, deed_by, deeds_in}
 use Rattle.law_licences.specs.Licences.{MayDo, Each, ObeysData}
 use Rattle.law_licences.specs.Views.{View, Stage, Outside, Working, seen, view_from}
 use Rattle.law_kept.proofs.Places.{file_bytes-file_after}
-use Rattle.law_kept.specs.Acts.{Act, Gets, Elsewhere, Step, Version}
+use Rattle.law_kept.specs.Acts.{Act, Gets, Elsewhere, FileStep, Version}
 use Rattle.law_kept.specs.Fair.{file_bytes}
 use Rattle.law_kept.specs.Honest.{bytes_after, is_honest, is_honest_from}
 use Rattle.law_kept.specs.Standing.{Standing, World, desk_after, desk_beside, stands_after, stands_beside, file_after, happened, world_from}
@@ -203,7 +203,7 @@ true_from id client w vs ts (s ∷ ss) h f may told allowed honest =
     let v : View = vs me in
     let t : Tables = ts me in
     let act : Act = act_of id t.next_conflict x c in
-    let step : Step = step_of id t.next_conflict s in
+    let step : FileStep = step_of id t.next_conflict s in
     let d : Deed = deed_by x c in
     let here = and_parts (is_honest (file_bytes w.file) act)
     (is_honest_from (bytes_after (file_bytes w.file) act) (steps_told id (tables_after ts s) ss))

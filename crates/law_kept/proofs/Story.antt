@@ -4,7 +4,7 @@ use Rattle.std.specs.Prelude.{All, bytes_eq, take, drop, codes}
 use Rattle.std.specs.Str.{chars, is_utf8}
 use lib.Utf8.{encode}
 use Rattle.std.proofs.lemmas.List.Elements.{All-append, All-cons, All-nil}
-use Rattle.item_text.specs.Grammar.{above_block, block, block_fault, colon_fault, first_fault, item_in, item_of as item_of_lines, lines_fault, pair_of, type_fault, written}
+use Rattle.item_text.specs.Grammar.{above_block, block, block_fault, colon_fault, first_fault, item_in, item_of_lines, lines_fault, pair_of, type_fault, written}
 use Rattle.item_text.specs.Lines.{has, has_text, joined, lines, trimmed}
 use Rattle.item_text.specs.Props.{value_of}
 use Rattle.item_text.specs.Valid.{is_type_value, IsField}
@@ -33,7 +33,7 @@ use Rattle.law_kept.specs.ToldStories.{a_text, first_text, second_text, tells, t
 use Rattle.law_kept.specs.FairTables.{new_view, AllObeyData, IsServed}
 use Rattle.law_kept.specs.Holding.{IsToldWell}
 use Rattle.law_kept.specs.TableStories.{a_trail, a_list}
-use Rattle.law_kept.specs.Trails.{GoesOn, AreStops, EndsIn, OthersObey}
+use Rattle.law_kept.specs.Trails.{IsUnstopped, AreStops, EndsInRun, OthersObey}
 
 pub served : IsServed it a_told_conflict
 served = record { honest = told_fair.honest; text = told_fair.text; gapless = told_fair.gapless }
@@ -183,16 +183,16 @@ points =
     each_of_five (PointsRight second_client a_list) first_step begins gets last_change ends (λ e. refl)
     (λ e. tt) (λ e. tt) (λ e. refl) (λ e. tt)
 
-goes_on : All (GoesOn second_client) run
+goes_on : All (IsUnstopped second_client) run
 goes_on =
-    each_of_five (GoesOn second_client) first_step begins gets last_change ends (λ e k. k) (λ e k. k)
+    each_of_five (IsUnstopped second_client) first_step begins gets last_change ends (λ e k. k) (λ e k. k)
     (λ e k. k) (λ e k. k) (λ e k. k)
 
 run_made : made_in a_trail ≡ numbers_from 0 a_list
 unfolding made_in
 run_made = refl
 
-pub run_ends : EndsIn a_told_conflict second_client new_tables a_trail a_list
+pub run_ends : EndsInRun a_told_conflict second_client new_tables a_trail a_list
 unfolding deeds_in Each view_from AreStops
 run_ends = record {
   earlier = earlier;

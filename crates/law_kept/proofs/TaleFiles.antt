@@ -21,7 +21,7 @@ use Rattle.local_store.specs.Tables.{new_tables}
 use Rattle.local_store.specs.Tale.{Tale, TaleStep, plain_steps}
 use Rattle.local_store.specs.declared.change.Change.{Change}
 use Rattle.local_store.specs.declared.tables.Tables.{Tables}
-use Rattle.law_kept.specs.Acts.{ItemChange, Act, Gets, Puts, Deletes, Elsewhere, Step}
+use Rattle.law_kept.specs.Acts.{ItemChange, Act, Gets, Puts, Deletes, Elsewhere, FileStep}
 use Rattle.law_kept.specs.Fair.{StandsAsRead, file_bytes, IsFair}
 use Rattle.law_kept.specs.Honest.{bytes_after, is_honest, is_honest_from}
 use Rattle.law_licences.specs.Items.{item_of_file}
@@ -225,7 +225,7 @@ honest_from id clients tree now (s ∷ ss) is sorted honest =
     let rest =
     honest_from id (tables_after clients s) after s.step.moment ss is
     (sorted_after tree s.step.moment (landed_call s.step.happens) sorted) honest.2 in
-    let step : Step = step_of id next s in
+    let step : FileStep = step_of id next s in
     and_from (is_honest (bytes_at id tree.files) step.act)
     (is_honest_from (bytes_after (bytes_at id tree.files) step.act)
     (steps_told id (tables_after clients s) ss))
@@ -245,7 +245,7 @@ stored_from id clients w tree [] (suc place) is sorted same = same
 stored_from id clients w tree (s ∷ ss) zero is sorted same = same
 stored_from id clients w tree (s ∷ ss) (suc place) is sorted same =
     let next = (clients s.step.client).next_conflict in
-    let step : Step = step_of id next s in
+    let step : FileStep = step_of id next s in
     let after : Tree = tree_with tree s.step.moment (landed_call s.step.happens) in
     stored_from id (tables_after clients s) (happened w step) after ss place is
     (sorted_after tree s.step.moment (landed_call s.step.happens) sorted)

@@ -4,7 +4,7 @@ use Rattle.std.proofs.lemmas.List.Elements.{All-nil}
 use Rattle.std.proofs.lemmas.List.Sums.{AllPass-from_list_all}
 use Rattle.std.specs.Str.{chars, is_utf8}
 use lib.Utf8.{encode}
-use Rattle.item_text.specs.Grammar.{written, item_in, first_fault, lines_fault, block_fault, colon_fault, type_fault, block, above_block, item_of, pair_of}
+use Rattle.item_text.specs.Grammar.{written, item_in, first_fault, lines_fault, block_fault, colon_fault, type_fault, block, above_block, item_of_lines, pair_of}
 use Rattle.item_text.specs.Lines.{joined, lines, has_text, trimmed}
 use Rattle.item_text.specs.Props.{value_of}
 use Rattle.item_text.specs.Valid.{is_type_value}
@@ -67,7 +67,8 @@ it_is_id_text = record { long = refl; digits = AllPass-from_list_all is_digit it
 
 pub told_fair : IsFairFor it a_told_conflict
 unfolding refused_from puts_uncrossed steps_told at put cut item_in is_utf8 chars encode first_fault
-    lines_fault block_fault colon_fault type_fault block above_block item_of pair_of written joined
+    lines_fault block_fault colon_fault type_fault block above_block item_of_lines pair_of written
+    joined
     lines has_text trimmed value_of is_type_value
 told_fair = record {
   honest = told_honest;

@@ -3,7 +3,7 @@ use Rattle.std.proofs.Common.{◌≡◌, refl, inl, ℕ, List, [], ◌∷◌, tr
 use Rattle.item_text.specs.Props.{value_of}
 use Rattle.item_text.specs.Valid.{is_type_value}
 use Rattle.item_text.specs.declared.item.Item.{Item}
-use Rattle.law_kept.specs.Acts.{Saved, History}
+use Rattle.law_kept.specs.Acts.{Saved, FileHistory}
 use Rattle.law_kept.specs.Fair.{StandsAsRead, IsFair, file_bytes}
 use Rattle.law_kept.specs.Fates.{Has, CopyStands, IsLost}
 use Rattle.law_kept.specs.Honest.{is_honest_from}
@@ -16,7 +16,7 @@ use Rattle.law_kept.proofs.Obeying.{all_obey}
 
 -- ---- fair histories
 
-fair_if : (reads : List ℕ → Option Item) (h : History) → StandsAsRead reads h.opening
+fair_if : (reads : List ℕ → Option Item) (h : FileHistory) → StandsAsRead reads h.opening
     → is_honest_from (file_bytes h.opening) h.steps ≡ true → refused_places reads h ≡ []
     → puts_uncrossed (opening_world h.opening) h.steps ≡ true → IsFair reads h
 fair_if reads h opening honest none uncrossed = record {
@@ -48,7 +48,7 @@ notebook_fair = fair_if read_as_notebook a_changed_notebook refl refl refl refl
 
 -- ---- histories in which a note is lost
 
-refused_if : (reads : List ℕ → Option Item) (h : History) (place : ℕ) (item : Item)
+refused_if : (reads : List ℕ → Option Item) (h : FileHistory) (place : ℕ) (item : Item)
     → StandsAsRead reads h.opening → is_honest_from (file_bytes h.opening) h.steps ≡ true
     → refused_places reads h ≡ place ∷ []
     → puts_uncrossed (opening_world h.opening) h.steps ≡ true → LosesNote h item

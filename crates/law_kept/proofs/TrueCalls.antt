@@ -16,7 +16,7 @@ use Rattle.law_licences.specs.Checks.{is_file_of, is_on, last_on}
 use Rattle.law_licences.specs.Items.{item_of_file}
 use Rattle.law_licences.specs.Licences.{MayCall}
 use Rattle.law_licences.specs.Puts.{MayPut}
-use Rattle.law_licences.specs.Views.{Heard, View, with_call, heard}
+use Rattle.law_licences.specs.Views.{Heard, View, with_call, view_after_call}
 use Rattle.law_kept.proofs.Clients.{some_same, text_is}
 use Rattle.law_kept.specs.Acts.{Gets, Puts, Deletes, Elsewhere, Version}
 use Rattle.law_kept.specs.Fair.{file_bytes}
@@ -69,7 +69,7 @@ off_heard id call r calls off =
 true_on : (id : List ℕ) (v : View) (t : Tables) (s : Standing) (call : Call) (r : Option Reply)
     (got : Option AnItem) (crossed : Bool)
     → IsTrue id v t s → is_on id call ≡ true → GotIsTrue id (check_by call r) got
-    → IsTrue id (heard v call r) t (record s { got = got; crossed = crossed })
+    → IsTrue id (view_after_call v call r) t (record s { got = got; crossed = crossed })
 true_on id v t s call r got crossed h on g = record {
   same = h.same;
   sound = h.sound;
@@ -81,7 +81,7 @@ true_on id v t s call r got crossed h on g = record {
 
 -- any other leaves the check as it is
 true_off : (id : List ℕ) (v : View) (t : Tables) (s : Standing) (call : Call) (r : Option Reply)
-    → IsTrue id v t s → is_on id call ≡ false → IsTrue id (heard v call r) t s
+    → IsTrue id v t s → is_on id call ≡ false → IsTrue id (view_after_call v call r) t s
 true_off id v t s call r h off = record {
   same = h.same;
   sound = h.sound;
@@ -131,13 +131,13 @@ pub true_called : (id : List ℕ) (v : View) (t : Tables) (s : Standing) (file :
     → call ≡ Get path → is_file_of id path ≡ true
     → GotIsTrue id (check_by (Get path) r) (stand.file_item file))
     → is_honest (file_bytes file) (called id call reply landed) ≡ true
-    → IsTrue id (heard v call r) t (stands_after file s (called id call reply landed))
+    → IsTrue id (view_after_call v call r) t (stands_after file s (called id call reply landed))
 true_called id v t s file (Get path) r reply landed h shown honest =
     by (is_file_of id path) refl (shown path honest refl)
   where
     by : (its : Bool) → is_file_of id path ≡ its
         → (is_file_of id path ≡ true → GotIsTrue id (check_by (Get path) r) (stand.file_item file))
-        → IsTrue id (heard v (Get path) r) t
+        → IsTrue id (view_after_call v (Get path) r) t
         (stands_after file s (cond its (Gets (answer_told reply)) Elsewhere))
     by true on g = true_on id v t s (Get path) r (stand.file_item file) false h on (g on)
     by false off g = true_off id v t s (Get path) r h off
@@ -145,7 +145,7 @@ true_called id v t s file (Put path bytes) r reply landed h shown honest =
     by (is_file_of id path) refl
   where
     by : (its : Bool) → is_file_of id path ≡ its
-        → IsTrue id (heard v (Put path bytes) r) t
+        → IsTrue id (view_after_call v (Put path bytes) r) t
         (stands_after file s (cond its (Puts bytes landed (was_done reply)) Elsewhere))
     by true on =
         true_on id v t s (Put path bytes) r s.got s.crossed h on (put_got id path bytes r s.got)
@@ -154,7 +154,7 @@ true_called id v t s file (Delete path) r reply landed h shown honest =
     by (is_file_of id path) refl
   where
     by : (its : Bool) → is_file_of id path ≡ its
-        → IsTrue id (heard v (Delete path) r) t
+        → IsTrue id (view_after_call v (Delete path) r) t
         (stands_after file s (cond its (Deletes landed) Elsewhere))
     by true on = true_on id v t s (Delete path) r s.got s.crossed h on (delete_got id path r s.got)
     by false off = true_off id v t s (Delete path) r h off

@@ -71,7 +71,7 @@ pub data Act : Type 0 where
   -- anything that isn't about the item
   Elsewhere : Act
 
-pub record Step : Type 0 where
+pub record FileStep : Type 0 where
   pub client : List ℕ
   pub act : Act
 
@@ -82,6 +82,6 @@ pub record Version : Type 0 where
   pub item : Option Item
 
 -- the file at first, if there was one, and all that happened since
-pub record History : Type 0 where
+pub record FileHistory : Type 0 where
   pub opening : Option Version
-  pub steps : List Step
+  pub steps : List FileStep

@@ -1,7 +1,7 @@
 -- The premises of the law on kept notes, of a history of one item.
 use Rattle.std.specs.Prelude.{◌≡◌, ℕ, List, true, option_map, Option, Some, None}
 use Rattle.item_text.specs.declared.item.Item.{Item}
-use Rattle.law_kept.specs.Acts.{Step, Version, History}
+use Rattle.law_kept.specs.Acts.{FileStep, Version, FileHistory}
 use Rattle.law_kept.specs.Gap.{NoOtherUploadBetween}
 use Rattle.law_kept.specs.Honest.{is_honest_from}
 use Rattle.law_kept.specs.Licences.{obeys}
@@ -16,12 +16,12 @@ abbrev pub file_bytes : Option Version → Option (List ℕ)
 file_bytes file = option_map (λ version. version.bytes) file
 
 -- each client does what it may, by its own calls and changes
-abbrev pub AllObey : (List ℕ → Option Item) → List Step → Type 0
+abbrev pub AllObey : (List ℕ → Option Item) → List FileStep → Type 0
 AllObey reads ss = (client : List ℕ) → obeys reads new_own (acts_by client ss) ≡ true
 
 -- The store tells the truth, each client does what it may, and no other client's put lands between a check and the put
 -- that follows it. `reads` says which item bytes are.
-pub record IsFair (reads : List ℕ → Option Item) (h : History) : Type 0 where
+pub record IsFair (reads : List ℕ → Option Item) (h : FileHistory) : Type 0 where
   pub opening : StandsAsRead reads h.opening
   pub honest : is_honest_from (file_bytes h.opening) h.steps ≡ true
   pub obey : AllObey reads h.steps

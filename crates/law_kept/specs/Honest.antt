@@ -1,7 +1,7 @@
 -- That a store tells the truth about an item's file.
 use Rattle.std.specs.Prelude.{ℕ, List, [], ◌∷◌, Bool, true, ◌&&◌, is_none, Option, Some, None}
-use Rattle.law_kept.specs.Acts.{Shown, Missing, Act, Gets, Puts, Deletes, Step}
-use Rattle.law_licences.specs.Items.{is_text}
+use Rattle.item_text.specs.Props.{is_text}
+use Rattle.law_kept.specs.Acts.{Shown, Missing, Act, Gets, Puts, Deletes, FileStep}
 
 -- the bytes of the file once a client has done something
 abbrev pub bytes_after : Option (List ℕ) → Act → Option (List ℕ)
@@ -17,7 +17,7 @@ is_honest file (Puts bytes landed true) = landed
 is_honest file act = true
 
 -- so it is, step by step
-unfoldable pub is_honest_from : Option (List ℕ) → List Step → Bool
+unfoldable pub is_honest_from : Option (List ℕ) → List FileStep → Bool
 is_honest_from file [] = true
 is_honest_from file (s ∷ ss) =
     is_honest file s.act && is_honest_from (bytes_after file s.act) ss

@@ -8,7 +8,7 @@ use Rattle.local_store.specs.declared.row.Row.{Row}
 use Rattle.local_store.specs.declared.tables.Tables.{Tables}
 use Rattle.law_licences.specs.Checks.{last_on}
 use Rattle.law_licences.specs.Views.{Heard, View, Stage, Outside, Working, Finished}
-use Rattle.law_kept.specs.Own.{Row as OwnRow, Check, Unchecked, Session, Out, In, Own, check_of, check_put}
+use Rattle.law_kept.specs.Own.{OwnRow, Check, Unchecked, OwnSession, Out, In, Own, check_of, check_put}
 use Rattle.law_kept.specs.Telling.{answer_told, was_done}
 
 -- the row without its id
@@ -29,13 +29,13 @@ check_known None = Unchecked
 check_known (Some h) = check_by h.call h.reply
 
 -- a check counts within its session, also once that has made its last change
-abbrev pub session_known : Stage → Check → Session
+abbrev pub session_known : Stage → Check → OwnSession
 session_known Outside check = Out
 session_known Working check = In check
 session_known Finished check = In check
 
 -- what the tables say of the item of this id
-abbrev pub tables_known : List ℕ → Tables → Session → Own
+abbrev pub tables_known : List ℕ → Tables → OwnSession → Own
 tables_known id t session = record {
   row = row_known (row_at t id);
   deleted = is_some (deletion_at t id);

@@ -3,10 +3,10 @@ use Rattle.std.specs.Prelude.{ℕ, List, [], ◌∷◌, Bool, true, false, bytes
 use Rattle.item_text.specs.declared.item.Item.{Item}
 use Rattle.local_store.specs.declared.content.Content.{Content}
 use Rattle.local_store.specs.declared.content.Content.TheVariants.{Plain}
-use Rattle.law_kept.specs.Acts.{ItemChange, Removed, Dropped, RowStep, Stays, Saves, Sends, Reads, Meets, Unseals, Goes, row_step, Answer, Shown, Missing, Unknown, Act, Begins, Gets, Puts, Deletes, Changes, Ends, Elsewhere, Step}
+use Rattle.law_kept.specs.Acts.{ItemChange, Removed, Dropped, RowStep, Stays, Saves, Sends, Reads, Meets, Unseals, Goes, row_step, Answer, Shown, Missing, Unknown, Act, Begins, Gets, Puts, Deletes, Changes, Ends, Elsewhere, FileStep}
 
 -- the row of its tables
-pub record Row : Type 0 where
+pub record OwnRow : Type 0 where
   pub content : Content
   -- what the file held when this client last read or wrote it
   pub base : Option (List ℕ)
@@ -23,50 +23,50 @@ pub data Check : Type 0 where
   -- a put of these bytes, which the client heard to have landed
   Wrote : (bytes : List ℕ) → Check
 
-pub data Session : Type 0 where
-  Out : Session
-  In : (check : Check) → Session
+pub data OwnSession : Type 0 where
+  Out : OwnSession
+  In : (check : Check) → OwnSession
 
 pub record Own : Type 0 where
-  pub row : Option Row
+  pub row : Option OwnRow
   -- whether the item stands in the deletions
   pub deleted : Bool
-  pub session : Session
+  pub session : OwnSession
 
 abbrev pub new_own : Own
 new_own = record { row = None; deleted = false; session = Out }
 
 -- ---- changes
 
-abbrev pub row_base : Option Row → Option (List ℕ)
+abbrev pub row_base : Option OwnRow → Option (List ℕ)
 row_base None = None
 row_base (Some row) = row.base
 
-abbrev pub has_base : Option Row → Bool
+abbrev pub has_base : Option OwnRow → Bool
 has_base row = is_some (row_base row)
 
 -- saved again, the row knows what its file held as before
-abbrev pub row_saved : Item → Option Row → Option Row
+abbrev pub row_saved : Item → Option OwnRow → Option OwnRow
 row_saved item row = Some (record { content = Plain item; base = row_base row; pending = true })
 
-abbrev pub row_sent : List ℕ → Option Row → Option Row
+abbrev pub row_sent : List ℕ → Option OwnRow → Option OwnRow
 row_sent bytes None = None
 row_sent bytes (Some row) = Some (record row { base = Some bytes; pending = false })
 
 -- the row that holds what was read
-abbrev pub row_read : List ℕ → Content → Option Row
+abbrev pub row_read : List ℕ → Content → Option OwnRow
 row_read bytes content = Some (record { content = content; base = Some bytes; pending = false })
 
 -- a row that isn't there gives way to nothing
-abbrev pub met : List ℕ × Content → Option Row → Option Row
+abbrev pub met : List ℕ × Content → Option OwnRow → Option OwnRow
 met remote None = None
 met remote (Some row) = row_read remote.0 remote.1
 
-abbrev pub row_unsealed : Item → Option Row → Option Row
+abbrev pub row_unsealed : Item → Option OwnRow → Option OwnRow
 row_unsealed item None = None
 row_unsealed item (Some row) = Some (record row { content = Plain item })
 
-abbrev pub row_stepped : Option Row → RowStep → Option Row
+abbrev pub row_stepped : Option OwnRow → RowStep → Option OwnRow
 row_stepped row Stays = row
 row_stepped row (Saves item) = row_saved item row
 row_stepped row (Sends bytes) = row_sent bytes row
@@ -76,11 +76,11 @@ row_stepped row (Unseals item) = row_unsealed item row
 row_stepped row Goes = None
 
 -- the row after a change
-abbrev pub row_changed : Option Row → ItemChange → Option Row
+abbrev pub row_changed : Option OwnRow → ItemChange → Option OwnRow
 row_changed row change = row_stepped row (row_step change)
 
 -- whether the item stands in the deletions then
-abbrev pub deleted_changed : Option Row → Bool → ItemChange → Bool
+abbrev pub deleted_changed : Option OwnRow → Bool → ItemChange → Bool
 deleted_changed row deleted Removed = has_base row || deleted
 deleted_changed row deleted Dropped = false
 deleted_changed row deleted change = deleted
@@ -99,7 +99,7 @@ check_of Missing = ReadNothing
 check_of Unknown = Unchecked
 
 -- outside sessions no call counts
-abbrev pub session_checked : Session → Check → Session
+abbrev pub session_checked : OwnSession → Check → OwnSession
 session_checked Out check = Out
 session_checked (In old) check = In check
 
@@ -121,7 +121,7 @@ own_after o Elsewhere = o
 -- ---- parts
 
 -- all that one client does, in order
-unfoldable pub acts_by : List ℕ → List Step → List Act
+unfoldable pub acts_by : List ℕ → List FileStep → List Act
 acts_by client [] = []
 acts_by client (s ∷ ss) =
     if bytes_eq s.client client then s.act ∷ acts_by client ss else acts_by client ss

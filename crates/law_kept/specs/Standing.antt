@@ -1,7 +1,7 @@
 -- Which item each row, each conflict note and the file stand for, as one sees it who sees all clients and the store.
 use Rattle.std.specs.Prelude.{ℕ, List, [], ◌∷◌, ◌==◌, Bool, true, false, bytes_eq, if◌then◌else◌, take, Option, Some, None}
 use Rattle.item_text.specs.declared.item.Item.{Item}
-use Rattle.law_kept.specs.Acts.{ItemChange, Conflict, Moved, Cleared, RowStep, Stays, Saves, Sends, Reads, Meets, Unseals, Goes, row_step, Act, Begins, Gets, Puts, Deletes, Changes, Step, Version, History}
+use Rattle.law_kept.specs.Acts.{ItemChange, Conflict, Moved, Cleared, RowStep, Stays, Saves, Sends, Reads, Meets, Unseals, Goes, row_step, Act, Begins, Gets, Puts, Deletes, Changes, FileStep, Version, FileHistory}
 use Rattle.law_kept.specs.Own.{Own, new_own, own_after}
 
 -- a conflict note of the item, and the item that it stands for
@@ -118,7 +118,7 @@ desk_beside d act = record d { stands = stands_beside d.stands act }
 
 -- ---- all
 
-abbrev pub happened : World → Step → World
+abbrev pub happened : World → FileStep → World
 happened w s = record {
   file = file_after (w.at s.client).stands.row w.file s.act;
   at = λ client.
@@ -126,13 +126,13 @@ happened w s = record {
       else desk_beside (w.at client) s.act;
 }
 
-unfoldable pub world_from : World → List Step → World
+unfoldable pub world_from : World → List FileStep → World
 world_from w [] = w
 world_from w (s ∷ ss) = world_from (happened w s) ss
 
 -- what stands for what when this place, counted from 0, is reached
-abbrev pub world_at : History → ℕ → World
+abbrev pub world_at : FileHistory → ℕ → World
 world_at h place = world_from (opening_world h.opening) (take place h.steps)
 
-abbrev pub world_end : History → World
+abbrev pub world_end : FileHistory → World
 world_end h = world_from (opening_world h.opening) h.steps

@@ -2,7 +2,7 @@
 use Rattle.std.specs.Prelude.{ℕ, List, [], ◌∷◌, codes, true, false, Option, Some, None}
 use Rattle.item_text.specs.declared.item.Item.{Item}
 use Rattle.local_store.specs.declared.content.Content.TheVariants.{Plain}
-use Rattle.law_kept.specs.Acts.{ItemChange, Saved, Removed, Uploaded, Dropped, Taken, Conflict, Gone, Shown, Missing, Begins, Gets, Puts, Deletes, Changes, Ends, Step, Version, History}
+use Rattle.law_kept.specs.Acts.{ItemChange, Saved, Removed, Uploaded, Dropped, Taken, Conflict, Gone, Shown, Missing, Begins, Gets, Puts, Deletes, Changes, Ends, FileStep, Version, FileHistory}
 use Rattle.law_kept.specs.Gap.{does}
 
 -- ---- who, and what
@@ -45,29 +45,29 @@ a_file letter = Some (record { bytes = put_as letter; item = Some (a_lettered_no
 
 -- ---- what they do
 
-abbrev pub changes : List ℕ → ItemChange → Step
+abbrev pub changes : List ℕ → ItemChange → FileStep
 changes client change = does client (Changes change)
 
 -- the client gets the file, which shows this letter
-abbrev pub sees : List ℕ → ℕ → Step
+abbrev pub sees : List ℕ → ℕ → FileStep
 sees client letter = does client (Gets (Shown (put_as letter)))
 
 -- the client puts this letter, and hears that it landed
-abbrev pub puts_letter : List ℕ → ℕ → Step
+abbrev pub puts_letter : List ℕ → ℕ → FileStep
 puts_letter client letter = does client (Puts (put_as letter) true true)
 
-abbrev pub takes : List ℕ → ℕ → Step
+abbrev pub takes : List ℕ → ℕ → FileStep
 takes client letter = changes client (Taken (put_as letter) (Plain (a_lettered_note letter)))
 
 -- the client's row gives way to the file with this letter, and is copied under the number, if there is one
-abbrev pub meets : List ℕ → ℕ → Option ℕ → Step
+abbrev pub meets : List ℕ → ℕ → Option ℕ → FileStep
 meets client letter copied =
     changes client (Conflict (Some (put_as letter, Plain (a_lettered_note letter))) copied)
 
 -- ---- fair histories
 
 -- Two clients change one note at once. The second one's change comes first, and the first one's is copied.
-abbrev pub a_conflict_with : Option ℕ → History
+abbrev pub a_conflict_with : Option ℕ → FileHistory
 a_conflict_with copied = record {
   opening = None;
   steps =
@@ -95,11 +95,11 @@ a_conflict_with copied = record {
       ∷ [];
 }
 
-abbrev pub a_copied_conflict : History
+abbrev pub a_copied_conflict : FileHistory
 a_copied_conflict = a_conflict_with (Some 1)
 
 -- A put lands and isn't heard of. In its next session the client finds its own text there, and copies nothing.
-abbrev pub a_lost_answer : History
+abbrev pub a_lost_answer : FileHistory
 a_lost_answer = record {
   opening = None;
   steps =
@@ -118,7 +118,7 @@ a_lost_answer = record {
 -- ---- histories in which a note is lost, but for one step fair
 
 -- The second client puts the letter 2 where the file is 3. What it last knew of the file was 1.
-abbrev pub a_stale_put : History
+abbrev pub a_stale_put : FileHistory
 a_stale_put = record {
   opening = a_file 1;
   steps =
@@ -150,11 +150,11 @@ a_stale_put = record {
 }
 
 -- the first client's change gives way to another text, and isn't copied
-abbrev pub an_uncopied_conflict : History
+abbrev pub an_uncopied_conflict : FileHistory
 an_uncopied_conflict = a_conflict_with None
 
 -- the note was deleted by one client while another one changed it, and the change goes with the file
-abbrev pub an_uncopied_loss : History
+abbrev pub an_uncopied_loss : FileHistory
 an_uncopied_loss = record {
   opening = a_file 1;
   steps =
@@ -180,7 +180,7 @@ an_uncopied_loss = record {
 }
 
 -- the client takes the file in place of its own change
-abbrev pub a_take_over_a_change : History
+abbrev pub a_take_over_a_change : FileHistory
 a_take_over_a_change = record {
   opening = a_file 1;
   steps =
@@ -194,7 +194,7 @@ a_take_over_a_change = record {
 
 -- The first client checks the file, and its session ends. The second one puts the letter 2. Then the first one puts its
 -- own in a new session, without another check.
-abbrev pub an_old_check : History
+abbrev pub an_old_check : FileHistory
 an_old_check = record {
   opening = a_file 1;
   steps =
@@ -228,7 +228,7 @@ an_old_check = record {
 }
 
 -- the client notes that its put landed, of which it didn't hear
-abbrev pub an_unheard_upload : History
+abbrev pub an_unheard_upload : FileHistory
 an_unheard_upload = record {
   opening = None;
   steps =
@@ -245,7 +245,7 @@ an_unheard_upload = record {
 }
 
 -- the note is saved again between its upload and the client's noting that, so the new text is never put
-abbrev pub a_save_within : History
+abbrev pub a_save_within : FileHistory
 a_save_within = record {
   opening = None;
   steps =
@@ -274,7 +274,7 @@ a_save_within = record {
 }
 
 -- a client deletes the file, though the note doesn't stand in its deletions
-abbrev pub an_unasked_delete : History
+abbrev pub an_unasked_delete : FileHistory
 an_unasked_delete = record {
   opening = None;
   steps =
@@ -296,7 +296,7 @@ an_unasked_delete = record {
 -- ---- histories in which a note is lost though each client does what it may
 
 -- both clients check before either puts
-abbrev pub a_gap : History
+abbrev pub a_gap : FileHistory
 a_gap = record {
   opening = None;
   steps =
@@ -320,7 +320,7 @@ a_gap = record {
 }
 
 -- the second client is shown the letter 1, where the file is 3
-abbrev pub a_lie : History
+abbrev pub a_lie : FileHistory
 a_lie = record {
   opening = a_file 1;
   steps =
@@ -354,7 +354,7 @@ a_lie = record {
 -- ---- what isn't kept
 
 -- a notebook that was changed here gives way to the file, and isn't copied
-abbrev pub a_changed_notebook : History
+abbrev pub a_changed_notebook : FileHistory
 a_changed_notebook = record {
   opening = Some (record { bytes = put_as 1; item = Some (a_notebook 1) });
   steps =

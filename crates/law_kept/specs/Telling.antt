@@ -18,7 +18,7 @@ use Rattle.local_store.specs.Tale.{Tale, TaleStep, plain}
 use Rattle.local_store.specs.declared.change.Change.{Change}
 use Rattle.local_store.specs.declared.change.Change.TheVariants as tables
 use Rattle.local_store.specs.declared.tables.Tables.{Tables}
-use Rattle.law_kept.specs.Acts.{ItemChange, Saved, Removed, Uploaded, Dropped, Taken, Conflict, Moved, Gone, Opened, Cleared, Answer, Shown, Missing, Unknown, Act, Begins, Gets, Puts, Deletes, Changes, Ends, Elsewhere, Step, Version, History}
+use Rattle.law_kept.specs.Acts.{ItemChange, Saved, Removed, Uploaded, Dropped, Taken, Conflict, Moved, Gone, Opened, Cleared, Answer, Shown, Missing, Unknown, Act, Begins, Gets, Puts, Deletes, Changes, Ends, Elsewhere, FileStep, Version, FileHistory}
 use Rattle.law_kept.specs.Fair.{AllObey, file_bytes}
 use Rattle.law_kept.specs.Gap.{NoOtherUploadBetween}
 use Rattle.law_licences.specs.Checks.{is_file_of}
@@ -105,7 +105,7 @@ act_of id next (target.Changed number) (Some change) = change_told id next chang
 act_of id next target.Ends change = Ends
 act_of id next target.Stopped change = Ends
 
-abbrev pub step_of : List ℕ → ℕ → TaleStep → Step
+abbrev pub step_of : List ℕ → ℕ → TaleStep → FileStep
 step_of id next s =
     record { client = s.step.client; act = act_of id next s.step.happens s.change }
 
@@ -118,17 +118,17 @@ abbrev pub tables_after : (List ℕ → Tables) → TaleStep → List ℕ → Ta
 tables_after at s client =
     if bytes_eq s.step.client client then tables_told (at client) s.change else at client
 
-unfoldable pub steps_told : List ℕ → (List ℕ → Tables) → List TaleStep → List Step
+unfoldable pub steps_told : List ℕ → (List ℕ → Tables) → List TaleStep → List FileStep
 steps_told id at [] = []
 steps_told id at (s ∷ ss) =
     step_of id (at s.step.client).next_conflict s ∷ steps_told id (tables_after at s) ss
 
 -- each client begins with new tables
-abbrev pub steps_of : List ℕ → Tale → List Step
+abbrev pub steps_of : List ℕ → Tale → List FileStep
 steps_of id tale = steps_told id (λ client. new_tables) tale.steps
 
 -- what the tale is for the item of this id
-abbrev pub history_of : List ℕ → Tale → History
+abbrev pub history_of : List ℕ → Tale → FileHistory
 history_of id tale = record {
   opening = option_map (opening_version id) (bytes_at id tale.opening.files);
   steps = steps_of id tale;

@@ -15,8 +15,8 @@ IsStop Stopped = Unit {0}
 IsStop happening = ⊥
 
 -- the client isn't stopped there
-abbrev pub GoesOn : List ℕ → TaleStep → Type 0
-GoesOn client s = bytes_eq s.step.client client ≡ true → ¬ IsStop s.step.happens
+abbrev pub IsUnstopped : List ℕ → TaleStep → Type 0
+IsUnstopped client s = bytes_eq s.step.client client ≡ true → ¬ IsStop s.step.happens
 
 -- nothing is done, but that the program may be stopped
 unfoldable pub AreStops : List Deed → Type 0
@@ -27,7 +27,7 @@ AreStops (d ∷ ds) = ⊥
 -- All that the client did by some place has its licences, and left it in no session, with these
 -- tables. Then comes one run, in which it did what this trail and this list of changes tell, and
 -- nothing later.
-pub record EndsIn (tale : Tale) (client : List ℕ) (t : Tables) (trail : List Event)
+pub record EndsInRun (tale : Tale) (client : List ℕ) (t : Tables) (trail : List Event)
     (made : List Change) : Type 0 where
   pub earlier : List TaleStep
   pub run : List TaleStep
@@ -36,7 +36,7 @@ pub record EndsIn (tale : Tale) (client : List ℕ) (t : Tables) (trail : List E
   pub obeyed : ObeysData new_view (deeds_in client earlier)
   pub left : view_from new_view (deeds_in client earlier) ≡ at_rest t
   pub told : IsRun client trail made run
-  pub whole : All (GoesOn client) run
+  pub whole : All (IsUnstopped client) run
   pub over : AreStops (deeds_in client later)
 
 abbrev pub OthersObey : Tale → List ℕ → Type 0
@@ -46,7 +46,7 @@ OthersObey tale client = (other : List ℕ) → ¬ (other ≡ client) → Client
 -- lands between a check and a put, and all others obey, then no saved note is lost.
 abbrev pub KeepsNotes : List ℕ → Tables → List Event → List Change → Type 0
 KeepsNotes client t trail made =
-    (id : List ℕ) (tale : Tale) → IsServed id tale → EndsIn tale client t trail made
+    (id : List ℕ) (tale : Tale) → IsServed id tale → EndsInRun tale client t trail made
     → OthersObey tale client → KeepsItem id tale
 
 -- so it is of each run that obeys from the tables with which it began

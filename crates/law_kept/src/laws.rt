@@ -3,7 +3,7 @@
 ghost use Rattle.std.specs.Prelude.{ℕ, List, Option};
 ghost use Rattle.item_text.specs.declared.item.Item.{Item};
 ghost use Rattle.local_store.specs.Tale.{Tale};
-ghost use Rattle.law_kept.specs.Acts.{History};
+ghost use Rattle.law_kept.specs.Acts.{FileHistory};
 ghost use Rattle.law_kept.specs.Fair.{IsFair};
 ghost use Rattle.law_kept.specs.Fates.{CopyStands, IsKept, IsLost};
 ghost use Rattle.law_kept.specs.Standing.{world_end};
@@ -18,7 +18,7 @@ ghost use Rattle.law_kept.specs.ToldStories.{second_text, a_told_conflict};
 /// current, or a conflict note, or a client that had seen it replaced it, or a recorded deletion
 /// removed it. A note that gave way to a file with its own title and body counts through that.
 pub fn notes_are_kept()
-    ensures { (reads : List ℕ → Option Item) (h : History) → IsFair reads h → IsKept h }
+    ensures { (reads : List ℕ → Option Item) (h : FileHistory) → IsFair reads h → IsKept h }
 {}
 
 /// The same over all that happens at a target, told with the changes of all clients' tables, where

@@ -13,7 +13,7 @@ ghost use Rattle.law_kept.specs.Holding.{IsToldWell, TablesHoldAsTold};
 ghost use Rattle.law_kept.specs.Stories.{second_client};
 ghost use Rattle.law_kept.specs.TableStories.{a_list, a_trail};
 ghost use Rattle.law_kept.specs.ToldStories.{a_told_conflict};
-ghost use Rattle.law_kept.specs.Trails.{EndsIn, ObeyingRunsKeepNotes, OthersObey};
+ghost use Rattle.law_kept.specs.Trails.{EndsInRun, ObeyingRunsKeepNotes, OthersObey};
 
 /// What one has seen of a client that obeys says of each item what the client knows of it by its
 /// own calls and changes.
@@ -45,6 +45,6 @@ pub fn clients_can_cross_by_tables()
     ensures obey { AllObeyData a_told_conflict }
     ensures told { IsToldWell a_told_conflict }
     ensures run { ObeysData (at_rest new_tables) (deeds_of a_trail a_list) }
-    ensures ends { EndsIn a_told_conflict second_client new_tables a_trail a_list }
+    ensures ends { EndsInRun a_told_conflict second_client new_tables a_trail a_list }
     ensures others { OthersObey a_told_conflict second_client }
 {}

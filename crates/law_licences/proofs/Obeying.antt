@@ -10,9 +10,9 @@ use Rattle.delta.specs.Order.{Lists, id_cmp}
 use Rattle.delta.specs.Page.{IsGoneOf, IsNext, IsPageOf, IsTaken}
 use Rattle.delta.specs.declared.mark.Mark.{Mark}
 use Rattle.delta.specs.declared.page.Page.{Page}
-use Rattle.item_text.specs.Grammar.{above_block, block, block_fault, colon_fault, first_fault, item_in, item_of as item_of_lines, lines_fault, pair_of, type_fault, written}
+use Rattle.item_text.specs.Grammar.{above_block, block, block_fault, colon_fault, first_fault, item_in, item_of_lines, lines_fault, pair_of, type_fault, written}
 use Rattle.item_text.specs.Lines.{has_text, joined, lines, trimmed}
-use Rattle.item_text.specs.Props.{value_of}
+use Rattle.item_text.specs.Props.{value_of, is_text}
 use Rattle.item_text.specs.Valid.{is_type_value}
 use Rattle.jop_base.specs.Keyed.{at, put, cut}
 use Rattle.jop_base.specs.declared.context.Context.{Context}
@@ -24,7 +24,7 @@ use Rattle.local_store.specs.declared.deletion.Deletion.{Deletion}
 use Rattle.law_licences.specs.Breaches.{editor}
 use Rattle.law_licences.specs.Checks.{last_on}
 use Rattle.law_licences.specs.Deletions.{WasDeleted}
-use Rattle.law_licences.specs.Items.{is_text, remote_in}
+use Rattle.law_licences.specs.Items.{remote_in}
 use Rattle.law_licences.specs.Licences.{Each, ObeysData}
 use Rattle.law_licences.specs.Pages.{HasPage}
 use Rattle.law_licences.specs.Stories.{it, place, mine, theirs, a_folder, edited, synced, having, an_upload, a_deletion, a_conflict, a_loss, a_page}

@@ -8,7 +8,7 @@ use Rattle.law_licences.specs.Checks.{is_pending}
 use Rattle.law_licences.specs.Deeds.{Deed, Begins, Asks, Makes, MakesUntold, Ends, Stops, changes_in}
 use Rattle.law_licences.specs.Licences.{AreWork, Each, IsInside, MayChange, MayDo}
 use Rattle.law_licences.specs.Settling.{HasSettled}
-use Rattle.law_licences.specs.Views.{View, changed, heard, view_from}
+use Rattle.law_licences.specs.Views.{View, view_after_change, view_after_call, view_from}
 use Rattle.law_licences.proofs.EachChange.{settled_by}
 use Rattle.law_licences.proofs.Settled.{made_inside, stays_inside}
 
@@ -32,12 +32,13 @@ unfolding view_from AreWork Each changes_in
 settling-view_from v [] id inside work obeys was = inl was
 settling-view_from v (Begins ∷ ds) id inside work obeys was = absurd work
 settling-view_from v (Asks call reply ∷ ds) id inside work obeys was =
-    settling-view_from (heard v call reply) ds id inside work obeys.1 was
+    settling-view_from (view_after_call v call reply) ds id inside work obeys.1 was
 settling-view_from v (Makes c ∷ ds) id inside work obeys was =
     made_if (is_pending (row_at (after v.tables c) id)) v c (changes_in ds) id
-    (is_pending (row_at (view_from (changed v c) ds).tables id) ≡ true) refl
+    (is_pending (row_at (view_from (view_after_change v c) ds).tables id) ≡ true) refl
     (made_inside v.stage v c inside obeys.0) was
-    (settling-view_from (changed v c) ds id (stays_inside v.stage c inside) work.1 obeys.1)
+    (settling-view_from (view_after_change v c) ds id
+    (stays_inside v.stage c inside) work.1 obeys.1)
 settling-view_from v (MakesUntold ∷ ds) id inside work obeys was = absurd work
 settling-view_from v (Ends ∷ ds) id inside work obeys was = absurd work
 settling-view_from v (Stops ∷ ds) id inside work obeys was = absurd work

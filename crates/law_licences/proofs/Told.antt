@@ -9,7 +9,7 @@ use Rattle.local_store.specs.declared.change.Change.{Change}
 use Rattle.law_licences.specs.Deeds.{Deed, Begins, Asks, Makes, MakesUntold, Ends, Stops, change_by, changes_in, deeds_of, events_of}
 use Rattle.law_licences.specs.Licences.{AreWork}
 use Rattle.law_licences.specs.Trails.{calls_after, calls_from}
-use Rattle.law_licences.specs.Views.{Heard, View, changed, heard, view_from}
+use Rattle.law_licences.specs.Views.{Heard, View, view_after_change, view_after_call, view_from}
 
 pub calls_from-append : (calls : List Heard) (es fs : List Event)
     → calls_from calls (es ++ fs) ≡ calls_from (calls_from calls es) fs
@@ -80,10 +80,11 @@ pub calls-view_from : (n : ℕ) (v : View) (ds : List Deed) → AreWork ds
 unfolding AreWork view_from events_of calls_from
 calls-view_from n v [] work = refl
 calls-view_from n v (Begins ∷ ds) work = absurd work
-calls-view_from n v (Asks call None ∷ ds) work = calls-view_from n (heard v call None) ds work
+calls-view_from n v (Asks call None ∷ ds) work =
+    calls-view_from n (view_after_call v call None) ds work
 calls-view_from n v (Asks call (Some reply) ∷ ds) work =
-    calls-view_from n (heard v call (Some reply)) ds work
-calls-view_from n v (Makes c ∷ ds) work = calls-view_from (n + 1) (changed v c) ds work.1
+    calls-view_from n (view_after_call v call (Some reply)) ds work
+calls-view_from n v (Makes c ∷ ds) work = calls-view_from (n + 1) (view_after_change v c) ds work.1
 calls-view_from n v (MakesUntold ∷ ds) work = absurd work
 calls-view_from n v (Ends ∷ ds) work = absurd work
 calls-view_from n v (Stops ∷ ds) work = absurd work
@@ -94,8 +95,9 @@ pub tables-view_from : (v : View) (ds : List Deed) → AreWork ds
 unfolding AreWork view_from changes_in after_all
 tables-view_from v [] work = refl
 tables-view_from v (Begins ∷ ds) work = absurd work
-tables-view_from v (Asks call reply ∷ ds) work = tables-view_from (heard v call reply) ds work
-tables-view_from v (Makes c ∷ ds) work = tables-view_from (changed v c) ds work.1
+tables-view_from v (Asks call reply ∷ ds) work =
+    tables-view_from (view_after_call v call reply) ds work
+tables-view_from v (Makes c ∷ ds) work = tables-view_from (view_after_change v c) ds work.1
 tables-view_from v (MakesUntold ∷ ds) work = absurd work
 tables-view_from v (Ends ∷ ds) work = absurd work
 tables-view_from v (Stops ∷ ds) work = absurd work

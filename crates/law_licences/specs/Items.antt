@@ -1,7 +1,7 @@
 -- What rows and files say of their items.
-use Rattle.std.specs.Prelude.{ℕ, List, Bool, false, ◌&&◌, codes, bytes_eq, if◌then◌else◌, Option, Some, None, option_map}
+use Rattle.std.specs.Prelude.{ℕ, List, Bool, false, ◌&&◌, codes, if◌then◌else◌, Option, Some, None, option_map}
 use Rattle.item_text.specs.Grammar.{item_in}
-use Rattle.item_text.specs.Props.{value_of}
+use Rattle.item_text.specs.Props.{has_value}
 use Rattle.item_text.specs.declared.item.Item.{Item}
 use Rattle.local_store.specs.Rows.{has_kind, item_of}
 use Rattle.local_store.specs.declared.content.Content.{Content}
@@ -26,13 +26,9 @@ is_plain_note (Sealed item) = false
 
 -- ---- pairs
 
-abbrev pub is_text : List ℕ → Option (List ℕ) → Bool
-is_text text None = false
-is_text text (Some other) = bytes_eq other text
-
 -- whether the topmost value of the key is this one
 abbrev pub says : List ℕ → List ℕ → Item → Bool
-says key value item = is_text value (value_of key item.props)
+says key value item = has_value key value item.props
 
 -- whether the row is a readable note in this folder
 abbrev pub is_note_in : List ℕ → Row → Bool

@@ -97,8 +97,8 @@ with_call call reply calls =
     if is_about_locks call then calls else record { call = call; reply = reply } ∷ calls
 
 -- what is seen once a call was made
-abbrev pub heard : View → Call → Option Reply → View
-heard v call reply = record v {
+abbrev pub view_after_call : View → Call → Option Reply → View
+view_after_call v call reply = record v {
   calls = with_call call reply v.calls;
   shown = shown_after v call reply;
 }
@@ -111,8 +111,8 @@ stage_after stage (ContextIs context) = Finished
 stage_after stage change = stage
 
 -- what is seen once a change was made
-abbrev pub changed : View → Change → View
-changed v change = record v {
+abbrev pub view_after_change : View → Change → View
+view_after_change v change = record v {
   tables = after v.tables change;
   stage = stage_after v.stage change;
 }
@@ -122,8 +122,8 @@ changed v change = record v {
 -- no session's calls are remembered behind its end, nor behind a stop
 abbrev pub seen : View → Deed → View
 seen v Begins = record v { calls = []; shown = None; stage = Working }
-seen v (Asks call reply) = heard v call reply
-seen v (Makes change) = changed v change
+seen v (Asks call reply) = view_after_call v call reply
+seen v (Makes change) = view_after_change v change
 seen v MakesUntold = v
 seen v Ends = record v { calls = []; shown = None; stage = Outside }
 seen v Stops = record v { calls = []; shown = None; stage = Outside }

@@ -19,7 +19,7 @@ use Rattle.lease.specs.declared.error.AskErr.{AskErr}
 use Rattle.lease.specs.declared.error.AskErr.TheVariants.{Fault, NoMemory}
 use Rattle.lease.specs.declared.lock.Lock.{Lock}
 use Rattle.lease.specs.Added.{AddsCalls, put_calls}
-use Rattle.lease.specs.Calls.{MayAsk, Hears, IsHeard, IsRefused, GivesUp, MayPut, HasAsked, EndsFailed, asking, is_held, is_leaving}
+use Rattle.lease.specs.Calls.{MayAskOwn, HearsReply, IsHeard, IsRefused, GivesUp, MayPutLock, HasAsked, EndsFailed, asking, is_held, is_leaving}
 use Rattle.lease.specs.Discipline.{phase_of, keeps_lock_order, renews_in_time}
 use Rattle.lease.specs.Idle.{is_working, is_work}
 use Rattle.lease.specs.Locks.{own_name, is_own, same_kind, content_of}
@@ -51,7 +51,7 @@ role_of-delete kind client path is = ap (deleting_role client) is ∙ rw (is_own
 -- ---- the folder of locks is made
 
 pub asks_make : (client : List ℕ) (trail : List Event) → StandsIn client trail Free →
-    MayAsk client trail (MakeDir Locks)
+    MayAskOwn client trail (MakeDir Locks)
 asks_make client trail s = record {
   may = may_call client trail Free (MakeDir Locks) MakesLocks s refl refl refl
       (made_or_failed (λ r. keeps_lock_order (heard client Free MakesLocks r) ≡ true) Locks refl
@@ -95,7 +95,7 @@ lists_idly client (Held kind stamp) h = cc
 lists_idly client at h = refl
 
 pub asks_list : (client : List ℕ) (trail : List Event) (at : Phase) → StandsIn client trail at →
-    allows client at ListsLocks ≡ true → MayAsk client trail (ListDir Locks)
+    allows client at ListsLocks ≡ true → MayAskOwn client trail (ListDir Locks)
 asks_list client trail at s allowed = record {
   may =
       may_call client trail at (ListDir Locks) ListsLocks s refl allowed
@@ -111,7 +111,7 @@ pub after_list : (client : List ℕ) (at : Phase) (old new : LineNow) → Stands
     × HasAsked client at new.trail listing
 after_list client at old new s h =
     let Lists : Reply → Type 0 = λ r.
-    ¬ (r ≡ Failed) → Hears client (ListDir Locks) old new r →
+    ¬ (r ≡ Failed) → HearsReply client (ListDir Locks) old new r →
     (listing : Listing) × HasAsked client at new.trail listing in
     listed_or_failed Lists Locks (λ n hears. absurd (n refl)) (λ l shape n hears. (
       l,
@@ -173,9 +173,9 @@ asking_in_earnest kind at = refl
 
 pub asks_put : (kind : LockKind) (client : List ℕ) (trail : List Event) (path : Path)
     (content : List ℕ) →
-    MayPut kind client trail → path ≡ LockFile (own_name kind client) →
+    MayPutLock kind client trail → path ≡ LockFile (own_name kind client) →
     content ≡ content_of kind client →
-    MayAsk client trail (Put path content)
+    MayAskOwn client trail (Put path content)
 asks_put kind client trail path content may is whole =
     let at = phase_of client trail in
     let role = role_of-put kind client path content is in
@@ -193,7 +193,7 @@ asks_put kind client trail path content may is whole =
 
 pub after_put : (kind : LockKind) (client : List ℕ) (old new : LineNow) (path : Path)
     (content : List ℕ) →
-    MayPut kind client old.trail → path ≡ LockFile (own_name kind client) →
+    MayPutLock kind client old.trail → path ≡ LockFile (own_name kind client) →
     IsHeard client (Put path content) old new →
     StandsIn client new.trail (asking kind (phase_of client old.trail))
 after_put kind client old new path content may is h =
@@ -231,7 +231,7 @@ pub asks_delete : (kind : LockKind) (client : List ℕ) (at : Phase) (trail : Li
     (path : Path) →
     StandsIn client trail at → allows client at (DeletesOwn kind) ≡ true →
     path ≡ LockFile (own_name kind client) →
-    MayAsk client trail (Delete path)
+    MayAskOwn client trail (Delete path)
 asks_delete kind client at trail path s allowed is =
     let role = role_of-delete kind client path is in
     record {
@@ -258,7 +258,7 @@ held_stays client kind stamp role reply h f = cc
 
 ends_failed : (client : List ℕ) (old new : LineNow) (call : Call) (at : Phase) →
     StandsIn client old.trail at →
-    is_leaving at ≡ false → Hears client call old new Failed → EndsFailed client new.trail
+    is_leaving at ≡ false → HearsReply client call old new Failed → EndsFailed client new.trail
 ends_failed client old new call at s stays h = record {
   before = old.trail;
   call = call;
@@ -320,7 +320,7 @@ put_heard kind client old new path content is whole h =
 
 pub put_refused : (kind : LockKind) (client : List ℕ) (old new : LineNow) (path : Path)
     (content : List ℕ) (e : AskErr) →
-    MayPut kind client old.trail → path ≡ LockFile (own_name kind client) →
+    MayPutLock kind client old.trail → path ≡ LockFile (own_name kind client) →
     content ≡ content_of kind client →
     IsRefused client (Put path content) old new e → GivesUp (put_calls kind client) client old new e
 put_refused kind client old new path content e may is whole refused =

@@ -4,7 +4,7 @@ use Rattle.std.specs.Prelude.{take, slice_get}
 use Rattle.jop_base.specs.declared.lock_name.LockKind.{LockKind}
 use Rattle.jop_base.specs.declared.lock_name.LockKind.TheVariants.{Exclusive}
 use Rattle.jop_base.specs.declared.path.Path.TheVariants.{Lock as LockFile, Temp as TempFile}
-use Rattle.jop_target.specs.History.{Step, History, IsHonest, Writes, is_guarded_call}
+use Rattle.jop_target.specs.History.{Step, History, IsHonest, WritesAt, is_guarded_call}
 use Rattle.jop_target.specs.declared.call.Call.{Call}
 use Rattle.jop_target.specs.declared.call.Call.TheVariants.{Put, Delete, PutBlob}
 use Rattle.lease.specs.Discipline.{Session}
@@ -114,7 +114,7 @@ module _ (h : History) (honest : IsHonest h) (timely : IsTimely h) (keep : AllKe
   invariant place = invariant_at (opening h.opening) h.steps place allowed (invariant_first h)
 
   -- who writes has a lease
-  pub write_lease : (place : ℕ) (client : List ℕ) → Writes h place client →
+  pub write_lease : (place : ℕ) (client : List ℕ) → WritesAt h place client →
       HasLease (phase_at client (take place h.steps))
   write_lease place client write =
       let s = write.step in
@@ -126,7 +126,7 @@ module _ (h : History) (honest : IsHonest h) (timely : IsTimely h) (keep : AllKe
 
   -- a lease under which its client writes isn't spent
   pub write_unspent : (place : ℕ) (client : List ℕ) (kind : LockKind) (stamp : ℕ) →
-      Writes h place client → Holds h place client kind stamp → IsSpentAt (at place) client → ⊥
+      WritesAt h place client → Holds h place client kind stamp → IsSpentAt (at place) client → ⊥
   write_unspent place client kind stamp write held spent =
       let end : stamp + LIFE ≤ (at place).now = subst
       (IsSpent (at place).tree.files (at place).now client) (phase-at client place ∙ held)
@@ -175,7 +175,7 @@ module _ (h : History) (honest : IsHonest h) (timely : IsTimely h) (keep : AllKe
       ]
 
   alone : (place : ℕ) (client other : List ℕ) (session : ℕ) → IsInSpan h place client session →
-      Writes h place other → other ≡ client
+      WritesAt h place other → other ≡ client
   alone place client other session span write =
       let own = in_span place client session span in
       let lease = write_lease place other write in

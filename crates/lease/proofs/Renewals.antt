@@ -19,7 +19,7 @@ use Rattle.lease.specs.declared.error.Seen.{Seen}
 use Rattle.lease.specs.declared.lease.Lease.{Lease}
 use Rattle.lease.specs.declared.lock.Lock.{Lock}
 use Rattle.lease.specs.declared.sight.Sight.{Sight}
-use Rattle.lease.specs.Calls.{MayPut, HasSeen, is_held}
+use Rattle.lease.specs.Calls.{MayPutLock, HasSeen, is_held}
 use Rattle.lease.specs.Discipline.{Session, session_of, phase_of, session_from, session_after}
 use Rattle.lease.specs.Locks.{LIFE, RENEWAL, own_name, own_stamp, blocking_in}
 use Rattle.lease.specs.Outcomes.{HasLeft, HasMissed, IsBlocked, Renews}
@@ -54,7 +54,7 @@ now-is client trail = now-from client _ trail
 -- ---- when its own lock may be put
 
 pub may_put_first : (kind : LockKind) (client : List ℕ) (trail : List Event) (sight : Sight) →
-    HasSeen kind client Free trail sight → sight.blocking ≡ None → MayPut kind client trail
+    HasSeen kind client Free trail sight → sight.blocking ≡ None → MayPutLock kind client trail
 may_put_first kind client trail sight h none =
     let s = h.asked.stands in
     let free : blocking_in kind client h.listing ≡ None = sym
@@ -66,7 +66,7 @@ may_put_first kind client trail sight h none =
     }
 
 pub may_put_again : (lease : Lease) (trail : List Event) → IsDue lease trail →
-    MayPut lease.kind lease.client trail
+    MayPutLock lease.kind lease.client trail
 may_put_again lease trail h =
     let s = h.held.stands in
     let due : lease.stamp + RENEWAL ≤ (session_of lease.client trail).now = omega

@@ -10,7 +10,7 @@ use Rattle.jop_target.specs.Replies.{IsCallable, IsReplyTo}
 use Rattle.jop_target.proofs.Runs.{continues_on, continues_same, continues_answered, continues_unheard, continues_weaker}
 use Rattle.jop_target.specs.Running.{is_running, runs_from}
 use Rattle.jop_target.specs.Trail.{LineNow, IsAnswered, IsUnheard, EndsWith}
-use Rattle.lease.specs.Calls.{IsLeaseCall, IsLeaseEvent, GoesOn, LeaseGoesOn, MayCall, MayAsk, Hears, IsLast}
+use Rattle.lease.specs.Calls.{IsLeaseCall, IsLeaseEvent, GoesOn, LeaseGoesOn, MayCallInOrder, MayAskOwn, HearsReply, IsLast}
 use Rattle.lease.specs.Discipline.{Session, session_of, phase_of, session_from, session_after, outside, keeps_lock_order, renews_in_time}
 use Rattle.lease.specs.Idle.{is_work, is_idle_event, is_idle_from, IsIdle}
 use Rattle.lease.specs.Phase.{Phase, Over, Role, role_of, allows, heard}
@@ -67,7 +67,7 @@ all_four true true false d h i j k = j
 
 -- an answered call
 stands_after : (client : List ℕ) (old new : List Event) (call : Call) (reply : Reply) →
-    MayCall client old call →
+    MayCallInOrder client old call →
     IsReplyTo call reply → new ≡ old ++ Called call reply ∷ [] →
     StandsIn client new (heard client (phase_of client old) (role_of client call) reply)
 stands_after client old new call reply may shape ends =
@@ -84,7 +84,8 @@ stands_after client old new call reply may shape ends =
     }
 
 -- a call whose reply was never heard
-stands_unheard : (client : List ℕ) (old new : List Event) (call : Call) → MayCall client old call →
+stands_unheard : (client : List ℕ) (old new : List Event) (call : Call) →
+    MayCallInOrder client old call →
     new ≡ old ++ Sent call ∷ [] → StandsIn client new Over
 stands_unheard client old new call may ends =
     let s = may.stands in
@@ -98,8 +99,8 @@ stands_unheard client old new call may ends =
 
 pub hears : (client : List ℕ) (old new : LineNow) (call : Call) (before after : List ℕ)
     (reply : Reply) →
-    MayCall client old.trail call → IsAnswered old call before new after reply →
-    Hears client call old new reply
+    MayCallInOrder client old.trail call → IsAnswered old call before new after reply →
+    HearsReply client call old new reply
 hears client old new call before after reply may h = record {
   trail = h.trail;
   shape = h.shape;
@@ -108,7 +109,7 @@ hears client old new call before after reply may h = record {
 
 pub unheard : (client : List ℕ) (old new : LineNow) (call : Call) (before after : List ℕ)
     (e : AllocError) →
-    MayCall client old.trail call → IsUnheard old call before new after e →
+    MayCallInOrder client old.trail call → IsUnheard old call before new after e →
     (new.trail ≡ old.trail) ⊎ IsLast client call old.trail new.trail
 unheard client old new call before after e may h = elim h [
   | inl same ↦ inl (ap (λ (s : LineNow). s.trail) same.0)
@@ -120,20 +121,20 @@ unheard client old new call before after e may h = elim h [
 
 -- what was read of the reply is the reply
 pub last_is : (client : List ℕ) (old new : LineNow) (call : Call) (reply r : Reply) →
-    Hears client call old new reply →
+    HearsReply client call old new reply →
     ((c : Call) (y : Reply) → EndsWith new.trail c y → r ≡ y) → r ≡ reply
 last_is client old new call reply r h last = last call reply (old.trail, h.trail)
 
 pub hears_as : (client : List ℕ) (old new : LineNow) (call : Call) (reply r : Reply) →
-    Hears client call old new reply → reply ≡ r → Hears client call old new r
+    HearsReply client call old new reply → reply ≡ r → HearsReply client call old new r
 hears_as client old new call reply r h same =
-    subst (λ (x : Reply). Hears client call old new x) same h
+    subst (λ (x : Reply). HearsReply client call old new x) same h
 
 -- ---- a session goes on
 
 pub goes_answered : (P : Event → Type 0) (client : List ℕ) (old new : LineNow) (call : Call)
     (before after : List ℕ)
-    (reply : Reply) → MayCall client old.trail call → IsCallable call before →
+    (reply : Reply) → MayCallInOrder client old.trail call → IsCallable call before →
     P (Called call reply) →
     IsAnswered old call before new after reply → GoesOn P client old new
 goes_answered P client old new call before after reply may callable each h =
@@ -146,7 +147,8 @@ goes_answered P client old new call before after reply may callable each h =
 
 pub goes_unheard : (P : Event → Type 0) (client : List ℕ) (old new : LineNow) (call : Call)
     (before after : List ℕ)
-    (e : AllocError) → MayCall client old.trail call → IsCallable call before → P (Sent call) →
+    (e : AllocError) → MayCallInOrder client old.trail call → IsCallable call before →
+    P (Sent call) →
     IsUnheard old call before new after e → GoesOn P client old new
 goes_unheard P client old new call before after e may callable each h =
     let line = continues_unheard P old new call before after e callable h each in
@@ -256,7 +258,7 @@ idle_lease client old new h idle =
 
 pub lease_answered : (client : List ℕ) (old new : LineNow) (call : Call) (before after : List ℕ)
     (reply : Reply) →
-    MayAsk client old.trail call → IsAnswered old call before new after reply →
+    MayAskOwn client old.trail call → IsAnswered old call before new after reply →
     LeaseGoesOn client old new
 lease_answered client old new call before after reply m h =
     let callable = lease_callable client call before m.own in
@@ -267,7 +269,7 @@ lease_answered client old new call before after reply m h =
 
 pub lease_unheard : (client : List ℕ) (old new : LineNow) (call : Call) (before after : List ℕ)
     (e : AllocError) →
-    MayAsk client old.trail call → IsUnheard old call before new after e →
+    MayAskOwn client old.trail call → IsUnheard old call before new after e →
     LeaseGoesOn client old new
 lease_unheard client old new call before after e m h =
     let callable = lease_callable client call before m.own in
@@ -304,7 +306,7 @@ pub may_call : (client : List ℕ) (trail : List Event) (at : Phase) (call : Cal
     renews_in_time at (session_of client trail).now role ≡ true →
     ((reply : Reply) → IsReplyTo call reply →
     keeps_lock_order (heard client at role reply) ≡ true) →
-    MayCall client trail call
+    MayCallInOrder client trail call
 may_call client trail at call role s is allowed in_time sound = record {
   stands = record { running = s.running; lawful = s.lawful; phase = refl };
   allowed = rw (s.phase, is) allowed;
@@ -314,7 +316,8 @@ may_call client trail at call role s is allowed in_time sound = record {
 
 pub hears_at : (client : List ℕ) (at : Phase) (old new : LineNow) (call : Call) (role : Role)
     (reply : Reply) →
-    StandsIn client old.trail at → role_of client call ≡ role → Hears client call old new reply →
+    StandsIn client old.trail at → role_of client call ≡ role →
+    HearsReply client call old new reply →
     StandsIn client new.trail (heard client at role reply)
 hears_at client at old new call role reply s is h =
     subst (λ (r : Role). StandsIn client new.trail (heard client at r reply)) is

@@ -15,14 +15,14 @@ use Rattle.lease.specs.declared.error.LeaseErr.{LeaseErr}
 use Rattle.lease.specs.declared.error.LeaseErr.TheVariants.{Busy, Lost, TargetFault, NoMemory}
 use Rattle.lease.specs.declared.lease.Lease.{Lease}
 use Rattle.lease.specs.Added.{AddsCalls}
-use Rattle.lease.specs.Calls.{LeaseGoesOn, MayCall, Fails}
+use Rattle.lease.specs.Calls.{LeaseGoesOn, MayCallInOrder, Fails}
 use Rattle.lease.specs.Discipline.{session_of, keeps_lock_order, renews_in_time}
 use Rattle.lease.specs.Idle.{is_working, is_work}
 use Rattle.lease.specs.Locks.{RENEWAL}
 use Rattle.lease.specs.Outcomes.{Renews, RenewsIfDue}
 use Rattle.lease.specs.Phase.{Phase, Held, Role, MakesLocks, Plain, role_of, allows, heard}
 use Rattle.lease.specs.Standing.{StandsIn, IsHeld, IsFresh, IsSameBut}
-use Rattle.lease.specs.Work.{IsReady, MakesRenewal, NoneFailed, RenewsInVain, Works}
+use Rattle.lease.specs.Work.{IsFreshlyHeld, MakesRenewal, NoneFailed, RenewsInVain, Works}
 use Rattle.lease.proofs.Added.{not_failed}
 use Rattle.lease.proofs.Calls.{held_stays}
 use Rattle.lease.proofs.Renewals.{now-is}
@@ -59,7 +59,7 @@ working_is_work kind stamp role h = cc
 
 -- a call of work is one that the discipline allows under a fresh lease
 pub may_work : (lease : Lease) (trail : List Event) (call : Call) → IsFresh lease trail →
-    is_working (role_of lease.client call) ≡ true → MayCall lease.client trail call
+    is_working (role_of lease.client call) ≡ true → MayCallInOrder lease.client trail call
 may_work lease trail call f work =
     let soon : (session_of lease.client trail).now < lease.stamp + RENEWAL = omega
     (arith, now-is lease.client trail, f.fresh) in
@@ -151,7 +151,7 @@ works_none before after call blob bytes old new (Busy lock now) vain h = h
 
 pub is_ready : (before after : Lease) (old mid : LineNow) → LeaseGoesOn before.client old mid →
     MakesRenewal before old mid (Ok tt) → RenewsIfDue before after old mid (Ok tt) →
-    IsReady before after old mid
+    IsFreshlyHeld before after old mid
 is_ready before after old mid goes made h =
     record { goes = goes; calls = made; fresh = h.0; spared = h.1 }
 

@@ -35,15 +35,15 @@ renew_calls kind client = put_calls kind client ++ leave_calls kind client
 
 -- ---- what stands in a trail
 
-abbrev pub with_call : Event → List Call → List Call
-with_call (Sent call) calls = call ∷ calls
-with_call (Called call reply) calls = call ∷ calls
-with_call event calls = calls
+abbrev pub with_called : Event → List Call → List Call
+with_called (Sent call) calls = call ∷ calls
+with_called (Called call reply) calls = call ∷ calls
+with_called event calls = calls
 
 -- the calls of events, in their order
 unfoldable pub calls_in : List Event → List Call
 calls_in [] = []
-calls_in (e ∷ es) = with_call e (calls_in es)
+calls_in (e ∷ es) = with_called e (calls_in es)
 
 -- The trail has grown by the first of these calls, each made once and in their order; the rest was
 -- not made. It is known whether one of them was answered `Failed`.

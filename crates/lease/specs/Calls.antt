@@ -58,7 +58,7 @@ pub record LeaseGoesOn (client : List ℕ) (old new : LineNow) : Type 0 where
 -- ---- one call
 
 -- what the discipline asks of a call
-pub record MayCall (client : List ℕ) (trail : List Event) (call : Call) : Type 0 where
+pub record MayCallInOrder (client : List ℕ) (trail : List Event) (call : Call) : Type 0 where
   pub stands : StandsIn client trail (phase_of client trail)
   pub allowed : allows client (phase_of client trail) (role_of client call) ≡ true
   pub in_time :
@@ -69,13 +69,14 @@ pub record MayCall (client : List ℕ) (trail : List Event) (call : Call) : Type
       keeps_lock_order (heard client (phase_of client trail) (role_of client call) reply) ≡ true
 
 -- a call of the lease's own, which is no work
-pub record MayAsk (client : List ℕ) (trail : List Event) (call : Call) : Type 0 where
-  pub may : MayCall client trail call
+pub record MayAskOwn (client : List ℕ) (trail : List Event) (call : Call) : Type 0 where
+  pub may : MayCallInOrder client trail call
   pub own : IsLeaseCall client call
   pub idle : is_work (phase_of client trail) (role_of client call) ≡ false
 
 -- the call was made and has this reply
-pub record Hears (client : List ℕ) (call : Call) (old new : LineNow) (reply : Reply) : Type 0 where
+pub record HearsReply (client : List ℕ) (call : Call) (old new : LineNow) (reply : Reply)
+    : Type 0 where
   pub trail : new.trail ≡ old.trail ++ Called call reply ∷ []
   pub shape : IsReplyTo call reply
   pub stands : StandsIn client new.trail (heard client (phase_of client old.trail)
@@ -84,7 +85,7 @@ pub record Hears (client : List ℕ) (call : Call) (old new : LineNow) (reply : 
 -- the call was answered, and not by `Failed`
 abbrev pub IsHeard : List ℕ → Call → LineNow → LineNow → Type 0
 IsHeard client call old new =
-    (reply : Reply) × Hears client call old new reply × ¬ (reply ≡ Failed)
+    (reply : Reply) × HearsReply client call old new reply × ¬ (reply ≡ Failed)
 
 -- the call was made, its reply isn't known, and the session is over
 pub record IsLast (client : List ℕ) (call : Call) (old new : List Event) : Type 0 where
@@ -95,7 +96,7 @@ pub record IsLast (client : List ℕ) (call : Call) (old new : List Event) : Typ
 -- reply was never heard
 abbrev pub IsRefused : List ℕ → Call → LineNow → LineNow → AskErr → Type 0
 IsRefused client call old new Fault =
-    Hears client call old new Failed × HasRisen old.target.faults new.target.faults
+    HearsReply client call old new Failed × HasRisen old.target.faults new.target.faults
 IsRefused client call old new WantsMemory =
     (new.trail ≡ old.trail) ⊎ IsLast client call old.trail new.trail
 
@@ -138,7 +139,7 @@ GivesUp calls client old new WantsMemory =
 -- ---- a put of its own lock, and a listing
 
 -- the session may put its own lock now
-pub record MayPut (kind : LockKind) (client : List ℕ) (trail : List Event) : Type 0 where
+pub record MayPutLock (kind : LockKind) (client : List ℕ) (trail : List Event) : Type 0 where
   pub stands : StandsIn client trail (phase_of client trail)
   pub allowed : allows client (phase_of client trail) (PutsOwn kind) ≡ true
   pub in_time : renews_in_time (phase_of client trail)

@@ -49,8 +49,8 @@ begun = record { running = true; phase = Free; now = 0; lawful = true }
 abbrev pub outside : Session
 outside = record { running = false; phase = Free; now = 0; lawful = true }
 
-abbrev pub after_call : List ℕ → Session → Call → Reply → Session
-after_call client s call reply = record {
+abbrev pub session_after_call : List ℕ → Session → Call → Reply → Session
+session_after_call client s call reply = record {
   running = s.running;
   phase = phase_after client s.phase call reply;
   now = told s.now reply;
@@ -72,7 +72,7 @@ after_unheard client s call = record {
 abbrev pub session_after : List ℕ → Session → Event → Session
 session_after client s Began = begun
 session_after client s (Sent call) = after_unheard client s call
-session_after client s (Called call reply) = after_call client s call reply
+session_after client s (Called call reply) = session_after_call client s call reply
 session_after client s (Made number) = s
 session_after client s Ended = record {
   running = false;

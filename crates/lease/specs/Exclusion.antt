@@ -2,7 +2,7 @@
 use Rattle.std.specs.Prelude.{ℕ, ◌+◌, ◌≤◌, ◌<◌, ◌≡◌, ◌≢◌, List, ◌++◌, take, count_by, Bool, true, false}
 use Rattle.jop_base.specs.declared.lock_name.LockKind.{LockKind}
 use Rattle.jop_base.specs.declared.lock_name.LockKind.TheVariants.{Exclusive}
-use Rattle.jop_target.specs.History.{History, Step, Writes, IsHonest, part_of}
+use Rattle.jop_target.specs.History.{History, Step, WritesAt, IsHonest, part_of}
 use Rattle.jop_target.specs.declared.event.Event.{Event}
 use Rattle.jop_target.specs.declared.event.Event.TheVariants.{Began}
 use Rattle.lease.specs.Discipline.{KeepsLocks, phase_of}
@@ -32,7 +32,7 @@ session_at client before = count_by is_began (part_of client before)
 -- each write lands before the end of the lease under which it is made
 pub record IsTimely (h : History) : Type 0 where
   pub each : (place : ℕ) (client : List ℕ) (kind : LockKind) (stamp : ℕ)
-      (write : Writes h place client) → Holds h place client kind stamp →
+      (write : WritesAt h place client) → Holds h place client kind stamp →
       write.step.moment < stamp + LIFE
 
 -- each session of each client keeps its locks in order and renews in time, whatever it writes; it
@@ -54,7 +54,7 @@ pub record OthersKeepLocks (h : History) (client : List ℕ) : Type 0 where
 
 -- at this place the client writes under an exclusive lease, in its session of this number
 pub record Upgrades (h : History) (place : ℕ) (client : List ℕ) (session : ℕ) : Type 0 where
-  pub writes : Writes h place client
+  pub writes : WritesAt h place client
   pub stamp : ℕ
   pub holds : Holds h place client Exclusive stamp
   pub numbered : session_at client (take place h.steps) ≡ session
@@ -83,7 +83,7 @@ pub record HasUpgrade (h : History) : Type 0 where
 pub record IsHeldApart (h : History) : Type 0 where
   -- no other client writes within an upgrade
   pub alone : (place : ℕ) (client other : List ℕ) (session : ℕ) → IsInSpan h place client session →
-      Writes h place other → other ≡ client
+      WritesAt h place other → other ≡ client
   -- no two upgrades overlap
   pub apart : (place : ℕ) (client other : List ℕ) (session number : ℕ) →
       IsInSpan h place client session → IsInSpan h place other number →

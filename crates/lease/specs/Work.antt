@@ -23,7 +23,7 @@ MakesRenewal before old new result =
     Makes (renew_calls before.kind before.client) old.trail new.trail result
 
 -- If it was due, the lease was renewed once, by calls of its own, and now it is fresh.
-pub record IsReady (before after : Lease) (old mid : LineNow) : Type 0 where
+pub record IsFreshlyHeld (before after : Lease) (old mid : LineNow) : Type 0 where
   pub goes : LeaseGoesOn before.client old mid
   pub calls : MakesRenewal before old mid (Ok tt)
   pub fresh : IsFresh after mid.trail
@@ -39,14 +39,14 @@ pub record RenewsInVain (before : Lease) (old new : LineNow) (e : LeaseErr) : Ty
 pub record HasCalled (before after : Lease) (call : Call) (blob : List ℕ) (old new : LineNow)
     (bytes : List ℕ) (reply : Reply) : Type 0 where
   pub mid : LineNow
-  pub ready : IsReady before after old mid
+  pub ready : IsFreshlyHeld before after old mid
   pub answered : IsAnswered mid call blob new bytes reply
 
 -- Or out of memory the call wasn't made, or its reply wasn't heard.
 pub record HasCalledUnheard (before after : Lease) (call : Call) (blob : List ℕ) (old new : LineNow)
     (bytes : List ℕ) : Type 0 where
   pub mid : LineNow
-  pub ready : IsReady before after old mid
+  pub ready : IsFreshlyHeld before after old mid
   pub error : AllocError
   pub unheard : IsUnheard mid call blob new bytes error
 

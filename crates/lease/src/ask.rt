@@ -1,6 +1,6 @@
 ghost use Rattle.std.specs.Prelude.{IfErr, IfOk, OnOk, [], false};
 ghost use Rattle.lease.specs.Added.{AddsCalls, look_calls, put_calls};
-ghost use Rattle.lease.specs.Calls.{GivesUp, HasSeen, IsHeard, IsRefused, LeaseGoesOn, MayAsk, MayPut, asking};
+ghost use Rattle.lease.specs.Calls.{GivesUp, HasSeen, IsHeard, IsRefused, LeaseGoesOn, MayAskOwn, MayPutLock, asking};
 ghost use Rattle.lease.specs.Discipline.{phase_of};
 ghost use Rattle.lease.specs.Phase.{Free};
 ghost use Rattle.lease.specs.Standing.{StandsIn};
@@ -20,7 +20,7 @@ pub(crate) fn ask<L: Line>(
     client: &ClientId,
     call: Call,
 ) -> Result<(), AskErr>
-    requires { MayAsk client.now (L.state line.old).trail call }
+    requires { MayAskOwn client.now (L.state line.old).trail call }
     ensures goes { LeaseGoesOn client.now (L.state line.old) (L.state line.new) }
     ensures ok { OnOk result (IsHeard client.now call (L.state line.old) (L.state line.new)) }
     ensures err { IfErr result (IsRefused client.now call (L.state line.old) (L.state line.new)) }
@@ -65,7 +65,7 @@ pub(crate) fn put_and_look<L: Line>(
     kind: LockKind,
     client: &ClientId,
 ) -> Result<Sight, AskErr>
-    requires { MayPut kind client.now (L.state line.old).trail }
+    requires { MayPutLock kind client.now (L.state line.old).trail }
     ensures goes { LeaseGoesOn client.now (L.state line.old) (L.state line.new) }
     ensures ok { let asked = asking kind (phase_of client.now (L.state line.old).trail) in
         IfOk result (HasSeen kind client.now asked (L.state line.new).trail) }

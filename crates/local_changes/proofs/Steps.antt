@@ -6,7 +6,7 @@ use Rattle.std.proofs.lemmas.Bool.Decides.{nat_tests}
 use Rattle.std.proofs.lemmas.List.Elements.{All-head, All-tail}
 use Rattle.jop_base.specs.Id.{IsIdText, AreDigits, is_digit, digit_value, number_of}
 use Rattle.jop_base.proofs.CountUp.{number_of-lt}
-use Rattle.local_changes.specs.Free.{IsStep}
+use Rattle.local_changes.specs.Free.{IsIdAfter}
 
 -- ---- an id and its number
 
@@ -91,12 +91,13 @@ same_steps p a n m of_a of_n of_m same =
       by (inr k) (inl l) = omega (arith, k.0, k.1, l.0, l.1, same, of_n, of_m, of_a)
       by (inr k) (inr l) = omega (arith, k.1, l.1, same)
 
-pub same_step : (from : List ℕ) (n : ℕ) (a b : List ℕ) → IsStep from n a → IsStep from n b → a ≡ b
+pub same_step : (from : List ℕ) (n : ℕ) (a b : List ℕ) → IsIdAfter from n a → IsIdAfter from n b
+    → a ≡ b
 same_step from n a b of_a of_b = same_number a b of_a.text of_b.text (of_a.number ∙ sym of_b.number)
 
 -- the id that so many steps lead to, and the one after it
-pub step_after : (from : List ℕ) (n : ℕ) (a b : List ℕ) → IsStep from n a → IsIdText b
-    → number_of b ≡ (number_of a + 1) % 16 ^ 32 → IsStep from (n + 1) b
+pub step_after : (from : List ℕ) (n : ℕ) (a b : List ℕ) → IsIdAfter from n a → IsIdText b
+    → number_of b ≡ (number_of a + 1) % 16 ^ 32 → IsIdAfter from (n + 1) b
 step_after from n a b of_a text next = record {
   text = text;
   number = next ∙ (ap (λ (x : ℕ). (x + 1) % 16 ^ 32) of_a.number

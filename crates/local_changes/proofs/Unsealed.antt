@@ -11,7 +11,7 @@ use Rattle.item_kinds.specs.Made.{note, folder, tag, note_tag, resource}
 use Rattle.local_store.specs.declared.change.Change.{Change}
 use Rattle.local_store.specs.declared.change.Change.TheVariants.{Saved}
 use Rattle.local_store.specs.Sound.{SaysSealed, IsAllowed}
-use Rattle.local_changes.specs.Answers.{IsOrMemory}
+use Rattle.local_changes.specs.Answers.{IsDueOrMemory}
 use Rattle.local_changes.specs.Makers.{checked}
 use Rattle.local_changes.specs.Saving.{item_limit, saved_within}
 use Rattle.local_changes.specs.declared.store_err.StoreErr.{StoreErr}
@@ -122,8 +122,8 @@ allowed_valid id item allowed = allowed.0.valid
 -- what is due of a new notebook, once its parent was found
 pub book_due : (check : Result (Unit {0}) StoreErr) (done : Unit {0}) (id : List ℕ) (item made : Item)
     (result : Result Change StoreErr) → Ok done ≡ check → item ≡ made
-    → IsOrMemory (saved_within id item) result
-    → IsOrMemory (checked check (saved_within id made)) result
+    → IsDueOrMemory (saved_within id item) result
+    → IsDueOrMemory (checked check (saved_within id made)) result
 book_due check done id item made result is same answer =
-    subst (λ (c : Result (Unit {0}) StoreErr). IsOrMemory (checked c (saved_within id made)) result) is
-    (subst (λ (i : Item). IsOrMemory (saved_within id i) result) same answer)
+    subst (λ (c : Result (Unit {0}) StoreErr). IsDueOrMemory (checked c (saved_within id made)) result) is
+    (subst (λ (i : Item). IsDueOrMemory (saved_within id i) result) same answer)

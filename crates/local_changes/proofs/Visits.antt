@@ -14,7 +14,7 @@ use Rattle.jop_base.proofs.KeyedLaws.{same_text, bytes_eq-refl, bytes_eq-sym}
 use Rattle.local_store.specs.declared.tables.Tables.{Tables}
 use Rattle.local_store.specs.Rows.{row_id, deletion_id}
 use Rattle.local_store.specs.Tables.{deletion_at}
-use Rattle.local_changes.specs.Free.{is_taken, IsStep, IsFirstFree}
+use Rattle.local_changes.specs.Free.{is_taken, IsIdAfter, IsFirstFree}
 use Rattle.local_changes.proofs.Steps.{number_of-bound, same_steps, same_step, step_after}
 
 -- ---- equal texts
@@ -73,12 +73,12 @@ length-ids_of t =
 
 -- The id that so many steps lead to, each of the earlier ones being taken: these are listed, each once.
 pub record IsVisited (t : Tables) (drawn : List ℕ) (steps : ℕ) (id : List ℕ) : Type 0 where
-  pub here : IsStep drawn steps id
+  pub here : IsIdAfter drawn steps id
   pub passed : List (List ℕ)
   pub count : length passed ≡ steps
   pub distinct : IsDistinct bytes_eq passed
-  pub earlier : (q : List ℕ) → has passed q ≡ true → (n : ℕ) × (n < steps) × IsStep drawn n q
-  pub first : (n : ℕ) (other : List ℕ) → n < steps → IsStep drawn n other
+  pub earlier : (q : List ℕ) → has passed q ≡ true → (n : ℕ) × (n < steps) × IsIdAfter drawn n q
+  pub first : (n : ℕ) (other : List ℕ) → n < steps → IsIdAfter drawn n other
       → is_taken t other ≡ true
 
 -- nothing is passed at first
@@ -116,9 +116,10 @@ has_none id (x ∷ xs) apart = (
 not_passed : (t : Tables) (drawn : List ℕ) (steps : ℕ) (id : List ℕ) → IsIdText drawn → steps < 16 ^ 32
     → (v : IsVisited t drawn steps id) → (q : List ℕ) → has v.passed q ≡ true → bytes_eq id q ≡ false
 not_passed t drawn steps id text few v q is = by (bytes_eq id q) refl where
-  apart : (n : ℕ) × (n < steps) × IsStep drawn n q → id ≡ q → ⊥
+  apart : (n : ℕ) × (n < steps) × IsIdAfter drawn n q → id ≡ q → ⊥
   apart e same =
-      let there : IsStep drawn e.0 id = subst (λ (a : List ℕ). IsStep drawn e.0 a) (sym same) e.2 in
+      let there : IsIdAfter drawn e.0 id =
+      subst (λ (a : List ℕ). IsIdAfter drawn e.0 a) (sym same) e.2 in
       let steps_same = same_steps (16 ^ 32) (number_of drawn) e.0 steps (number_of-bound drawn text)
       (omega (arith, e.1, few)) few (sym there.number ∙ v.here.number) in
       absurd (omega (arith, e.1, steps_same))
@@ -142,22 +143,23 @@ moved t drawn steps id next text few v taken of_next number = record {
 }
   where
     earlier_than : (q : List ℕ) → has (id ∷ v.passed) q ≡ true
-        → (n : ℕ) × (n < steps + 1) × IsStep drawn n q
+        → (n : ℕ) × (n < steps + 1) × IsIdAfter drawn n q
     earlier_than q is = by (bytes_eq q id) refl where
-      by : (b : Bool) → bytes_eq q id ≡ b → (n : ℕ) × (n < steps + 1) × IsStep drawn n q
+      by : (b : Bool) → bytes_eq q id ≡ b → (n : ℕ) × (n < steps + 1) × IsIdAfter drawn n q
       by true same =
-          (steps, omega arith, subst (λ (a : List ℕ). IsStep drawn steps a) (sym (same_text q id same)) v.here)
+          (steps, omega arith, subst (λ (a : List ℕ). IsIdAfter drawn steps a) (sym (same_text q id same)) v.here)
       by false other =
           let e = v.earlier q (ap (λ (b : Bool). b || has v.passed q) (sym other) ∙ is) in
           (e.0, omega (arith, e.1), e.2)
 
-    first_taken : (n : ℕ) (other : List ℕ) → n < steps + 1 → IsStep drawn n other
+    first_taken : (n : ℕ) (other : List ℕ) → n < steps + 1 → IsIdAfter drawn n other
         → is_taken t other ≡ true
     first_taken n other less is = by (eq-or-lt_of_le (omega (arith, less))) where
       by : (n ≡ steps) ⊎ (n < steps) → is_taken t other ≡ true
       by (inr earlier) = v.first n other earlier is
       by (inl same) =
-          let there : IsStep drawn steps other = subst (λ (m : ℕ). IsStep drawn m other) same is in
+          let there : IsIdAfter drawn steps other =
+          subst (λ (m : ℕ). IsIdAfter drawn m other) same is in
           subst (λ (a : List ℕ). is_taken t a ≡ true) (same_step drawn steps id other v.here there) taken
 
 -- ---- what is found

@@ -14,7 +14,7 @@ use Rattle.local_store.specs.declared.row.Row.{Row}
 use Rattle.local_store.specs.Rows.{item_of, has_kind}
 use Rattle.local_changes.specs.declared.store_err.StoreErr.{StoreErr}
 use Rattle.local_changes.specs.declared.store_err.StoreErr.TheVariants.{NotFound, Sealed, TimeEnd}
-use Rattle.local_changes.specs.Answers.{IsOrMemory}
+use Rattle.local_changes.specs.Answers.{IsDueOrMemory}
 use Rattle.local_changes.specs.Lookup.{note_kind}
 use Rattle.local_changes.specs.Saving.{saved_within}
 
@@ -72,7 +72,7 @@ edited_note id title body now last item =
 -- the answer is that for a note which was last changed at its own time, or else the refusal
 abbrev pub Edits : List ℕ → Option (List ℕ) → List ℕ → ℕ → Result Item StoreErr
     → Result Change StoreErr → Type 0
-Edits id title body now (Err e) result = IsOrMemory (Err e) result
+Edits id title body now (Err e) result = IsDueOrMemory (Err e) result
 Edits id title body now (Ok item) result =
     (last : ℕ) × IsUpdated item.props last
-    × IsOrMemory (edited_note id title body now last item) result
+    × IsDueOrMemory (edited_note id title body now last item) result

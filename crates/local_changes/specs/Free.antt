@@ -9,13 +9,14 @@ abbrev pub is_taken : Tables → List ℕ → Bool
 is_taken t id = is_some (row_at t id) || is_some (deletion_at t id)
 
 -- the id that so many steps lead to: its number is so much greater, and after the greatest comes 0
-pub record IsStep (from : List ℕ) (steps : ℕ) (id : List ℕ) : Type 0 where
+pub record IsIdAfter (from : List ℕ) (steps : ℕ) (id : List ℕ) : Type 0 where
   pub text : IsIdText id
   pub number : number_of id ≡ (number_of from + steps) % 16 ^ 32
 
 -- the id is free, and each on the way to it is taken
 pub record IsFirstFree (t : Tables) (drawn id : List ℕ) : Type 0 where
   pub steps : ℕ
-  pub there : IsStep drawn steps id
+  pub there : IsIdAfter drawn steps id
   pub free : is_taken t id ≡ false
-  pub first : (n : ℕ) (other : List ℕ) → n < steps → IsStep drawn n other → is_taken t other ≡ true
+  pub first : (n : ℕ) (other : List ℕ) → n < steps → IsIdAfter drawn n other
+      → is_taken t other ≡ true

@@ -1,6 +1,7 @@
 -- The changes that make a note, a notebook or a resource, and the one that removes an item.
 use Rattle.std.specs.Prelude.{ℕ, List, Bool, ◌&&◌, ◌||◌, codes, if◌then◌else◌, Option, Some, None, Result, Ok, Err}
 use Rattle.std.specs.List.{list_any}
+use Rattle.item_text.specs.Props.{has_value}
 use Rattle.item_kinds.specs.Made.{note, folder, resource}
 use Rattle.local_store.specs.declared.change.Change.{Change}
 use Rattle.local_store.specs.declared.change.Change.TheVariants.{Saved, Removed}
@@ -10,7 +11,7 @@ use Rattle.local_store.specs.Rows.{item_of, has_kind}
 use Rattle.local_store.specs.Tables.{row_at}
 use Rattle.local_changes.specs.declared.store_err.StoreErr.{StoreErr}
 use Rattle.local_changes.specs.declared.store_err.StoreErr.TheVariants.{NotFound, NotEmpty}
-use Rattle.local_changes.specs.Lookup.{note_kind, folder_kind, is_row_of, has_value}
+use Rattle.local_changes.specs.Lookup.{note_kind, folder_kind, is_row_of}
 use Rattle.local_changes.specs.Saving.{saved_within}
 
 -- a note in a notebook that is there
@@ -45,7 +46,7 @@ abbrev pub is_child : List ℕ → Row → Bool
 is_child book r =
     let item = item_of r.content in
     (has_kind note_kind item || has_kind folder_kind item)
-    && has_value (codes "parent_id") book item
+    && has_value (codes "parent_id") book item.props
 
 -- the row is a notebook in which something is
 abbrev pub is_full : Tables → List ℕ → Row → Bool

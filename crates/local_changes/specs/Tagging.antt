@@ -2,6 +2,7 @@
 use Rattle.std.specs.Prelude.{ℕ, List, [], ◌∷◌, ◌++◌, Bool, false, ◌&&◌, bytes_eq, codes, unwrap_or, if◌then◌else◌, Option, Some, None, Result, Ok, Err}
 use Rattle.std.specs.List.{list_any, find}
 use Rattle.item_kinds.specs.Made.{tag, note_tag}
+use Rattle.item_text.specs.Props.{has_value}
 use Rattle.item_text.specs.declared.item.Item.{Item}
 use Rattle.local_store.specs.declared.change.Change.{Change}
 use Rattle.local_store.specs.declared.change.Change.TheVariants.{Saved}
@@ -13,7 +14,7 @@ use Rattle.local_store.specs.Rows.{item_of, has_kind}
 use Rattle.local_store.specs.Tables.{row_at}
 use Rattle.local_changes.specs.declared.store_err.StoreErr.{StoreErr}
 use Rattle.local_changes.specs.declared.store_err.StoreErr.TheVariants.{NotFound}
-use Rattle.local_changes.specs.Lookup.{note_kind, tag_kind, note_tag_kind, is_row_of, has_value}
+use Rattle.local_changes.specs.Lookup.{note_kind, tag_kind, note_tag_kind, is_row_of}
 
 -- ---- what is there
 
@@ -34,7 +35,7 @@ abbrev pub is_link : List ℕ → List ℕ → Row → Bool
 is_link note tag r =
     let item = item_of r.content in
     has_kind note_tag_kind item
-    && (has_value (codes "note_id") note item && has_value (codes "tag_id") tag item)
+    && (has_value (codes "note_id") note item.props && has_value (codes "tag_id") tag item.props)
 
 -- ---- what is made
 

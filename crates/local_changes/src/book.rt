@@ -1,7 +1,7 @@
 ghost use Rattle.std.specs.Prelude.{◌≡◌, ◌≤◌, IfOk};
 ghost use Rattle.jop_base.specs.Times.{last_time};
 ghost use Rattle.item_kinds.specs.Made.{IsLine};
-ghost use Rattle.local_changes.specs.Answers.{IsOrMemory};
+ghost use Rattle.local_changes.specs.Answers.{IsDueOrMemory};
 ghost use Rattle.local_changes.specs.Makers.{parent_check, new_book};
 ghost use Rattle.local_store.specs.Sound.{IsAllowed};
 
@@ -36,7 +36,7 @@ pub fn new_book(
 ) -> Result<Change, StoreErr>
     requires title { IsLine title }
     requires time { now ≤ last_time }
-    ensures answer { IsOrMemory (new_book tables.now id parent title now) result }
+    ensures answer { IsDueOrMemory (new_book tables.now id parent title now) result }
     ensures allowed { IfOk result (λ change. IsAllowed change) }
 {
     check_parent(tables, &parent)?;

@@ -1,5 +1,6 @@
 ghost use Rattle.std.specs.Prelude.{◌≡◌};
-ghost use Rattle.local_changes.specs.Lookup.{is_row_of, has_value};
+ghost use Rattle.item_text.specs.Props.{has_value};
+ghost use Rattle.local_changes.specs.Lookup.{is_row_of};
 ghost use Rattle.local_store.specs.Tables.{row_at};
 
 use item_kinds::Kind;
@@ -19,7 +20,7 @@ pub fn has_row(tables: &Tables, id: &Id, kind: Kind) -> bool
 
 /// Whether the topmost value of the key is this one.
 pub(crate) fn has_value(item: &Item, key: &[u8], value: &[u8]) -> bool
-    ensures { result ≡ has_value key.now value.now item.now }
+    ensures { result ≡ has_value key.now value.now item.now.props }
 {
     match prop(item, key) {
         Some(own) => own.as_slice() == value,

@@ -1,7 +1,7 @@
 ghost use Rattle.std.specs.Prelude.{◌≤◌, IfOk};
 ghost use Rattle.jop_base.specs.Times.{last_time};
 ghost use Rattle.item_kinds.specs.Made.{IsLine};
-ghost use Rattle.local_changes.specs.Answers.{IsOrMemory};
+ghost use Rattle.local_changes.specs.Answers.{IsDueOrMemory};
 ghost use Rattle.local_changes.specs.Makers.{new_note};
 ghost use Rattle.local_store.specs.Sound.{IsAllowed};
 
@@ -26,7 +26,7 @@ pub fn new_note(
 ) -> Result<Change, StoreErr>
     requires title { IsLine title }
     requires time { now ≤ last_time }
-    ensures answer { IsOrMemory (new_note tables.now id book title body now) result }
+    ensures answer { IsDueOrMemory (new_note tables.now id book title body now) result }
     ensures allowed { IfOk result (λ change. IsAllowed change) }
 {
     if !has_row(tables, &book, Kind::FOLDER) {

@@ -1,5 +1,5 @@
 ghost use Rattle.std.specs.Prelude.{IfOk};
-ghost use Rattle.local_changes.specs.Answers.{IsOrMemory};
+ghost use Rattle.local_changes.specs.Answers.{IsDueOrMemory};
 ghost use Rattle.local_changes.specs.Saving.{saved_within};
 ghost use Rattle.local_store.specs.Sound.{IsAllowed};
 ghost use Rattle.local_store.specs.declared.change.Change.TheVariants.{Saved};
@@ -17,7 +17,7 @@ pub const ITEM_LIMIT: u64 = 2_097_152;
 #[tactic(auto, using(crate::proofs::Unsealed::allowed_valid))]
 pub(crate) fn saved_within(alloc: Global, id: Id, item: Item) -> Result<Change, StoreErr>
     requires { IsAllowed (Saved id item) }
-    ensures answer { IsOrMemory (saved_within id item) result }
+    ensures answer { IsDueOrMemory (saved_within id item) result }
     ensures allowed { IfOk result (λ change. IsAllowed change) }
 {
     let len = write_item(alloc, &item)?.len() as u64;

@@ -2,7 +2,7 @@ ghost use Rattle.std.specs.Prelude.{◌≡◌, ◌≤◌, ◌++◌, IfOk, OnOk, 
 ghost use Rattle.std.specs.List.{list_any, find};
 ghost use Rattle.jop_base.specs.Times.{last_time};
 ghost use Rattle.item_kinds.specs.Made.{IsLine};
-ghost use Rattle.local_changes.specs.Answers.{IsOrMemory};
+ghost use Rattle.local_changes.specs.Answers.{IsDueOrMemory};
 ghost use Rattle.local_changes.specs.Tagging.{has_title, is_tag_of, is_link, tagged, tag_id, all_changes, tag_changes, link_changes};
 ghost use Rattle.local_store.specs.Sound.{IsAllowed};
 
@@ -128,7 +128,7 @@ pub fn tagged(
 ) -> Result<Seq<Change>, StoreErr>
     requires title { IsLine title }
     requires time { now ≤ last_time }
-    ensures answer { IsOrMemory (tagged tables.now tag link note title now) result }
+    ensures answer { IsDueOrMemory (tagged tables.now tag link note title now) result }
     ensures allowed { IfOk result (λ changes. All IsAllowed changes) }
 {
     if !has_row(tables, &note, Kind::NOTE) {

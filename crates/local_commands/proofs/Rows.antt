@@ -7,7 +7,7 @@ use Rattle.client.specs.Outside.{OutsideNow}
 use Rattle.item_kinds.specs.Made.{note}
 use Rattle.law_licences.specs.Deeds.{deeds_of}
 use Rattle.law_licences.specs.Licences.{Each, IsLocal, MayDo, ObeysData}
-use Rattle.law_licences.specs.Views.{View, at_rest, changed}
+use Rattle.law_licences.specs.Views.{View, at_rest, view_after_change}
 use Rattle.local_changes.specs.Tagging.{is_tag_of, link_changes, tag_changes, tag_id, tagged}
 use Rattle.local_store.specs.Changing.{after}
 use Rattle.local_store.specs.declared.change.Change.{Change}
@@ -17,7 +17,7 @@ use Rattle.local_store.specs.declared.tables.Tables.{Tables}
 use Rattle.local_commands.specs.Commands.Tag.{all_made}
 use Rattle.local_commands.specs.Following.{FollowsChanges, saves_bytes}
 use Rattle.local_commands.specs.Keeping.{AreDone, changes_among, trail_of}
-use Rattle.local_commands.specs.Licences.{MakesLicensed}
+use Rattle.local_commands.specs.Licences.{NotesLicensed}
 use Rattle.local_commands.specs.Plans.{plan_of}
 use Rattle.local_commands.specs.Running.{Runs}
 use Rattle.local_commands.specs.declared.act.Act.{Act}
@@ -139,7 +139,7 @@ follows_changes command old new answer runs none =
 
 -- a user's change leaves a client in no session
 local_rest : (t : Tables) (change : Change) → IsLocal change
-    → changed (at_rest t) change ≡ at_rest (after t change)
+    → view_after_change (at_rest t) change ≡ at_rest (after t change)
 local_rest t (ContextIs context) local = absurd local
 local_rest t change local = refl
 
@@ -158,7 +158,7 @@ licensed saves n t (MakeChange change ∷ acts) local =
 
 pub makes_licensed : (command : LocalCommand) (old new : OutsideNow)
     (answer : Result (List ℕ) LocalErr) → Runs (plan_of command) old answer new
-    → MakesLicensed old new
+    → NotesLicensed old new
 makes_licensed command old new answer runs =
     let does = does_local command old new answer runs in
     record {

@@ -4,7 +4,7 @@ use Rattle.client.specs.Outside.{OutsideNow}
 use Rattle.jop_outside.specs.Outside.{HasRisen}
 use Rattle.jop_target.specs.declared.event.Event.{Event}
 use Rattle.jop_target.specs.declared.event.Event.TheVariants.{Made}
-use Rattle.keeper.specs.Keepers.{Kept, changed, with_blob}
+use Rattle.keeper.specs.Keepers.{Kept, changed, with_saved_blob}
 use Rattle.keeper.specs.declared.keeper_err.KeeperErr.{KeeperErr}
 use Rattle.keeper.specs.declared.keeper_err.KeeperErr.TheVariants.{Fault, NoMemory}
 use Rattle.local_store.specs.Sound.{IsAllowed}
@@ -16,7 +16,7 @@ use Rattle.local_commands.specs.declared.act.Act.TheVariants.{SaveBlob, MakeChan
 
 -- what is kept after an act
 abbrev pub kept_after : Act → Kept → Kept
-kept_after (SaveBlob blob) k = with_blob blob.id blob.bytes k
+kept_after (SaveBlob blob) k = with_saved_blob blob.id blob.bytes k
 kept_after (MakeChange change) k = changed change k
 
 -- what is kept after acts, the first one first

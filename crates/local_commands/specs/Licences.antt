@@ -9,7 +9,7 @@ use Rattle.local_store.specs.declared.tables.Tables.{Tables}
 use Rattle.local_commands.specs.Keeping.{AreNoted, trail_of}
 
 -- the changes that were written down have their licences outside a session, whatever the tables
-pub record MakesLicensed (old new : OutsideNow) : Type 0 where
+pub record NotesLicensed (old new : OutsideNow) : Type 0 where
   pub changes : List Change
   pub noted : AreNoted changes old new
   pub licensed : (t : Tables) →

@@ -1,10 +1,5 @@
 -- What is printed of items.
-use Rattle.std.specs.Prelude.{ℕ, List, [], ◌∷◌, ◌++◌, unwrap_or}
-use Rattle.item_text.specs.declared.item.Item.{Item}
-
--- the title of an item, which is empty if there is none
-abbrev pub title_of : Item → List ℕ
-title_of item = unwrap_or item.title []
+use Rattle.std.specs.Prelude.{ℕ, List, [], ◌∷◌, ◌++◌}
 
 -- an id on a line of its own
 abbrev pub id_line : List ℕ → List ℕ

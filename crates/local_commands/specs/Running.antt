@@ -1,7 +1,7 @@
 -- What a run of a local command comes to. One order holds for all of them: the tables are read; they have to allow the
 -- command; the input is taken; the clock shows the time; ids are drawn; the acts are done; the text is printed.
 use Rattle.std.specs.Prelude.{ℕ, ◌≡◌, ◌⊎◌, List, [], ◌∷◌, Bool, true, false, Option, Some, None, Result, Ok, Err}
-use Rattle.client.specs.Outside.{AreKept, HasKeeperFailed, OutsideNow}
+use Rattle.client.specs.Outside.{AreKeptTables, HasKeeperFailed, OutsideNow}
 use Rattle.jop_outside.specs.Outside.{HasRisen, SourceNow}
 use Rattle.local_store.specs.declared.change.Change.{Change}
 use Rattle.local_store.specs.declared.tables.Tables.{Tables}
@@ -60,7 +60,7 @@ pub record IsUnsaved (old new : OutsideNow) : Type 0 where
 
 -- the tables were read, and allow it
 pub record IsAllowedBy (p : Plan) (old : OutsideNow) (t : Tables) : Type 0 where
-  pub kept : AreKept old.keeper t
+  pub kept : AreKeptTables old.keeper t
   pub passed : p.Checks t None
 
 -- and the input was taken
@@ -97,9 +97,9 @@ pub record IsDone (p : Plan) (old new : OutsideNow) (text : List ℕ) : Type 0 w
 -- ---- otherwise
 
 -- the tables don't allow it, and nothing else was used
-pub record IsRefused (p : Plan) (old new : OutsideNow) (refusal : LocalErr) : Type 0 where
+pub record IsRefusedByTables (p : Plan) (old new : OutsideNow) (refusal : LocalErr) : Type 0 where
   pub tables : Tables
-  pub kept : AreKept old.keeper tables
+  pub kept : AreKeptTables old.keeper tables
   pub checks : p.Checks tables (Some refusal)
   pub same : new ≡ old
 
@@ -159,11 +159,11 @@ IsEndedByMemory p old new =
 abbrev pub Runs : Plan → OutsideNow → Result (List ℕ) LocalErr → OutsideNow → Type 0
 Runs p old (Ok text) new = IsDone p old new text
 Runs p old (Err KeeperFault) new = IsEndedByKeeper p old new
-Runs p old (Err (NotFound id)) new = IsRefused p old new (NotFound id)
-Runs p old (Err (Sealed id)) new = IsRefused p old new (Sealed id)
-Runs p old (Err (TimeEnd id)) new = IsRefused p old new (TimeEnd id)
-Runs p old (Err (NotEmpty id)) new = IsRefused p old new (NotEmpty id)
-Runs p old (Err (NoConflict number)) new = IsRefused p old new (NoConflict number)
+Runs p old (Err (NotFound id)) new = IsRefusedByTables p old new (NotFound id)
+Runs p old (Err (Sealed id)) new = IsRefusedByTables p old new (Sealed id)
+Runs p old (Err (TimeEnd id)) new = IsRefusedByTables p old new (TimeEnd id)
+Runs p old (Err (NotEmpty id)) new = IsRefusedByTables p old new (NotEmpty id)
+Runs p old (Err (NoConflict number)) new = IsRefusedByTables p old new (NoConflict number)
 Runs p old (Err SourceFault) new = IsEndedByInput p old new FailsToGive
 Runs p old (Err (TooLarge len)) new =
     IsEndedByInput p old new (GivesTooMuch len) ⊎ IsUnmakeable p old new (TooLarge len)

@@ -9,7 +9,7 @@ ghost use Rattle.local_commands.specs.Plans.{plan_of};
 ghost use Rattle.local_commands.specs.Following.{Follows, FollowsChanges, HasNoCause};
 ghost use Rattle.local_commands.specs.Following.{IsRefusedEarly, IsWellOrMemory, OfEachRun, saves_bytes};
 ghost use Rattle.local_commands.specs.Keeping.{AreDone, AreNoted, changes_among, kept_after_all};
-ghost use Rattle.local_commands.specs.Licences.{MakesLicensed};
+ghost use Rattle.local_commands.specs.Licences.{NotesLicensed};
 ghost use Rattle.local_commands.specs.Running.{IsUnsaved};
 ghost use Rattle.local_commands.specs.declared.act.Act.{Act};
 
@@ -44,7 +44,7 @@ pub fn only_attach_saves_bytes()
 /// Whatever a command answers, each change that it made has its licence.
 #[tactic(auto, using(crate::proofs::Rows::makes_licensed))]
 pub fn commands_make_licensed_changes()
-    ensures { OfEachRun (λ command old answer new. MakesLicensed old new) }
+    ensures { OfEachRun (λ command old answer new. NotesLicensed old new) }
 {}
 
 /// A refusal, but for the keeper's and for want of memory, comes before anything is saved.

@@ -1,5 +1,6 @@
 ghost use Rattle.std.specs.Prelude.{◌≡◌, IfOk};
-ghost use Rattle.local_commands.specs.Lines.{id_line, title_of};
+ghost use Rattle.law_licences.specs.Copies.{title_or_empty};
+ghost use Rattle.local_commands.specs.Lines.{id_line};
 
 use item_text::Item;
 use jop_base::{Bytes, Id};
@@ -7,7 +8,7 @@ use std::alloc::{AllocError, Global};
 
 /// The title of an item, which is empty if there is none.
 pub(crate) fn title_of(item: &Item) -> &str
-    ensures { result.now ≡ title_of item.now }
+    ensures { result.now ≡ title_or_empty item.now }
 {
     match &item.title {
         Some(title) => title.as_str(),

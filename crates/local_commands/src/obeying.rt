@@ -1,5 +1,5 @@
 ghost use Rattle.std.specs.Prelude.{◌≡◌};
-ghost use Rattle.client.specs.Outside.{AreKept};
+ghost use Rattle.client.specs.Outside.{AreKeptTables};
 ghost use Rattle.local_commands.specs.Plans.{IsWellFormed, plan_of};
 ghost use Rattle.local_commands.specs.Running.{Runs};
 ghost use Rattle.local_commands.specs.Sparing.{Spares};
@@ -40,7 +40,7 @@ fn obey_on<O: Outside>(
     command: LocalCommand,
 ) -> Result<Bytes, LocalErr>
     requires formed { IsWellFormed command }
-    requires kept { AreKept (O.now outside.old).keeper tables.now }
+    requires kept { AreKeptTables (O.now outside.old).keeper tables.now }
     ensures runs { Runs (plan_of command) (O.now outside.old) result (O.now outside.new) }
     ensures spares { Spares (plan_of command) (O.now outside.old) (O.now outside.new) }
     ensures stays { O.place outside.new ≡ O.place outside.old }

@@ -15,10 +15,10 @@ use Rattle.local_store.specs.declared.content.Content.TheVariants.{Plain, Sealed
 use Rattle.local_store.specs.declared.deletion.Deletion.{Deletion}
 use Rattle.local_store.specs.declared.row.Row.{Row}
 use Rattle.local_store.specs.declared.tables.Tables.{Tables}
-use Rattle.local_store.specs.Changing.{after, with_row, without_row, uploaded, noted, noted_if, with_remote, conflicted, opened}
+use Rattle.local_store.specs.Changing.{after, with_row, without_row, uploaded, with_conflict_note, noted_if, with_remote, conflicted, opened}
 use Rattle.local_store.specs.Rows.{row_id, deletion_id, item_of}
 use Rattle.local_store.specs.Sound.{IsContentOf, MayBePending, IsSoundRow, IsSoundNote, IsRemoteOf, IsSound, IsAllowed}
-use Rattle.local_store.specs.Tables.{new_tables, row_at, base_of, is_synced, is_resource}
+use Rattle.local_store.specs.Tables.{new_tables, row_at, base_of, is_synced, is_resource_row}
 
 -- ---- order
 
@@ -82,7 +82,7 @@ ordered_after t (Saved id item) o = ordered_with t
 ordered_after t (Removed id) o = record {
   rows = IsSorted-cut row_id t.rows id o.rows;
   deletions = deletions-ordered (is_synced (row_at t id)) t.deletions
-      (record { id = id; resource = is_resource (row_at t id) }) o.deletions;
+      (record { id = id; resource = is_resource_row (row_at t id) }) o.deletions;
 }
 ordered_after t (Uploaded id bytes) o = ordered_uploaded t id bytes (row_at t id) o
 ordered_after t (Dropped id) o =
@@ -122,7 +122,7 @@ without_row-sound t id sound = record {
 }
 
 noted-sound : (t : Tables) (id : List ℕ) (item : Item) → IsSound t → IsItem item
-    → IsSound (noted t id item)
+    → IsSound (with_conflict_note t id item)
 noted-sound t id item sound valid = record {
   rows_ordered = sound.rows_ordered;
   rows = sound.rows;

@@ -11,7 +11,7 @@ use Rattle.local_store.specs.declared.deletion.Deletion.{Deletion}
 use Rattle.local_store.specs.declared.row.Row.{Row}
 use Rattle.local_store.specs.declared.tables.Tables.{Tables}
 use Rattle.local_store.specs.Rows.{row_id, deletion_id, item_of}
-use Rattle.local_store.specs.Tables.{row_at, base_of, is_synced, is_resource}
+use Rattle.local_store.specs.Tables.{row_at, base_of, is_synced, is_resource_row}
 
 -- with this row in place of the one of its id, or among the others
 abbrev pub with_row : Tables → Row → Tables
@@ -29,11 +29,11 @@ saved t id item =
 -- the deletions once the row is removed: one more if it was synced
 abbrev pub deletions_after : Tables → List ℕ → List Deletion
 deletions_after t id =
-    let deletion : Deletion = record { id = id; resource = is_resource (row_at t id) } in
+    let deletion : Deletion = record { id = id; resource = is_resource_row (row_at t id) } in
     if is_synced (row_at t id) then put deletion_id t.deletions deletion else t.deletions
 
-abbrev pub removed : Tables → List ℕ → Tables
-removed t id = record (without_row t id) { deletions = deletions_after t id }
+abbrev pub with_removal : Tables → List ℕ → Tables
+with_removal t id = record (without_row t id) { deletions = deletions_after t id }
 
 -- the row's file holds these bytes, and the row isn't to be uploaded
 abbrev pub uploaded : Tables → List ℕ → List ℕ → Option Row → Tables
@@ -47,14 +47,14 @@ taken t id bytes content =
     with_row t (record { id = id; content = content; base = Some bytes; pending = false })
 
 -- the item joins the conflict notes under the next number, which rises until the end of 64 bits
-abbrev pub noted : Tables → List ℕ → Item → Tables
-noted t id item = record t {
+abbrev pub with_conflict_note : Tables → List ℕ → Item → Tables
+with_conflict_note t id item = record t {
   conflicts = t.conflicts ++ record { number = t.next_conflict; note = id; item = item } ∷ [];
   next_conflict = min (t.next_conflict + 1) (2 ^ 64 - 1);
 }
 
 abbrev pub noted_if : Bool → Tables → List ℕ → Item → Tables
-noted_if copies t id item = if copies then noted t id item else t
+noted_if copies t id item = if copies then with_conflict_note t id item else t
 
 -- the row becomes what its file holds, or goes if there is none
 abbrev pub with_remote : Tables → List ℕ → Option (List ℕ × Content) → Tables
@@ -82,7 +82,7 @@ cleared t number =
 abbrev pub after : Tables → Change → Tables
 after t (Named client) = record t { client = Some client }
 after t (Saved id item) = saved t id item
-after t (Removed id) = removed t id
+after t (Removed id) = with_removal t id
 after t (Uploaded id bytes) = uploaded t id bytes (row_at t id)
 after t (Dropped id) = record t { deletions = cut deletion_id t.deletions id }
 after t (Taken id bytes content) = taken t id bytes content

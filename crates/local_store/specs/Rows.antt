@@ -1,7 +1,7 @@
 -- Rows and deletions by their ids, and what their items are.
-use Rattle.std.specs.Prelude.{ℕ, List, Bool, false, Option, Some, None, nat_eq, option_and_then}
+use Rattle.std.specs.Prelude.{ℕ, List, Bool, option_and_then}
 use Rattle.item_kinds.specs.declared.kind.Kind.{Kind}
-use Rattle.item_kinds.specs.Kinds.{type_number}
+use Rattle.item_kinds.specs.Kinds.{is_number, type_number}
 use Rattle.item_text.specs.Props.{type_key, value_of}
 use Rattle.item_text.specs.declared.item.Item.{Item}
 use Rattle.local_store.specs.declared.content.Content.{Content}
@@ -19,10 +19,6 @@ deletion_id d = d.id
 abbrev pub item_of : Content → Item
 item_of (Plain item) = item
 item_of (Sealed item) = item
-
-abbrev pub is_number : ℕ → Option ℕ → Bool
-is_number n None = false
-is_number n (Some m) = nat_eq m n
 
 -- whether the topmost `type_` of the item has the number of this kind
 abbrev pub has_kind : Kind → Item → Bool

@@ -36,6 +36,6 @@ abbrev pub is_synced : Option Row → Bool
 is_synced None = false
 is_synced (Some r) = is_some r.base
 
-abbrev pub is_resource : Option Row → Bool
-is_resource None = false
-is_resource (Some r) = has_kind (record { 0 = 4 }) (item_of r.content)
+abbrev pub is_resource_row : Option Row → Bool
+is_resource_row None = false
+is_resource_row (Some r) = has_kind (record { 0 = 4 }) (item_of r.content)

@@ -1,7 +1,7 @@
 ghost use Rattle.std.specs.Prelude.{◌≡◌, OnOk, OnErr, not, nat_eq};
 ghost use Rattle.std.specs.List.{filter};
-ghost use Rattle.local_store.specs.Changing.{saved, removed, uploaded, taken, with_remote, without_row, noted, conflicted, opened, cleared};
-ghost use Rattle.local_store.specs.Tables.{row_at, is_synced, is_resource};
+ghost use Rattle.local_store.specs.Changing.{saved, with_removal, uploaded, taken, with_remote, without_row, with_conflict_note, conflicted, opened, cleared};
+ghost use Rattle.local_store.specs.Tables.{row_at, is_synced, is_resource_row};
 
 use crate::conflict_note::ConflictNote;
 use crate::content::Content;
@@ -52,7 +52,7 @@ impl Tables {
     }
 
     fn is_resource(&self, id: &Id) -> bool
-        ensures { result ≡ is_resource (row_at self.now id.now) }
+        ensures { result ≡ is_resource_row (row_at self.now id.now) }
     {
         match self.rows.at(id) {
             Some(row) => has_kind(row.content.item(), Kind::RESOURCE),
@@ -61,7 +61,7 @@ impl Tables {
     }
 
     pub(crate) fn removed(&mut self, id: &Id) -> Result<(), AllocError>
-        ensures ok { OnOk result (self.new ≡ removed self.old id.now) }
+        ensures ok { OnOk result (self.new ≡ with_removal self.old id.now) }
         ensures err { OnErr result (self.new ≡ self.old) }
     {
         if self.is_synced(id) {
@@ -145,7 +145,7 @@ impl Tables {
 
     /// The item joins the conflict notes.
     fn note(&mut self, id: &Id, item: Item) -> Result<(), AllocError>
-        ensures ok { OnOk result (self.new ≡ noted self.old id.now item) }
+        ensures ok { OnOk result (self.new ≡ with_conflict_note self.old id.now item) }
         ensures err { OnErr result (self.new ≡ self.old) }
     {
         let number = self.next_conflict;
@@ -167,7 +167,7 @@ impl Tables {
         item: Item,
     ) -> Result<(), AllocError>
         ensures ok { OnOk result
-            (self.new ≡ with_remote (noted self.old id.now item) id.now remote.now) }
+            (self.new ≡ with_remote (with_conflict_note self.old id.now item) id.now remote.now) }
         ensures err { OnErr result (self.new ≡ self.old) }
     {
         let count = self.conflicts.len();

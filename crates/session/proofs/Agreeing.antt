@@ -24,7 +24,7 @@ use Rattle.jop_target.specs.declared.tree.BlobBytes.{BlobBytes}
 use Rattle.lease.specs.Calls.{IsLeaseCall, IsLeaseEvent}
 use Rattle.law_licences.specs.Trails.{session_calls}
 use Rattle.law_licences.specs.Views.{Heard, is_about_locks, with_call}
-use Rattle.keeper.specs.Keepers.{KeeperNow, Kept, blob_at, blob_id, changed, with_blob as with_kept}
+use Rattle.keeper.specs.Keepers.{KeeperNow, Kept, blob_at, blob_id, changed, with_saved_blob}
 use Rattle.keeper.specs.declared.blob.Blob.{Blob as Saved}
 use Rattle.local_store.specs.declared.change.Change.{Change}
 use Rattle.session.specs.Agreeing.{AgreeBut, IsKeptFor, is_on_bytes, is_owed, moved, moves}
@@ -263,19 +263,19 @@ agrees_made old new change kept target same agree = λ id none s k told_store to
     before.1 (ap (moved id) (sym same) ∙ was)
 
 blob_saved : (old : Option Kept) (id bytes : List ℕ) (k : Kept)
-    → option_map (with_kept id bytes) old ≡ Some k
-    → (was : Kept) × (old ≡ Some was) × (k ≡ with_kept id bytes was)
+    → option_map (with_saved_blob id bytes) old ≡ Some k
+    → (was : Kept) × (old ≡ Some was) × (k ≡ with_saved_blob id bytes was)
 blob_saved None id bytes k told = absurd cc
 blob_saved (Some was) id bytes k told = (was, refl, cc (told))
 
 saved_here : (was : Kept) (id bytes : List ℕ)
-    → blob_at (with_kept id bytes was) id ≡ Some bytes
+    → blob_at (with_saved_blob id bytes was) id ≡ Some bytes
 saved_here was id bytes =
     ap (option_map (λ (b : Saved). b.bytes))
     (at-put_same blob_id was.blobs (record { id = id; bytes = bytes }))
 
 saved_elsewhere : (was : Kept) (id bytes other : List ℕ) → bytes_eq id other ≡ false
-    → blob_at (with_kept id bytes was) other ≡ blob_at was other
+    → blob_at (with_saved_blob id bytes was) other ≡ blob_at was other
 saved_elsewhere was id bytes other differ =
     ap (option_map (λ (b : Saved). b.bytes))
     (at-put_other blob_id was.blobs (record { id = id; bytes = bytes }) other differ)
@@ -283,10 +283,10 @@ saved_elsewhere was id bytes other differ =
 saved_if : (same : Bool) (was : Kept) (id bytes other stored : List ℕ)
     → bytes_eq id other ≡ same → (id ≡ other → bytes ≡ stored)
     → (bytes_eq id other ≡ false → blob_at was other ≡ Some stored)
-    → blob_at (with_kept id bytes was) other ≡ Some stored
+    → blob_at (with_saved_blob id bytes was) other ≡ Some stored
 saved_if true was id bytes other stored is here there =
     let same = same_text id other is in
-    subst (λ (x : List ℕ). blob_at (with_kept id bytes was) x ≡ Some stored) same
+    subst (λ (x : List ℕ). blob_at (with_saved_blob id bytes was) x ≡ Some stored) same
     (saved_here was id bytes ∙ ap (λ (x : List ℕ). Some x) (here same))
 saved_if false was id bytes other stored is here there =
     saved_elsewhere was id bytes other is ∙ there is
@@ -297,7 +297,7 @@ not_owed false is = refl
 
 -- these bytes are kept, if the keeper tells, and all else is as it was
 pub record IsSaved (id bytes : List ℕ) (old new : SiteNow) : Type 0 where
-  pub kept : new.keeper.kept ≡ option_map (with_kept id bytes) old.keeper.kept
+  pub kept : new.keeper.kept ≡ option_map (with_saved_blob id bytes) old.keeper.kept
   pub well : new.keeper.faults ≡ old.keeper.faults
   pub line : new.line ≡ old.line
   pub tables : new.tables ≡ old.tables

@@ -37,8 +37,8 @@ use Rattle.session.proofs.Saves.{blobs_got-append, blobs_got-locks}
 use Rattle.session.proofs.Agreeing.{agrees_asked, blob_stays}
 use Rattle.session.proofs.LockDeeds.{AreCalls, AreCalls-append, AreCalls-locks, AreLocks, AreWork-calls, but_locks-locks, none_begins, view_from-locks}
 use Rattle.session.proofs.Seen.{but_locks-append}
-use Rattle.session.specs.Asking.{AreBytesOf, Asks as AsksSo, HasAsked, IsAskable, IsHeardBy, step_of_lease}
-use Rattle.session.specs.Doing.{Stops, Went}
+use Rattle.session.specs.Asking.{AreBytesOf, AsksUnderLease, HasAnswer, IsAskable, IsHeardBy, step_of_lease}
+use Rattle.session.specs.Doing.{CameToEnd, Went}
 use Rattle.session.specs.Parts.{but_locks}
 use Rattle.session.specs.Reported.{report_after, reported}
 use Rattle.session.specs.Saving.{Told, blobs_got, got_by}
@@ -236,7 +236,7 @@ are_bytes old new before after call blob bytes h now len ends =
 pub has_asked : (old new : SiteNow) (before after : Lease) (call : Call) (blob bytes : List ℕ)
     → IsSameSite old new → IsSameBut before after → IsTidy old → IsAskable call blob old before
     → HasWorked before after call blob old.line new.line bytes
-    → HasAsked call old before new after bytes
+    → HasAnswer call old before new after bytes
 has_asked old new before after call blob bytes same but tidy can h = record {
   reply = h.reply;
   ends = (h.called.mid.trail, h.called.answered.trail);
@@ -256,7 +256,7 @@ pub stops_failed : {p : WorkPlace} (sort : Call → Bool) (old new : SiteNow) (b
     (blob bytes : List ℕ) (r : SyncReport)
     → IsSameSite old new → IsSameBut before after → IsTidy old → IsAskable call blob old before
     → sort call ≡ true → HasCalled before after call blob old.line new.line bytes Failed
-    → Stops sort (work_by p None old before r) (work_by p None new after r)
+    → CameToEnd sort (work_by p None old before r) (work_by p None new after r)
 unfolding reported
 stops_failed sort old new before after call blob bytes r same but tidy can sorted h =
     let client = before.client in
@@ -307,7 +307,7 @@ pub asks_err : (old new : SiteNow) (before after : Lease) (call : Call) (blob by
     (e : LeaseErr) → IsSameSite old new → IsSameBut before after → IsTidy old
     → IsAskable call blob old before
     → Works before after call blob old.line new.line bytes (Err e)
-    → AsksSo call old before (Err (step_of_lease e)) new after bytes
+    → AsksUnderLease call old before (Err (step_of_lease e)) new after bytes
 asks_err old new before after call blob bytes (Lost seen) same but tidy can h sort p r sorted =
     (stops_leased sort old new before after r same but h.0.goes tidy, (before.stamp, h.1))
 asks_err old new before after call blob bytes TargetFault same but tidy can h sort p r sorted = (
@@ -345,7 +345,7 @@ pub asks_at : (old new : SiteNow) (before after : Lease) (call : Call) (blob byt
     (s t : LineNow) (e : LeaseErr) → old.line ≡ s → new.line ≡ t → IsSameSite old new
     → IsSameBut before after → IsTidy old → IsAskable call blob old before
     → Works before after call blob s t bytes (Err e)
-    → AsksSo call old before (Err (step_of_lease e)) new after bytes
+    → AsksUnderLease call old before (Err (step_of_lease e)) new after bytes
 asks_at old new before after call blob bytes s t e o n same but tidy can h =
     asks_err old new before after call blob bytes e same but tidy can
     (works_at before after call blob bytes old.line new.line s t (Err e) o n h)

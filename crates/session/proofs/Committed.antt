@@ -4,7 +4,7 @@ use Rattle.std.proofs.Common.{sym, ap, subst, ◌∙◌, arith, append-nil, inl,
 use Rattle.std.proofs.lemmas.List.Elements.{All-cons, All-nil}
 use Rattle.conflicts.specs.Reports.{counted}
 use Rattle.conflicts.specs.declared.report.SyncReport.{SyncReport}
-use Rattle.client.specs.Sites.{SiteNow, Commits, IsChanged, IsMade, IsTidy, IsUnmade}
+use Rattle.client.specs.Sites.{SiteNow, Commits, IsChanged, IsMadeChange, IsTidy, IsUnmade}
 use Rattle.conflicts.specs.Errors.{step_err}
 use Rattle.keeper.specs.declared.keeper_err.KeeperErr.{KeeperErr}
 use Rattle.keeper.specs.declared.keeper_err.KeeperErr.TheVariants.{Fault, NoMemory}
@@ -29,7 +29,7 @@ use Rattle.law_licences.specs.Licences.{AreWork, Each}
 use Rattle.law_licences.specs.Trails.{calls_from, session_calls}
 use Rattle.law_licences.specs.Views.{Shown, Working, stage_after, view_from}
 use Rattle.local_store.specs.Changing.{after_all}
-use Rattle.keeper.specs.Keepers.{HasCause, Kept, IsOfKept, changed}
+use Rattle.keeper.specs.Keepers.{HasKeeperCause, Kept, IsOfKept, changed}
 use Rattle.local_store.specs.Sound.{IsAllowed, IsSound}
 use Rattle.local_store.specs.declared.change.Change.{Change}
 use Rattle.local_store.specs.declared.tables.Tables.{Tables}
@@ -102,7 +102,7 @@ kept_changed (Some k) change = refl
 
 unfoldable pub went_made : {p : WorkPlace} (known : Option Shown) (sort : Call → Bool) (old new : SiteNow)
     (lease : Lease) (r s : SyncReport) (change : Change)
-    → IsMade change old new → old.keeper.faults ≤ new.keeper.faults → IsAllowed change
+    → IsMadeChange change old new → old.keeper.faults ≤ new.keeper.faults → IsAllowed change
     → MayMakeBy known old change → IsHeld lease old.line.trail
     → Went sort (work_by p known old lease r) (work_by p known new lease s)
 unfolding events_of changes_in AreWork Each works_by blobs_got view_from
@@ -247,7 +247,7 @@ starves_nowhere sort old new lease r h well held = record {
 -- the keeper failed, or memory ran out
 pub gives_up_unmade : {T : Type 0} (p : WorkPlace) (known : Option Shown) (sort : Call → Bool)
     (old new : SiteNow) (lease : Lease) (r : SyncReport) (k : KeeperErr)
-    → IsUnmade old new → HasCause {T = T} old.keeper.faults (Err k) new.keeper.faults
+    → IsUnmade old new → HasKeeperCause {T = T} old.keeper.faults (Err k) new.keeper.faults
     → IsTidy old → IsHeld lease old.line.trail
     → GivesNothing sort (work_by p known old lease r) (step_err k) (work_by p known new lease r)
 gives_up_unmade p known sort old new lease r Fault h cause tidy held =
@@ -259,7 +259,7 @@ gives_up_unmade p known sort old new lease r NoMemory h cause tidy held =
 pub gives_up_making : (p : WorkPlace) (known : Option Shown) (sort : Call → Bool)
     (old new : SiteNow) (lease : Lease) (r : SyncReport) (change : Change) (k : KeeperErr)
     → Commits change old (Err k) new
-    → HasCause {T = Unit {0}} old.keeper.faults (Err k) new.keeper.faults → IsAllowed change
+    → HasKeeperCause {T = Unit {0}} old.keeper.faults (Err k) new.keeper.faults → IsAllowed change
     → MayMakeBy known old change → IsTidy old → IsHeld lease old.line.trail
     → GivesNothing sort (work_by p known old lease r) (step_err k) (work_by p known new lease r)
 gives_up_making p known sort old new lease r change Fault h cause allowed may tidy held =

@@ -20,7 +20,7 @@ use Rattle.law_licences.specs.Licences.{AreWork, Each}
 use Rattle.law_licences.specs.Views.{Shown, Stage, Working, view_from}
 use Rattle.local_store.specs.Changing.{after_all}
 use Rattle.session.proofs.Joins.{client_is, does_then, told_on, went_on}
-use Rattle.session.specs.Doing.{Does, DoesTo, Ends, EndsAt, GivesNothing, HasLostLease, Starves, Stops, Went}
+use Rattle.session.specs.Doing.{Does, DoesTo, Ends, EndsAt, GivesNothing, HasLostLease, Starves, CameToEnd, Went}
 use Rattle.session.proofs.Leased.{kept-same}
 use Rattle.session.specs.Parts.{Nothing, Part, Then, but_locks}
 use Rattle.session.specs.Reported.{reported}
@@ -29,7 +29,7 @@ use Rattle.session.specs.Steps.{IsStep, works_by}
 use Rattle.session.specs.Work.{IsReady, WorkNow, WorkPlace, view_of, work_by}
 
 stops_on : (P : Part) (sort : Call → Bool) (a b c : WorkNow) → Does P sort a b
-    → Stops sort b c → Stops sort a c
+    → CameToEnd sort b c → CameToEnd sort a c
 stops_on P sort a b c h k = record {
   went = went_on P sort a b c h k.went;
   told = told_on P sort a b c h k.went k.told;

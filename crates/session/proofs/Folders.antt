@@ -4,7 +4,7 @@ use Rattle.std.proofs.Common.{sym, ap, subst, ◌∙◌, inl, inr, arith}
 use Rattle.std.proofs.lemmas.Bool.{and_parts, eqb-true}
 use Rattle.std.proofs.lemmas.List.Elements.{All-cons, All-nil}
 use Rattle.conflicts.specs.Rules.{move_of}
-use Rattle.item_kinds.specs.Kinds.{type_number}
+use Rattle.item_kinds.specs.Kinds.{type_number, is_number}
 use Rattle.item_text.specs.Props.{type_key, value_of}
 use Rattle.jop_base.proofs.KeyedLaws.{IsSorted-cut, at-cut, at-cut_other, bytes_eq-refl, same_text}
 use Rattle.jop_base.specs.Keyed.{IsSorted, at, cut}
@@ -15,7 +15,7 @@ use Rattle.law_licences.specs.Leaving.{IsLeaving}
 use Rattle.law_licences.specs.Pages.{MayGo}
 use Rattle.law_licences.specs.Views.{View}
 use Rattle.local_store.specs.Changing.{after, after_all, conflicted}
-use Rattle.local_store.specs.Rows.{is_number, item_of, row_id}
+use Rattle.local_store.specs.Rows.{item_of, row_id}
 use Rattle.local_store.specs.Sound.{IsAllowed}
 use Rattle.local_store.specs.Tables.{row_at}
 use Rattle.local_store.specs.declared.change.Change.TheVariants.{Moved}

@@ -33,7 +33,7 @@ use Rattle.session.specs.Parts.{Part, Then, but_locks}
 use Rattle.session.specs.Reported.{reported}
 use Rattle.session.specs.Steps.{IsStep, works_by}
 use Rattle.session.specs.Saving.{Told, kept_after_saves, saved_all}
-use Rattle.session.specs.Work.{Fits, WorkNow, view_of}
+use Rattle.session.specs.Work.{MayBeShown, WorkNow, view_of}
 
 -- ---- small parts
 
@@ -227,7 +227,7 @@ does_then P Q sort a b c h k =
       sees = λ shown fits.
           let v = view_of shown a.site in
           let at = view_at sort a b h.went h.told shown (h.stands shown) in
-          subst (λ (w : View). Fits c.known w.shown)
+          subst (λ (w : View). MayBeShown c.known w.shown)
           (sym (view_from-append v ds es ∙ ap (λ (w : View). view_from w es) at))
           (k.sees (view_from v ds).shown (h.sees shown fits));
       owes = k.owes;

@@ -28,7 +28,7 @@ use Rattle.local_store.specs.declared.tables.Tables.{Tables}
 use Rattle.session.proofs.LockDeeds.{AreCalls, AreCalls-append, AreCalls-locks, AreLocks, AreWork-calls, ToldLocks, changes_in-calls, obeys-locks, reported-locks, told_locks, view_from-locks, works_by-idle}
 use Rattle.session.proofs.Seen.{reported-append}
 use Rattle.session.proofs.Sorted.{works_by-append}
-use Rattle.session.specs.Doing.{IsTold, Stops, Went}
+use Rattle.session.specs.Doing.{IsTold, CameToEnd, Went}
 use Rattle.session.specs.Reported.{reported}
 use Rattle.session.specs.Saving.{blobs_got, kept_after_saves, saved_all}
 use Rattle.session.specs.Steps.{IsStep, works_by}
@@ -214,7 +214,7 @@ went_leased sort old new before after r s same but h =
 pub stops_leased : {p : WorkPlace} (sort : Call → Bool) (old new : SiteNow) (before after : Lease)
     (r : SyncReport) → IsSameSite old new → IsSameBut before after
     → LeaseGoesOn before.client old.line new.line → IsTidy old
-    → Stops sort (work_by p None old before r) (work_by p None new after r)
+    → CameToEnd sort (work_by p None old before r) (work_by p None new after r)
 unfolding reported
 stops_leased sort old new before after r same but h tidy =
     let locks = told_more before.client old new.line h in

@@ -18,7 +18,7 @@ use Rattle.lease.specs.Idle.{is_idle_event, is_idle_from, is_work}
 use Rattle.lease.specs.Phase.{role_of}
 use Rattle.law_licences.specs.Deeds.{Deed, Begins, Asks, Makes, MakesUntold, Ends, Stops, changes_in, events_of}
 use Rattle.law_licences.specs.Licences.{AreWork, Each, IsInside, MayCall, MayDo}
-use Rattle.law_licences.specs.Views.{View, heard, is_about_locks, is_lock_file, view_from}
+use Rattle.law_licences.specs.Views.{View, view_after_call, is_about_locks, is_lock_file, view_from}
 use Rattle.session.proofs.Seen.{heard-locks}
 use Rattle.session.specs.Parts.{but_locks}
 use Rattle.session.specs.Reported.{report_after, reported}
@@ -182,8 +182,10 @@ pub obeys-locks : (client : List ℕ) (v : View) (ds : List Deed) → IsInside v
     → AreLocks client ds → Each MayDo v ds
 unfolding AreLocks Each
 obeys-locks client v [] inside h = tt
-obeys-locks client v (Asks call reply ∷ ds) inside h =
-    ((inside, licensed client v call h.0), obeys-locks client (heard v call reply) ds inside h.1)
+obeys-locks client v (Asks call reply ∷ ds) inside h = (
+  (inside, licensed client v call h.0),
+  obeys-locks client (view_after_call v call reply) ds inside h.1,
+)
 obeys-locks client v (Begins ∷ ds) inside h = absurd h
 obeys-locks client v (Makes c ∷ ds) inside h = absurd h
 obeys-locks client v (MakesUntold ∷ ds) inside h = absurd h
@@ -195,8 +197,9 @@ pub reported-locks : (client : List ℕ) (v : View) (r : SyncReport) (ds : List 
 unfolding AreLocks reported
 reported-locks client v r [] h = refl
 reported-locks client v r (Asks call reply ∷ ds) h =
-    ap (λ (s : SyncReport). reported (heard v call reply) s ds) (silent client v r call reply h.0)
-    ∙ reported-locks client (heard v call reply) r ds h.1
+    ap (λ (s : SyncReport). reported (view_after_call v call reply) s ds)
+    (silent client v r call reply h.0)
+    ∙ reported-locks client (view_after_call v call reply) r ds h.1
 reported-locks client v r (Begins ∷ ds) h = absurd h
 reported-locks client v r (Makes c ∷ ds) h = absurd h
 reported-locks client v r (MakesUntold ∷ ds) h = absurd h

@@ -15,7 +15,7 @@ use Rattle.lease.specs.declared.lease.Lease.{Lease}
 use Rattle.law_licences.specs.Deeds.{changes_in}
 use Rattle.law_licences.specs.Views.{Shown, Working}
 use Rattle.local_store.specs.Changing.{after_all}
-use Rattle.keeper.specs.Keepers.{HasCause, IsOfKept, Kept, with_blob}
+use Rattle.keeper.specs.Keepers.{HasKeeperCause, IsOfKept, Kept, with_saved_blob}
 use Rattle.keeper.specs.declared.keeper_err.KeeperErr.{KeeperErr}
 use Rattle.keeper.specs.declared.keeper_err.KeeperErr.TheVariants.{Fault, NoMemory}
 use Rattle.keeper.specs.declared.blob.Blob.{Blob}
@@ -38,14 +38,14 @@ abbrev blob_of : List ℕ → List ℕ → Blob
 blob_of id bytes = record { id = id; bytes = bytes }
 
 one_saved : (kept : Option Kept) (id bytes : List ℕ)
-    → option_map (with_blob id bytes) kept
+    → option_map (with_saved_blob id bytes) kept
     ≡ option_map (kept_after_saves [] (blob_of id bytes ∷ [])) kept
 unfolding saved_all after_all
 one_saved None id bytes = refl
 one_saved (Some k) id bytes = refl
 
 kept_paid : (kept : Option Kept) (cs : List Change) (xs : List Blob) (id bytes : List ℕ)
-    → option_map (with_blob id bytes) (option_map (kept_after_saves cs xs) kept)
+    → option_map (with_saved_blob id bytes) (option_map (kept_after_saves cs xs) kept)
     ≡ option_map (kept_after_saves cs (xs ++ blob_of id bytes ∷ [])) kept
 kept_paid kept cs xs id bytes =
     one_saved (option_map (kept_after_saves cs xs) kept) id bytes
@@ -73,7 +73,7 @@ went_paid sort known a mid new lease r id bytes len w owes is h = record {
   trail = ap (λ (l : LineNow). l.trail) h.line ∙ w.trail;
   made = h.made ∙ w.made;
   kept =
-      h.kept ∙ (ap (option_map (with_blob id bytes)) w.kept
+      h.kept ∙ (ap (option_map (with_saved_blob id bytes)) w.kept
       ∙ kept_paid a.site.keeper.kept (changes_in w.deeds) w.saves id bytes);
   got =
       w.got ∙ (ap (λ (x : List Told). map tale_of w.saves ++ x) owes
@@ -89,7 +89,7 @@ went_paid sort known a mid new lease r id bytes len w owes is h = record {
 }
 
 told_saved : (kept : Option Kept) (id bytes : List ℕ) (t : Tables) → IsOfKept kept t
-    → IsOfKept (option_map (with_blob id bytes) kept) t
+    → IsOfKept (option_map (with_saved_blob id bytes) kept) t
 told_saved None id bytes t h = h
 told_saved (Some k) id bytes t h = h
 
@@ -99,7 +99,7 @@ tidy_saved : (id bytes : List ℕ) (old new : SiteNow) → IsSaved id bytes old 
 tidy_saved id bytes old new h tidy = record {
   sound = subst IsSound (sym h.tables) tidy.sound;
   told = subst (λ (k : Option Kept). IsOfKept k new.tables) (sym h.kept)
-      (subst (λ (t : Tables). IsOfKept (option_map (with_blob id bytes) old.keeper.kept) t)
+      (subst (λ (t : Tables). IsOfKept (option_map (with_saved_blob id bytes) old.keeper.kept) t)
       (sym h.tables) (told_saved old.keeper.kept id bytes old.tables tidy.told));
 }
 
@@ -178,7 +178,7 @@ fails_unpaid P sort known left a mid new lease r d h rose later = record {
 pub gives_up_unpaid : {p : WorkPlace} (P : Part) (sort : Call → Bool) (known : Option Shown)
     (left : List Told) (a : WorkNow) (mid new : SiteNow) (lease : Lease) (r : SyncReport)
     (k : KeeperErr) → DoesTo Working left P sort a (work_by p known mid lease r)
-    → IsUnmade mid new → HasCause {T = Unit {0}} mid.keeper.faults (Err k) new.keeper.faults
+    → IsUnmade mid new → HasKeeperCause {T = Unit {0}} mid.keeper.faults (Err k) new.keeper.faults
     → GivesNothing sort a (step_err k) (work_by p known new lease r)
 gives_up_unpaid P sort known left a mid new lease r Fault d h cause =
     fails_unpaid P sort known left a mid new lease r d h (cause.failed refl) cause.later

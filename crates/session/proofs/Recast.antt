@@ -14,11 +14,11 @@ use Rattle.law_licences.specs.Deeds.{Deed}
 use Rattle.law_licences.specs.Views.{Shown, Stage, View, shown_after, shown_to, view_from}
 use Rattle.session.proofs.Behind.{place_given_up}
 use Rattle.session.proofs.Seen.{view_from-but_locks}
-use Rattle.session.specs.Doing.{Does, DoesTo, Ends, EndsAt, GivesNothing, IsTold, Stops, Went}
+use Rattle.session.specs.Doing.{Does, DoesTo, Ends, EndsAt, GivesNothing, IsTold, CameToEnd, Went}
 use Rattle.session.specs.Parts.{Hears, Part, but_locks}
 use Rattle.session.specs.Saving.{Told}
 use Rattle.session.specs.Sessions.{Fetches, FindsFile}
-use Rattle.session.specs.Work.{Fits, WorkNow, WorkPlace, knowing, nowhere, placed, view_of}
+use Rattle.session.specs.Work.{MayBeShown, WorkNow, WorkPlace, knowing, nowhere, placed, view_of}
 use Rattle.session.specs.declared.finding.Finding.{Finding}
 
 -- the same session, if it was shown this, by these references
@@ -28,7 +28,7 @@ recast known place w = record w { known = known; place = place }
 -- ---- any part
 
 went_recast : (sort : Call → Bool) (k l : Option Shown) (p q : WorkPlace) (a b : WorkNow)
-    → ((shown : Option Shown) → Fits k shown → Fits a.known shown) → q ≡ p
+    → ((shown : Option Shown) → MayBeShown k shown → MayBeShown a.known shown) → q ≡ p
     → Went sort a b → Went sort (recast k p a) (recast l q b)
 went_recast sort k l p q a b fits stays w = record {
   deeds = w.deeds;
@@ -52,8 +52,8 @@ told_recast : (k l : Option Shown) (p q : WorkPlace) (a b : WorkNow) (ds : List 
 told_recast k l p q a b ds h = record { tidy = h.tidy; tables = h.tables; report = h.report }
 
 stops_recast : (sort : Call → Bool) (k l : Option Shown) (p q : WorkPlace) (a b : WorkNow)
-    → ((shown : Option Shown) → Fits k shown → Fits a.known shown) → q ≡ p
-    → Stops sort a b → Stops sort (recast k p a) (recast l q b)
+    → ((shown : Option Shown) → MayBeShown k shown → MayBeShown a.known shown) → q ≡ p
+    → CameToEnd sort a b → CameToEnd sort (recast k p a) (recast l q b)
 unfolding went_recast
 stops_recast sort k l p q a b fits stays h = record {
   went = went_recast sort k l p q a b fits stays h.went;
@@ -61,7 +61,7 @@ stops_recast sort k l p q a b fits stays h = record {
 }
 
 gives_up_recast : (sort : Call → Bool) (k l : Option Shown) (p q : WorkPlace) (a b : WorkNow)
-    (e : StepErr) → ((shown : Option Shown) → Fits k shown → Fits a.known shown) → q ≡ p
+    (e : StepErr) → ((shown : Option Shown) → MayBeShown k shown → MayBeShown a.known shown) → q ≡ p
     → GivesNothing sort a e b → GivesNothing sort (recast k p a) e (recast l q b)
 gives_up_recast sort k l p q a b (Lost seen) fits stays h =
     (stops_recast sort k l p q a b fits stays h.0, h.1)
@@ -81,10 +81,10 @@ gives_up_recast sort k l p q a b NoMemory fits stays h = record {
 
 does_recast : {there : Stage} {left : List Told} (P : Part) (sort : Call → Bool)
     (k l : Option Shown) (p q : WorkPlace) (a b : WorkNow)
-    → ((shown : Option Shown) → Fits k shown → Fits a.known shown) → q ≡ p
+    → ((shown : Option Shown) → MayBeShown k shown → MayBeShown a.known shown) → q ≡ p
     → (h : DoesTo there left P sort a b)
-    → ((shown : Option Shown) → Fits k shown
-    → Fits l (view_from (view_of shown a.site) h.went.deeds).shown)
+    → ((shown : Option Shown) → MayBeShown k shown
+    → MayBeShown l (view_from (view_of shown a.site) h.went.deeds).shown)
     → DoesTo there left P sort (recast k p a) (recast l q b)
 unfolding went_recast
 does_recast P sort k l p q a b fits stays h sees = record {
@@ -137,8 +137,8 @@ ends_at_placed there P sort p q a b (Err e) stays h = gives_up_placed sort p q a
 abbrev pub ShowsNone : Part → Type 0
 ShowsNone P = (v : View) (ds : List Deed) → P v ds → (view_from v ds).shown ≡ v.shown
 
-pub unknown_fits : (known shown : Option Shown) → known ≡ None → Fits known shown
-unknown_fits known shown none = subst (λ (k : Option Shown). Fits k shown) (sym none) tt
+pub unknown_fits : (known shown : Option Shown) → known ≡ None → MayBeShown known shown
+unknown_fits known shown none = subst (λ (k : Option Shown). MayBeShown k shown) (sym none) tt
 
 pub does_knowing : {there : Stage} {left : List Told} (P : Part) (sort : Call → Bool)
     (known : Option Shown) (a b : WorkNow) → a.known ≡ None → ShowsNone P
@@ -152,7 +152,7 @@ does_knowing P sort known a b none blind h =
     let same : (view_from v h.went.deeds).shown ≡ shown =
     ap (λ (w : View). w.shown) (sym (view_from-but_locks v h.went.deeds))
     ∙ blind v (but_locks h.went.deeds) (h.part shown) in
-    subst (λ (x : Option Shown). Fits known x) (sym same) fit)
+    subst (λ (x : Option Shown). MayBeShown known x) (sym same) fit)
 
 pub gives_up_knowing : (sort : Call → Bool) (known : Option Shown) (a b : WorkNow) (e : StepErr)
     → a.known ≡ None → GivesNothing sort a e b → GivesNothing sort (knowing known a) e (knowing known b)

@@ -7,7 +7,7 @@ use Rattle.jop_target.specs.declared.call.Call.{Call}
 use Rattle.jop_target.specs.declared.call.Call.TheVariants.{List as ListDir}
 use Rattle.jop_target.specs.declared.reply.Reply.{Reply}
 use Rattle.law_licences.specs.Deeds.{Deed, Begins, Asks, Makes, MakesUntold, Ends, Stops}
-use Rattle.law_licences.specs.Views.{Shown, View, changed, heard, is_about_locks, seen, shown_after, view_from}
+use Rattle.law_licences.specs.Views.{Shown, View, view_after_change, view_after_call, is_about_locks, seen, shown_after, view_from}
 use Rattle.session.specs.Parts.{but_locks, with_deed}
 use Rattle.session.specs.Reported.{after_deed, reported}
 
@@ -50,7 +50,7 @@ shown_lock v call reply h = refl
 
 -- a call about locks leaves what is seen as it is
 pub heard-locks : (v : View) (call : Call) (reply : Option Reply) → is_about_locks call ≡ true
-    → heard v call reply ≡ v
+    → view_after_call v call reply ≡ v
 heard-locks v call reply h =
     ap (λ (b : Bool). record v {
       calls = if b then v.calls else record { call = call; reply = reply } ∷ v.calls;
@@ -60,9 +60,10 @@ heard-locks v call reply h =
 
 but_locks_if : (locks : Bool) (v : View) (call : Call) (reply : Option Reply) (ds : List Deed)
     → is_about_locks call ≡ locks
-    → view_from (heard v call reply) (but_locks ds) ≡ view_from (heard v call reply) ds
+    → view_from (view_after_call v call reply) (but_locks ds)
+    ≡ view_from (view_after_call v call reply) ds
     → view_from v (if locks then but_locks ds else Asks call reply ∷ but_locks ds)
-    ≡ view_from (heard v call reply) ds
+    ≡ view_from (view_after_call v call reply) ds
 unfolding view_from
 but_locks_if true v call reply ds h later =
     ap (λ (w : View). view_from w (but_locks ds)) (sym (heard-locks v call reply h)) ∙ later
@@ -76,8 +77,8 @@ view_from-but_locks v [] = refl
 view_from-but_locks v (Begins ∷ ds) = view_from-but_locks (seen v Begins) ds
 view_from-but_locks v (Asks call reply ∷ ds) =
     but_locks_if (is_about_locks call) v call reply ds refl
-    (view_from-but_locks (heard v call reply) ds)
-view_from-but_locks v (Makes c ∷ ds) = view_from-but_locks (changed v c) ds
+    (view_from-but_locks (view_after_call v call reply) ds)
+view_from-but_locks v (Makes c ∷ ds) = view_from-but_locks (view_after_change v c) ds
 view_from-but_locks v (MakesUntold ∷ ds) = view_from-but_locks v ds
 view_from-but_locks v (Ends ∷ ds) = view_from-but_locks (seen v Ends) ds
 view_from-but_locks v (Stops ∷ ds) = view_from-but_locks (seen v Stops) ds

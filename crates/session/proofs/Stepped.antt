@@ -25,7 +25,7 @@ use Rattle.session.proofs.Found.{bad_is_unreadable}
 use Rattle.session.proofs.Agreeing.{IsSaved}
 use Rattle.session.proofs.Paid.{does_paid, gives_up_unpaid}
 use Rattle.session.specs.Agreeing.{IsKeptFor}
-use Rattle.session.specs.Asking.{Asks, HasAsked, IsAskable}
+use Rattle.session.specs.Asking.{AsksUnderLease, HasAnswer, IsAskable}
 use Rattle.session.specs.Doing.{Does, DoesTo, GivesNothing, Starves}
 use Rattle.session.specs.Findings.{Judges, finding_of, is_unreadable, with_found}
 use Rattle.session.specs.Parts.{Hears}
@@ -34,7 +34,7 @@ use Rattle.session.specs.Saving.{Told, got_by, told_of}
 use Rattle.session.specs.Sessions.{Fetches, FindsFile, HearsOr, gave_bytes, is_whole_step}
 use Rattle.session.specs.Work.{WorkNow, WorkPlace, view_of, work_by}
 use Rattle.session.specs.declared.finding.Finding.{Finding}
-use Rattle.keeper.specs.Keepers.{HasCause, Kept}
+use Rattle.keeper.specs.Keepers.{HasKeeperCause, Kept}
 use Rattle.keeper.specs.declared.keeper_err.KeeperErr.{KeeperErr}
 
 -- ---- a plain call
@@ -137,7 +137,7 @@ pub asked : (p : WorkPlace) (bytes : List ℕ) (sort : Call → Bool) (call : Ca
     (before after : Lease) (r : SyncReport) (result : Result (Unit {0}) StepErr)
     → ((reply : Reply) → got_by call reply ≡ [])
     → ((v : View) (r : SyncReport) (reply : Reply) → report_after v r call (Some reply) ≡ r)
-    → Asks call old before result new after bytes → sort call ≡ true
+    → AsksUnderLease call old before result new after bytes → sort call ≡ true
     → HearsOr call sort (work_by p None old before r) result (work_by p None new after r)
 asked p bytes sort call old new before after r (Ok done) got noted h sorted = record {
   reply = h.reply;
@@ -167,7 +167,7 @@ noted id old r s finding reply same found is shown =
 
 pub found : {p : WorkPlace} {got : List ℕ} (id : List ℕ) (sort : Call → Bool) (old new : SiteNow)
     (before after : Lease) (r s : SyncReport) (finding : Finding)
-    → (a : HasAsked (Get (Item id)) old before new after got) → sort (Get (Item id)) ≡ true
+    → (a : HasAnswer (Get (Item id)) old before new after got) → sort (Get (Item id)) ≡ true
     → Judges id (base_of (row_at old.tables id)) a.reply finding → s ≡ with_found r id finding
     → Does (FindsFile id finding) sort (work_by p None old before r) (work_by p None new after s)
 found {p} id sort old new before after r s finding a sorted is count =
@@ -182,7 +182,7 @@ found {p} id sort old new before after r s finding a sorted is count =
 -- out of memory the report may lag behind
 pub starves_got : {p : WorkPlace} {got : List ℕ} (id : List ℕ) (sort : Call → Bool)
     (old new : SiteNow) (before after : Lease) (r s : SyncReport)
-    → HasAsked (Get (Item id)) old before new after got → sort (Get (Item id)) ≡ true
+    → HasAnswer (Get (Item id)) old before new after got → sort (Get (Item id)) ≡ true
     → Starves sort (work_by p None old before r) (work_by p None new after s)
 starves_got {p} id sort old new before after r s a sorted =
     let q = report_after (view_of None old) r (Get (Item id)) (Some a.reply) in
@@ -193,7 +193,7 @@ starves_got {p} id sort old new before after r s a sorted =
 
 -- the bytes were asked for, and are owed if there were any
 fetched : {p : WorkPlace} {got : List ℕ} (id : List ℕ) (sort : Call → Bool) (old new : SiteNow)
-    (before after : Lease) (r : SyncReport) → (a : HasAsked (GetBlob id) old before new after got)
+    (before after : Lease) (r : SyncReport) → (a : HasAnswer (GetBlob id) old before new after got)
     → sort (GetBlob id) ≡ true
     → DoesTo Working (told_of id a.reply) (Fetches id) sort (work_by p None old before r)
     (work_by p None new after r)
@@ -214,7 +214,7 @@ none_told id (Done now) h = refl
 -- there were none
 pub fetched_none : {p : WorkPlace} {got : List ℕ} (id : List ℕ) (sort : Call → Bool)
     (old new : SiteNow) (before after : Lease) (r : SyncReport)
-    → (a : HasAsked (GetBlob id) old before new after got) → sort (GetBlob id) ≡ true
+    → (a : HasAnswer (GetBlob id) old before new after got) → sort (GetBlob id) ≡ true
     → gave_bytes a.reply ≡ false
     → Does (Fetches id) sort (work_by p None old before r) (work_by p None new after r)
 fetched_none {p} id sort old new before after r a sorted none =
@@ -242,7 +242,7 @@ long_of id (Done now) h = absurd cc
 -- they are saved
 pub fetched_saved : {p : WorkPlace} {got : List ℕ} (id : List ℕ) (sort : Call → Bool)
     (old mid new : SiteNow) (before after : Lease) (r : SyncReport)
-    → (a : HasAsked (GetBlob id) old before mid after got) → sort (GetBlob id) ≡ true
+    → (a : HasAnswer (GetBlob id) old before mid after got) → sort (GetBlob id) ≡ true
     → gave_bytes a.reply ≡ true → IsSaved id got mid new
     → Does (Fetches id) sort (work_by p None old before r) (work_by p None new after r)
 fetched_saved {p} {got} id sort old mid new before after r a sorted some saved =
@@ -260,8 +260,8 @@ fetched_saved {p} {got} id sort old mid new before after r a sorted some saved =
 -- or that fails
 pub fetched_unsaved : {got : List ℕ} (p : WorkPlace) (id : List ℕ) (sort : Call → Bool)
     (old mid new : SiteNow) (before after : Lease) (r : SyncReport) (k : KeeperErr)
-    → (a : HasAsked (GetBlob id) old before mid after got) → sort (GetBlob id) ≡ true
-    → IsUnmade mid new → HasCause {T = Unit {0}} mid.keeper.faults (Err k) new.keeper.faults
+    → (a : HasAnswer (GetBlob id) old before mid after got) → sort (GetBlob id) ≡ true
+    → IsUnmade mid new → HasKeeperCause {T = Unit {0}} mid.keeper.faults (Err k) new.keeper.faults
     → GivesNothing sort (work_by p None old before r) (step_err k) (work_by p None new after r)
 fetched_unsaved p id sort old mid new before after r k a sorted none cause =
     gives_up_unpaid (Fetches id) sort None (told_of id a.reply) (work_by p None old before r) mid

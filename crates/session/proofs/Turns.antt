@@ -14,7 +14,7 @@ use Rattle.session.proofs.Joins.{seen_between}
 use Rattle.session.proofs.Repeating.{does_here, here_and_left}
 use Rattle.session.specs.Doing.{Does, DoesTo, GivesNothing}
 use Rattle.session.specs.Parts.{Changes, ForEach}
-use Rattle.session.specs.Work.{Fits, IsAtWork, WorkNow, knowing, view_of}
+use Rattle.session.specs.Work.{MayBeShown, IsAtWork, WorkNow, knowing, view_of}
 use Rattle.session.specs.Making.{MayMakeAll, MayMakeAllBy, MayMakeBy, MayMakeNow}
 
 -- what may be made from a place on: the one there, and then those behind it
@@ -64,7 +64,7 @@ pub more_left : (v : View) (cs : List Change) (i : ℕ) (c : Change) → i < len
 more_left v cs i c within is may = (next_may v cs i c within is may).0.more
 
 -- what the session may have been shown
-pub fitting : (known : Option Shown) → (shown : Option Shown) × Fits known shown
+pub fitting : (known : Option Shown) → (shown : Option Shown) × MayBeShown known shown
 fitting None = (None, tt)
 fitting (Some s) = (Some s, refl)
 

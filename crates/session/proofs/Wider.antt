@@ -13,7 +13,7 @@ use Rattle.lease.specs.Discipline.{Session, session_after}
 use Rattle.lease.specs.Idle.{is_work}
 use Rattle.lease.specs.Phase.{role_of}
 use Rattle.law_licences.specs.Views.{Stage}
-use Rattle.session.specs.Doing.{DoesTo, Ends, GivesNothing, Stops, Went}
+use Rattle.session.specs.Doing.{DoesTo, Ends, GivesNothing, CameToEnd, Went}
 use Rattle.session.specs.Parts.{Part}
 use Rattle.session.specs.Saving.{Told}
 use Rattle.session.specs.Steps.{IsStep, is_sorted, works_by}
@@ -113,7 +113,7 @@ does_within sort wide a b within h = record {
 }
 
 pub stops_within : (sort wide : Call → Bool) (a b : WorkNow) → IsWithin sort wide
-    → Stops sort a b → Stops wide a b
+    → CameToEnd sort a b → CameToEnd wide a b
 unfolding went_within
 stops_within sort wide a b within h =
     record { went = went_within sort wide a b within h.went; told = h.told }

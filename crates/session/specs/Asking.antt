@@ -53,7 +53,7 @@ IsHeardBy sort call old before new after =
     (work_by place None new after s)
 
 -- the call was answered last, and not by `Failed`
-pub record HasAsked (call : Call) (old : SiteNow) (before : Lease) (new : SiteNow) (after : Lease)
+pub record HasAnswer (call : Call) (old : SiteNow) (before : Lease) (new : SiteNow) (after : Lease)
     (got : List ℕ) : Type 0 where
   pub reply : Reply
   pub ends : EndsWith new.line.trail call reply
@@ -62,10 +62,10 @@ pub record HasAsked (call : Call) (old : SiteNow) (before : Lease) (new : SiteNo
   pub heard : (sort : Call → Bool) → sort call ≡ true → IsHeardBy sort call old before new after
 
 -- each answer, by its cause
-abbrev pub Asks : Call → SiteNow → Lease → Result (Unit {0}) StepErr → SiteNow → Lease → List ℕ →
-    Type 0
-Asks call old before (Ok done) new after got = HasAsked call old before new after got
-Asks call old before (Err e) new after got =
+abbrev pub AsksUnderLease : Call → SiteNow → Lease → Result (Unit {0}) StepErr → SiteNow → Lease →
+    List ℕ → Type 0
+AsksUnderLease call old before (Ok done) new after got = HasAnswer call old before new after got
+AsksUnderLease call old before (Err e) new after got =
     (sort : Call → Bool) (place : WorkPlace) (r : SyncReport) → sort call ≡ true
     → GivesNothing sort (work_by place None old before r) e (work_by place None new after r)
 

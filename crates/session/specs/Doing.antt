@@ -25,7 +25,7 @@ use Rattle.session.specs.Parts.{Part, but_locks}
 use Rattle.session.specs.Reported.{reported}
 use Rattle.session.specs.Saving.{Told, blobs_got, kept_after_saves, tale_of}
 use Rattle.session.specs.Steps.{IsStep, works_by}
-use Rattle.session.specs.Work.{Fits, IsReady, WorkNow, view_of}
+use Rattle.session.specs.Work.{MayBeShown, IsReady, WorkNow, view_of}
 
 -- A session has gone on by these deeds: calls and changes, each with its licence. Its work is of
 -- this sort, and else only its lease calls. The changes are kept, if the keeper tells, and the
@@ -43,7 +43,7 @@ pub record Went (sort : Call → Bool) (old new : WorkNow) : Type 0 where
       ≡ option_map (kept_after_saves (changes_in deeds) saves) old.site.keeper.kept
   pub got : blobs_got deeds ≡ map tale_of saves ++ owed
   pub work : AreWork deeds
-  pub obeys : (shown : Option Shown) → Fits old.known shown
+  pub obeys : (shown : Option Shown) → MayBeShown old.known shown
       → ObeysData (view_of shown old.site) deeds
   pub goes :
       GoesOn (IsStep sort old.lease.client) old.lease.client old.site.line new.site.line
@@ -70,8 +70,8 @@ pub record DoesTo (there : Stage) (left : List Told) (P : Part) (sort : Call →
   pub part : (shown : Option Shown) → P (view_of shown old.site) (but_locks went.deeds)
   pub stands : (shown : Option Shown)
       → (view_from (view_of shown old.site) went.deeds).stage ≡ there
-  pub sees : (shown : Option Shown) → Fits old.known shown
-      → Fits new.known (view_from (view_of shown old.site) went.deeds).shown
+  pub sees : (shown : Option Shown) → MayBeShown old.known shown
+      → MayBeShown new.known (view_from (view_of shown old.site) went.deeds).shown
   pub owes : went.owed ≡ left
   pub agrees : AgreeBut [] old.site → AgreeBut left new.site
   pub heard : has_failed (events_of (length old.site.made) went.deeds) ≡ false
@@ -83,11 +83,11 @@ abbrev pub Does : Part → (Call → Bool) → WorkNow → WorkNow → Type 0
 Does P sort old new = DoesTo Working [] P sort old new
 
 -- or it was the session's last part
-abbrev pub Finishes : Part → (Call → Bool) → WorkNow → WorkNow → Type 0
-Finishes P sort old new = DoesTo Finished [] P sort old new
+abbrev pub DoesLast : Part → (Call → Bool) → WorkNow → WorkNow → Type 0
+DoesLast P sort old new = DoesTo Finished [] P sort old new
 
 -- it went on and came to an end
-pub record Stops (sort : Call → Bool) (old new : WorkNow) : Type 0 where
+pub record CameToEnd (sort : Call → Bool) (old new : WorkNow) : Type 0 where
   pub went : Went sort old new
   pub told : IsTold old new went.deeds
 
@@ -99,7 +99,7 @@ HasLostLease lease new seen =
 
 -- the keeper failed, and the session could go on
 pub record KeeperFails (sort : Call → Bool) (old new : WorkNow) : Type 0 where
-  pub stops : Stops sort old new
+  pub stops : CameToEnd sort old new
   pub ready : IsReady new.site new.lease
   pub rose : HasRisen old.site.keeper.faults new.site.keeper.faults
 
@@ -112,9 +112,9 @@ pub record Starves (sort : Call → Bool) (old new : WorkNow) : Type 0 where
 
 -- why it gave nothing, by each error
 abbrev pub GivesNothing : (Call → Bool) → WorkNow → StepErr → WorkNow → Type 0
-GivesNothing sort old (Lost seen) new = Stops sort old new × HasLostLease old.lease new seen
+GivesNothing sort old (Lost seen) new = CameToEnd sort old new × HasLostLease old.lease new seen
 GivesNothing sort old TargetFault new =
-    Stops sort old new × Fails old.lease.client old.site.line new.site.line
+    CameToEnd sort old new × Fails old.lease.client old.site.line new.site.line
 GivesNothing sort old KeeperFault new = KeeperFails sort old new
 GivesNothing sort old (Refused why) new = ⊥
 GivesNothing sort old NoMemory new = Starves sort old new
@@ -137,7 +137,7 @@ Ends P sort old (Ok value) new = Does P sort old new
 Ends P sort old (Err e) new = GivesNothing sort old e new
 
 -- the same of a part that hands something on, of which the part tells
-abbrev pub EndsIn : {R : Type 0} → (R → Part) → (Call → Bool) → WorkNow → Result R StepErr →
+abbrev pub EndsGiving : {R : Type 0} → (R → Part) → (Call → Bool) → WorkNow → Result R StepErr →
     WorkNow → Type 0
-EndsIn P sort old (Ok value) new = Does (P value) sort old new
-EndsIn P sort old (Err e) new = GivesNothing sort old e new
+EndsGiving P sort old (Ok value) new = Does (P value) sort old new
+EndsGiving P sort old (Err e) new = GivesNothing sort old e new

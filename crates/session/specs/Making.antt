@@ -6,12 +6,12 @@ use Rattle.law_licences.specs.Views.{Shown, View, Working, stage_after}
 use Rattle.local_store.specs.Changing.{after}
 use Rattle.local_store.specs.Sound.{IsAllowed}
 use Rattle.local_store.specs.declared.change.Change.{Change}
-use Rattle.session.specs.Work.{Fits, view_of}
+use Rattle.session.specs.Work.{MayBeShown, view_of}
 
 -- the change has its licence, whatever the session was shown that is known
 abbrev pub MayMakeBy : Option Shown → SiteNow → Change → Type 0
 MayMakeBy known d change =
-    (shown : Option Shown) → Fits known shown → MayChange (view_of shown d) change
+    (shown : Option Shown) → MayBeShown known shown → MayChange (view_of shown d) change
 
 -- the change has its licence now, and isn't the session's last one
 pub record MayMakeNow (v : View) (change : Change) : Type 0 where
@@ -28,4 +28,4 @@ MayMakeAll v (c ∷ cs) =
 -- so do these, whatever the session was shown that is known
 abbrev pub MayMakeAllBy : Option Shown → SiteNow → List Change → Type 0
 MayMakeAllBy known d changes =
-    (shown : Option Shown) → Fits known shown → MayMakeAll (view_of shown d) changes
+    (shown : Option Shown) → MayBeShown known shown → MayMakeAll (view_of shown d) changes

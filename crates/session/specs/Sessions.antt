@@ -18,7 +18,7 @@ use Rattle.law_licences.specs.Views.{Shown, Working, stage_after}
 use Rattle.local_store.specs.Tables.{base_of, row_at}
 use Rattle.local_store.specs.declared.change.Change.{Change}
 use Rattle.session.specs.Asking.{IsAnswer}
-use Rattle.session.specs.Doing.{Does, Ends, EndsAt, EndsIn, GivesNothing}
+use Rattle.session.specs.Doing.{Does, Ends, EndsAt, EndsGiving, GivesNothing}
 use Rattle.session.specs.Findings.{IsSoundFinding, finding_of}
 use Rattle.session.specs.Making.{MayMakeAllBy, MayMakeBy}
 use Rattle.session.specs.Parts.{Changes, ForEach, Hears, Part}
@@ -112,7 +112,8 @@ LoadsOr id sort old (Err e) new = GivesNothing sort old e new
 -- the item's file is found so, or why it gave nothing
 abbrev pub FindsOr : List ℕ → WorkNow → Result Finding StepErr → WorkNow → Type 0
 FindsOr id old result new =
-    (sort : Call → Bool) → sort (Get (Item id)) ≡ true → EndsIn (FindsFile id) sort old result new
+    (sort : Call → Bool) → sort (Get (Item id)) ≡ true
+    → EndsGiving (FindsFile id) sort old result new
 
 -- the bytes of a resource are got and saved
 abbrev pub FetchesOr : List ℕ → WorkNow → Result (Unit {0}) StepErr → WorkNow → Type 0

@@ -50,9 +50,9 @@ abbrev pub work : SiteNow → Lease → SyncReport → WorkNow
 work = work_by nowhere None
 
 -- the session may have been shown this
-abbrev pub Fits : Option Shown → Option Shown → Type 0
-Fits None shown = Unit {0}
-Fits (Some known) shown = shown ≡ Some known
+abbrev pub MayBeShown : Option Shown → Option Shown → Type 0
+MayBeShown None shown = Unit {0}
+MayBeShown (Some known) shown = shown ≡ Some known
 
 -- its tables are in order, and its trail's last session holds the lease
 pub record IsReady (d : SiteNow) (lease : Lease) : Type 0 where

@@ -1,6 +1,6 @@
 ghost use Rattle.std.specs.Prelude.{◌≡◌};
 ghost use Rattle.client.specs.Sites.{IsSameSite};
-ghost use Rattle.session.specs.Asking.{Asks, IsAskable};
+ghost use Rattle.session.specs.Asking.{AsksUnderLease, IsAskable};
 ghost use Rattle.session.specs.Work.{IsReady};
 
 use client::Client;
@@ -21,8 +21,8 @@ pub(crate) fn ask<S: Client>(
     requires ready { IsReady (S.site site.old) lease.old }
     requires askable { IsAskable call bytes.old (S.site site.old) lease.old }
 
-    ensures asks { Asks call (S.site site.old) lease.old result (S.site site.new) lease.new
-        bytes.new }
+    ensures asks { AsksUnderLease
+        call (S.site site.old) lease.old result (S.site site.new) lease.new bytes.new }
     ensures same { IsSameSite (S.site site.old) (S.site site.new) }
     ensures stays { S.place site.new ≡ S.place site.old }
 {

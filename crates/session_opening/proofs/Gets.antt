@@ -15,7 +15,7 @@ use Rattle.law_licences.specs.Infos.{info_read, or_before}
 use Rattle.law_licences.specs.Views.{View, view_from}
 use Rattle.session_opening.proofs.Going.{still_sync}
 use Rattle.session_opening.proofs.Informed.{informed}
-use Rattle.session_opening.specs.Opening.{HasRead, IsOldVersion, IsTakenInfo, ReadsBadInfo, ReadsInfo, ReadsOldFile, ReadsOldOr, ReadsOr, ReadsVersion, RefusesTarget, TellsInfo, is_reading}
+use Rattle.session_opening.specs.Opening.{HasRead, IsOldVersion, IsTakenInfo, ReadsInfo, ReadsOldFile, ReadsOldOr, ReadsOr, ReadsVersion, RefusesTarget, TellsInfo, is_reading}
 use Rattle.session.proofs.Behind.{behind}
 use Rattle.session.proofs.Ending.{does_as, does_starves, gives_up_behind}
 use Rattle.session.proofs.Joins.{does_then}
@@ -26,7 +26,7 @@ use Rattle.session.specs.Sessions.{HasHeard}
 use Rattle.session.specs.Work.{WorkNow, view_of}
 use Rattle.sync_info.specs.Info.{IsInfo}
 use Rattle.sync_info.specs.declared.info.Info.{Info}
-use Rattle.target_upgrade.specs.Reading.{Gives, IsBadReply}
+use Rattle.target_upgrade.specs.Reading.{GivesInfo, IsBadReply}
 use Rattle.target_upgrade.specs.Steps.{SUPPORTED}
 
 -- ---- the old version's file
@@ -54,7 +54,7 @@ reads_old a b version h is less = (
 
 -- ---- the info
 
-info_got : (info : Info) (reply : Reply) (v : View) (ds : List Deed) → Gives info reply
+info_got : (info : Info) (reply : Reply) (v : View) (ds : List Deed) → GivesInfo info reply
     → Hears (Get InfoFile) reply v ds → ReadsInfo info v ds
 info_got info (Got now content) v ds holds h = (now, (content, (holds, h)))
 info_got info (Listed listing) v ds holds h = absurd holds
@@ -73,7 +73,7 @@ info_last info v ds h =
 
 -- an info of the supported version was got
 has_read : (info : Info) (a b : WorkNow) → (h : HasHeard (Get InfoFile) is_reading a b)
-    → a.lease.kind ≡ Sync → IsInfo info → Gives info h.reply → info.version ≡ SUPPORTED
+    → a.lease.kind ≡ Sync → IsInfo info → GivesInfo info h.reply → info.version ≡ SUPPORTED
     → HasRead info a b
 has_read info a b h sync valid gives version =
     let does = does_as (Hears (Get InfoFile) h.reply) (ReadsInfo info) is_reading a b
@@ -92,7 +92,7 @@ has_read info a b h sync valid gives version =
 
 -- the info is of another version
 other_version : (info : Info) (version : ℕ) (a b : WorkNow)
-    → (h : HasHeard (Get InfoFile) is_reading a b) → Gives info h.reply → version ≡ info.version
+    → (h : HasHeard (Get InfoFile) is_reading a b) → GivesInfo info h.reply → version ≡ info.version
     → Does (ReadsVersion version) is_reading a b
 other_version info version a b h gives is =
     does_as (Hears (Get InfoFile) h.reply) (ReadsVersion version) is_reading a b
@@ -105,7 +105,7 @@ other_version info version a b h gives is =
 -- an info was told
 pub takes : (info : Info) (result : Result Info StepErr) (a b : WorkNow)
     → (h : HasHeard (Get InfoFile) is_reading a b) → a.lease.kind ≡ Sync → IsInfo info
-    → Gives info h.reply → IsTakenInfo info result → ReadsOr a result b
+    → GivesInfo info h.reply → IsTakenInfo info result → ReadsOr a result b
 takes info (Ok same) a b h sync valid gives is =
     subst (λ (x : Info). HasRead x a b) (sym is.0) (has_read info a b h sync valid gives is.1)
 takes info (Err (Refused (TargetOlder version))) a b h sync valid gives is =

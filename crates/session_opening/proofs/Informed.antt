@@ -19,7 +19,7 @@ use Rattle.sync_info.specs.Read.{info_in}
 use Rattle.sync_info.specs.declared.info.Info.{Info}
 use Rattle.target_upgrade.proofs.Courses.{course_from-last, lease-is}
 use Rattle.target_upgrade.specs.Course.{Course, course_after, course_of, if_known, is_info_at, is_version, known_in, outside_course}
-use Rattle.target_upgrade.specs.Reading.{Gives}
+use Rattle.target_upgrade.specs.Reading.{GivesInfo}
 use Rattle.target_upgrade.specs.Steps.{SUPPORTED}
 
 pub is_info_at-supported : (content : List ℕ) (info : Info) → info_in content ≡ Some info
@@ -48,7 +48,7 @@ told_now : (client : List ℕ) (c : Course) (stamp now : ℕ) (content : List �
 told_now client c stamp now content phase is = rw (phase, is)
 
 by_reply : (client : List ℕ) (c : Course) (stamp : ℕ) (info : Info) (reply : Reply)
-    → c.lease.phase ≡ Held Sync stamp → Gives info reply → info.version ≡ SUPPORTED
+    → c.lease.phase ≡ Held Sync stamp → GivesInfo info reply → info.version ≡ SUPPORTED
     → (course_after client c (Called (Get InfoFile) reply)).told ≡ Some SUPPORTED
 by_reply client c stamp info (Got now content) phase gives version =
     told_now client c stamp now content phase (known_in-supported content info gives version)
@@ -61,7 +61,7 @@ by_reply client c stamp info (TooLarge len) phase gives version = absurd gives
 
 pub informed : (lease : Lease) (d : SiteNow) (info : Info) (reply : Reply)
     → EndsWith d.line.trail (Get InfoFile) reply → IsHeld lease d.line.trail → lease.kind ≡ Sync
-    → Gives info reply → info.version ≡ SUPPORTED → KnowsVersion lease d
+    → GivesInfo info reply → info.version ≡ SUPPORTED → KnowsVersion lease d
 informed lease d info reply ends held sync gives version =
     let client = lease.client in
     let before = ends.0 in

@@ -16,7 +16,7 @@ use Rattle.law_licences.proofs.Told.{deeds_of-events_of}
 use Rattle.law_licences.specs.Deeds.{Deed, Begins, Asks, Makes, MakesUntold, Ends, Stops, changes_in, deeds_of, events_of}
 use Rattle.law_licences.specs.Infos.{MayPutInfo, info_read}
 use Rattle.law_licences.specs.Licences.{AreWork, Each, MayMerge, MaySend, MergesInfo}
-use Rattle.law_licences.specs.Views.{Shown, View, heard, is_lock_file, seen, view_from}
+use Rattle.law_licences.specs.Views.{Shown, View, view_after_call, is_lock_file, seen, view_from}
 use Rattle.local_store.specs.declared.change.Change.{Change}
 use Rattle.session_opening.specs.Opening.{MergesBetween}
 use Rattle.session.proofs.Joins.{view_at, went_on}
@@ -159,7 +159,7 @@ may_put client text v call is may = tt
 -- such a put changes nothing of what its licence asks
 may_still : (client text : List ℕ) (v : View) (call : Call) (reply : Option Reply)
     → (puts_text text call ≡ true) ⊎ IsLeaseCall client call → MayPutInfo v text
-    → MayPutInfo (heard v call reply) text
+    → MayPutInfo (view_after_call v call reply) text
 unfolding info_read
 may_still client text v call reply (inr own) may =
     subst (λ (w : View). MayPutInfo w text)
@@ -176,14 +176,14 @@ all_put client text n v [] work none each may = tt
 all_put client text n v (Asks call None ∷ ds) work none each may =
     let is = All-head (IsStep (puts_text text) client) (Sent call) (events_of n ds) each in (
       may_put client text v call is may,
-      all_put client text n (heard v call None) ds work none
+      all_put client text n (view_after_call v call None) ds work none
           (All-tail (IsStep (puts_text text) client) (Sent call) (events_of n ds) each)
           (may_still client text v call None is may),
     )
 all_put client text n v (Asks call (Some reply) ∷ ds) work none each may =
     let is = All-head (IsStep (puts_text text) client) (Called call reply) (events_of n ds) each in (
       may_put client text v call is may,
-      all_put client text n (heard v call (Some reply)) ds work none
+      all_put client text n (view_after_call v call (Some reply)) ds work none
           (All-tail (IsStep (puts_text text) client) (Called call reply) (events_of n ds) each)
           (may_still client text v call (Some reply) is may),
     )

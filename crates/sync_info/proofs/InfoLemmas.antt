@@ -3,19 +3,20 @@ use Rattle.std.proofs.Common.{◌≡◌, ℕ, ◌≤◌, List, [], ◌∷◌, Bo
 use Rattle.std.proofs.lemmas.Bool.{or_from, cond-true, le-leb}
 use Rattle.std.specs.List.{AllByRecursion}
 use Rattle.std.specs.Option.{option_map_or}
+use Rattle.jop_base.proofs.IdLaws.{is_id-from_IsIdText}
+use Rattle.jop_base.specs.Id.{is_id}
 use Rattle.jop_base.specs.Times.{last_time}
 use Rattle.serde_json.specs.Data.{Data, boolean, number, string, array, unsigned, depth, items_depth}
 use Rattle.serde_json.specs.Find.{get, as_str}
 use Rattle.serde_json.specs.Read.{max_depth}
 use Rattle.serde_json.specs.Written.{has_float, items_have_float}
-use Rattle.sync_info.specs.Info.{is_id, is_key_name, are_distinct, room, IsKeyRecord, AreKeys, IsActive, IsInfo}
+use Rattle.sync_info.specs.Info.{is_key_name, are_distinct, room, IsKeyRecord, AreKeys, IsActive, IsInfo}
 use Rattle.sync_info.specs.Json.{members_of, setting_json, record_members, record_json, records_json, info_members, info_json}
-use Rattle.sync_info.specs.Read.{option_filter, count_of, time_of, id_of, setting, e2ee_of, active_of, kept_in, record_of, before, records_of, keys_of, info_of, id_in, content_in, updated_in, version_in, e2ee_in, active_in, keys_in}
+use Rattle.sync_info.specs.Read.{option_filter, count_of, time_of, json_id, setting, e2ee_of, active_of, kept_in, record_of, before, records_of, keys_of, info_of, id_in, content_in, updated_in, version_in, e2ee_in, active_in, keys_in}
 use Rattle.sync_info.specs.declared.holder.Holder.TheVariants as holder
 use Rattle.sync_info.specs.declared.info.Info.{Info}
 use Rattle.sync_info.specs.declared.key_record.KeyRecord.{KeyRecord}
 use Rattle.sync_info.specs.declared.timed.Timed.{Timed}
-use Rattle.sync_info.proofs.IdLemmas.{is_id-from_IsIdText}
 use Rattle.sync_info.proofs.JsonLemmas.{whole-members_of, depth-members_of, kept_of-members_of, kept_of-put_all}
 use Rattle.sync_info.proofs.MemberLemmas.{whole-put_all, depth-put_all, named, get_member-put_all}
 
@@ -45,7 +46,7 @@ module _ (k : KeyRecord) (valid : IsKeyRecord k) where
   found name d is = get_member-put_all name (record_members k) (members_of k.others) d is
 
   id-record_json : id_in (record_json k) ≡ Some k.id
-  id-record_json = ap (option_and_then id_of) (found (codes "id") (string k.id) refl)
+  id-record_json = ap (option_and_then json_id) (found (codes "id") (string k.id) refl)
       ∙ cond-true (is_id k.id) _ _ (is_id-from_IsIdText k.id valid.id)
 
   content-record_json : content_in (record_json k) ≡ Some k.content

@@ -14,7 +14,7 @@ use Rattle.serde_json.specs.Read.{read}
 use Rattle.serde_json.specs.View.{view, items_view}
 use Rattle.serde_json.specs.Written.{has_float, members_have_float, compact_text}
 use Rattle.serde_json.specs.declared.value.Value.{Value}
-use Rattle.sync_info.specs.Info.{is_own, IsCompact}
+use Rattle.sync_info.specs.Info.{is_own_member, IsCompact}
 use Rattle.sync_info.specs.Json.{value_in, members_of, put_all, record_json, records_json}
 use Rattle.sync_info.specs.Read.{kept_of}
 use Rattle.sync_info.specs.declared.holder.Holder.{Holder}
@@ -60,11 +60,11 @@ depth-members_of limit (m ∷ ms) compact =
 
 -- what was kept is kept when it is read again
 pub kept_of-members_of : (of : Holder) (limit : ℕ) (ms : List Member)
-    → AllByRecursion (λ m. is_own of m.name ≡ false) ms
+    → AllByRecursion (λ m. is_own_member of m.name ≡ false) ms
     → AllByRecursion (λ m. IsCompact limit m.json) ms → kept_of of (members_of ms) ≡ ms
 kept_of-members_of of limit [] foreign compact = refl
 kept_of-members_of of limit (m ∷ ms) foreign compact =
-    cond-false (is_own of m.name) _ _ foreign.0
+    cond-false (is_own_member of m.name) _ _ foreign.0
     ∙ ap (λ json. record { name = m.name; json = json } ∷ kept_of of (members_of ms))
     (compact_text-value_in limit m.json compact.0)
     ∙ ap (λ more. m ∷ more) (kept_of-members_of of limit ms foreign.1 compact.1)
@@ -75,28 +75,31 @@ same_name : (k l : List ℕ) → slice_cmp nat_cmp k l ≡ Equal → k ≡ l
 same_name k l equal = (bytes_eq-Decides k l).0 (sym (is_eq-slice_cmp k l) ∙ ap is_eq equal)
 
 kept_of-put_at : (of : Holder) (o : Ordering) (k l : List ℕ) (d e : Data) (ms : Members)
-    → slice_cmp nat_cmp k l ≡ o → is_own of k ≡ true → kept_of of (put k d ms) ≡ kept_of of ms
+    → slice_cmp nat_cmp k l ≡ o → is_own_member of k ≡ true
+    → kept_of of (put k d ms) ≡ kept_of of ms
     → kept_of of
     (match_ordering o (member k d (member l e ms)) (member l d ms) (member l e (put k d ms)))
     ≡ kept_of of (member l e ms)
-kept_of-put_at of Less k l d e ms is own later = cond-true (is_own of k) _ _ own
+kept_of-put_at of Less k l d e ms is own later = cond-true (is_own_member of k) _ _ own
 kept_of-put_at of Equal k l d e ms is own later =
-    let own_too : is_own of l ≡ true = ap (is_own of) (sym (same_name k l is)) ∙ own in
-    cond-true (is_own of l) _ _ own_too ∙ sym (cond-true (is_own of l) _ _ own_too)
+    let own_too : is_own_member of l ≡ true = ap (is_own_member of) (sym (same_name k l is))
+    ∙ own in
+    cond-true (is_own_member of l) _ _ own_too ∙ sym (cond-true (is_own_member of l) _ _ own_too)
 kept_of-put_at of Greater k l d e ms is own later =
-    ap (λ more. cond (is_own of l) more (record { name = l; json = compact_text e } ∷ more)) later
+    ap (λ more. cond (is_own_member of l) more (record { name = l; json = compact_text e } ∷ more))
+    later
 
-kept_of-put : (of : Holder) (k : List ℕ) (d : Data) (ms : Members) → is_own of k ≡ true
+kept_of-put : (of : Holder) (k : List ℕ) (d : Data) (ms : Members) → is_own_member of k ≡ true
     → kept_of of (put k d ms) ≡ kept_of of ms
-kept_of-put of k d no_members own = cond-true (is_own of k) _ _ own
+kept_of-put of k d no_members own = cond-true (is_own_member of k) _ _ own
 kept_of-put of k d (member l e ms) own =
     kept_of-put_at of _ k l d e ms refl own (kept_of-put of k d ms own)
 
 pub kept_of-put_all : (of : Holder) (own : List (List ℕ × Data)) (ms : Members)
-    → list_all (λ m. is_own of m.0) own ≡ true → kept_of of (put_all own ms) ≡ kept_of of ms
+    → list_all (λ m. is_own_member of m.0) own ≡ true → kept_of of (put_all own ms) ≡ kept_of of ms
 kept_of-put_all of [] ms all = refl
 kept_of-put_all of (m ∷ own) ms all =
-    let parts = and_parts (is_own of m.0) (list_all (λ m. is_own of m.0) own) all in
+    let parts = and_parts (is_own_member of m.0) (list_all (λ m. is_own_member of m.0) own) all in
     kept_of-put of m.0 m.1 (put_all own ms) parts.0 ∙ kept_of-put_all of own ms parts.1
 
 -- ---- one kept member more

@@ -7,7 +7,7 @@ use Rattle.std.specs.List.Sorted.{IsStrictlySortedBy}
 use Rattle.std.specs.Ordering.{nat_cmp}
 use Rattle.serde_json.specs.Data.{Data, Members, no_members, member}
 use Rattle.serde_json.specs.Written.{compact_text}
-use Rattle.sync_info.specs.Info.{is_own, AreKept, IsInfo, new_info}
+use Rattle.sync_info.specs.Info.{is_own_member, AreKeptMembers, IsInfo, new_info}
 use Rattle.sync_info.specs.Read.{kept_of}
 use Rattle.sync_info.proofs.Sound.{IsBefore, IsBelow, AreSoundMembers}
 use Rattle.sync_info.specs.declared.holder.Holder.{Holder}
@@ -16,7 +16,7 @@ use Rattle.sync_info.specs.declared.member.Member.{Member}
 
 -- one member more is kept
 pub kept_more : (of : Holder) (name : List ℕ) (d : Data) (ms : Members) (all kept : List Member)
-    → is_own of name ≡ false → all ≡ kept ++ kept_of of (member name d ms)
+    → is_own_member of name ≡ false → all ≡ kept ++ kept_of of (member name d ms)
     → all ≡ (kept ++ record { name = name; json = compact_text d } ∷ []) ++ kept_of of ms
 kept_more of name d ms all kept foreign so_far = so_far
     ∙ ap (λ more. kept ++ more) (cond-false _ _ _ foreign)
@@ -24,10 +24,10 @@ kept_more of name d ms all kept foreign so_far = so_far
 
 -- none of those that are kept is the holder's own
 pub foreign-kept_of : (of : Holder) (ms : Members)
-    → AllByRecursion (λ m. is_own of m.name ≡ false) (kept_of of ms)
+    → AllByRecursion (λ m. is_own_member of m.name ≡ false) (kept_of of ms)
 foreign-kept_of of no_members = tt
 foreign-kept_of of (member name d ms) =
-    cond_both (is_own of name) _ _ (AllByRecursion (λ m. is_own of m.name ≡ false))
+    cond_both (is_own_member of name) _ _ (AllByRecursion (λ m. is_own_member of m.name ≡ false))
     (λ own. foreign-kept_of of ms) (λ foreign. (foreign, foreign-kept_of of ms))
 
 abbrev names_kept : Holder → Members → List (List ℕ)
@@ -40,7 +40,7 @@ before-kept_of of first (member k d ms) above =
     let P : List Member
     → Type 0 = λ kept. AllByRecursion (IsBelow first) (map (λ m. m.name) kept) in
     let rest = before-kept_of of first ms above.1 in
-    cond_both (is_own of k) _ _ P (λ own. rest) (λ foreign. (above.0, rest))
+    cond_both (is_own_member of k) _ _ P (λ own. rest) (λ foreign. (above.0, rest))
 
 -- members are kept in the order of their names
 pub sorted-kept_of : (of : Holder) (ms : Members) → AreSoundMembers ms
@@ -51,9 +51,10 @@ sorted-kept_of of (member k d ms) sound =
     let P : List Member
     → Type 0 = λ kept. IsStrictlySortedBy (slice_cmp nat_cmp) (map (λ m. m.name) kept) in
     let rest = sorted-kept_of of ms sound.2 in
-    cond_both (is_own of k) _ _ P (λ own. rest) (λ foreign. (before-kept_of of k ms sound.1, rest))
+    cond_both (is_own_member of k) _ _ P (λ own. rest)
+    (λ foreign. (before-kept_of of k ms sound.1, rest))
 
-pub AreKept-nil : (of : Holder) → AreKept of []
+pub AreKept-nil : (of : Holder) → AreKeptMembers of []
 unfolding IsStrictlySortedBy
 AreKept-nil of = record { foreign = tt; sorted = tt; compact = tt }
 

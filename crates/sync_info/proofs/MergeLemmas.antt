@@ -9,7 +9,7 @@ use Rattle.std.specs.List.{AllByRecursion, filter, find, list_any}
 use Rattle.std.specs.Str.{bytes_eq}
 use Rattle.jop_base.specs.Times.{last_time}
 use Rattle.sync_info.specs.Info.{has_id, are_distinct, IsKeyRecord, AreKeys, IsActive, IsInfo}
-use Rattle.sync_info.specs.Merge.{later, later_record, renewed, missing, joined, merged}
+use Rattle.sync_info.specs.Merge.{later, later_record, renewed, missing, joined_keys, merged}
 use Rattle.sync_info.specs.declared.info.Info.{Info}
 use Rattle.sync_info.specs.declared.key_record.KeyRecord.{KeyRecord}
 use Rattle.sync_info.specs.declared.timed.Timed.{Timed}
@@ -250,7 +250,7 @@ gathered (k ∷ ks) remote = (
 
 has-joined_by : (b : Bool) (local remote : List KeyRecord) (k : KeyRecord)
     → list_any (has_id k.id) remote ≡ b → IsGathered remote (missing local remote) k
-    → list_any (has_id k.id) (joined local remote) ≡ true
+    → list_any (has_id k.id) (joined_keys local remote) ≡ true
 has-joined_by true local remote k there gather =
     list_any-append (has_id k.id) (renewed local remote) (missing local remote)
     ∙ or_left _ _ (has-renewed k.id local remote ∙ there)
@@ -259,7 +259,7 @@ has-joined_by false local remote k lacked gather =
     ∙ or_right (list_any (has_id k.id) (renewed local remote)) _ (gather lacked)
 
 has-joined : (local remote : List KeyRecord)
-    → AllByRecursion (λ k. list_any (has_id k.id) (joined local remote) ≡ true) local
+    → AllByRecursion (λ k. list_any (has_id k.id) (joined_keys local remote) ≡ true) local
 has-joined local remote =
     all-weaker _ _
     (λ k gather. has-joined_by (list_any (has_id k.id) remote) local remote k refl gather) local
@@ -273,15 +273,15 @@ missing-had local remote each =
 -- ---- joining once more
 
 joined-left : (local remote : List KeyRecord) → are_distinct local ≡ true
-    → joined local (joined local remote) ≡ joined local remote
+    → joined_keys local (joined_keys local remote) ≡ joined_keys local remote
 joined-left local remote distinct =
     let kept = renewed-found local (missing local remote)
     (all-filter (λ k. find (has_id k.id) local ≡ Some k) _ local (found local distinct)) in
     ap₂ (λ some more. some ++ more)
     (renewed-append local (renewed local remote) (missing local remote)
     ∙ ap₂ (λ some more. some ++ more) (renewed-left local remote) kept)
-    (missing-had local (joined local remote) (has-joined local remote))
-    ∙ append-nil (joined local remote)
+    (missing-had local (joined_keys local remote) (has-joined local remote))
+    ∙ append-nil (joined_keys local remote)
 
 found-renewed_by : (b : Bool) (local more : List KeyRecord) (id : List ℕ) (x k : KeyRecord)
     (ks : List KeyRecord) → has_id id x ≡ b
@@ -313,7 +313,7 @@ renewed-right local more all (k ∷ ks) each =
     ∙ later_record-right (find (has_id k.id) local) k) (renewed-right local more all ks each.1)
 
 joined-right : (local remote : List KeyRecord) → are_distinct remote ≡ true
-    → joined (joined local remote) remote ≡ joined local remote
+    → joined_keys (joined_keys local remote) remote ≡ joined_keys local remote
 joined-right local remote distinct =
     let new = missing local remote in
     ap₂ (λ some more. some ++ more) (renewed-right local new remote remote (found remote distinct))
@@ -324,7 +324,7 @@ joined-right local remote distinct =
     (filter-each _ new
     (all-weaker _ _ (λ k lacked. not_from_false _ lacked) new (missing-lacked local remote))))
 
-joined-itself : (ks : List KeyRecord) → are_distinct ks ≡ true → joined ks ks ≡ ks
+joined-itself : (ks : List KeyRecord) → are_distinct ks ≡ true → joined_keys ks ks ≡ ks
 joined-itself ks distinct =
     ap₂ (λ some more. some ++ more) (renewed-found ks ks (found ks distinct))
     (missing-had ks ks (has-itself ks)) ∙ append-nil ks
@@ -386,7 +386,7 @@ all-renewed P local (k ∷ ks) each rest = (
 )
 
 AreKeys-joined : (local remote : List KeyRecord) → AreKeys local → AreKeys remote
-    → AreKeys (joined local remote)
+    → AreKeys (joined_keys local remote)
 AreKeys-joined local remote own others = record {
   records = all-append IsKeyRecord (renewed local remote) (missing local remote)
       (all-renewed IsKeyRecord local remote own.records others.records)

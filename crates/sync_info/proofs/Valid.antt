@@ -7,16 +7,17 @@ use Rattle.std.specs.List.Sorted.{IsStrictlySortedBy}
 use Rattle.std.specs.Option.{option_map_or}
 use Rattle.std.specs.Ordering.{nat_cmp}
 use Rattle.std.specs.Str.{IsUtf8, is_utf8}
-use Rattle.jop_base.specs.Id.{IsIdText}
+use Rattle.jop_base.proofs.IdLaws.{IsIdText-from_is_id}
+use Rattle.jop_base.specs.Id.{IsIdText, is_id}
 use Rattle.jop_base.specs.Times.{last_time}
 use Rattle.serde_json.specs.Data.{unsigned, negative, float, Data, null, boolean, number, string, array, object, Items, no_items, item, Members, no_members, member, depth, items_depth, members_depth}
 use Rattle.serde_json.specs.Find.{get, as_bool, as_str}
 use Rattle.serde_json.specs.Read.{max_depth, read}
 use Rattle.serde_json.specs.Written.{has_float, items_have_float, members_have_float, compact_text}
 use Rattle.serde_json.proofs.Nesting.{depth-read}
-use Rattle.sync_info.specs.Info.{is_id, is_key_name, is_own, are_distinct, room, AreKept, AreKeys, IsActive, IsCompact, IsInfo, IsKeyRecord}
+use Rattle.sync_info.specs.Info.{is_key_name, is_own_member, are_distinct, room, AreKeptMembers, AreKeys, IsActive, IsCompact, IsInfo, IsKeyRecord}
 use Rattle.sync_info.specs.Json.{members_of, put_all, setting_json, record_members, records_json, info_members, info_json, info_text}
-use Rattle.sync_info.specs.Read.{option_filter, count_of, time_of, id_of, key_name_of, setting, id_in, content_in, updated_in, kept_of, kept_in, e2ee_of, e2ee_in, active_of, active_in, key_record, record_of, before, records_of, keys_of, keys_in, version_in, info, info_of, whole_value, info_in}
+use Rattle.sync_info.specs.Read.{option_filter, count_of, time_of, json_id, key_name_of, setting, id_in, content_in, updated_in, kept_of, kept_in, e2ee_of, e2ee_in, active_of, active_in, key_record, record_of, before, records_of, keys_of, keys_in, version_in, info, info_of, whole_value, info_in}
 use Rattle.sync_info.specs.declared.holder.Holder.{Holder}
 use Rattle.sync_info.specs.declared.holder.Holder.TheVariants as holder
 use Rattle.sync_info.specs.declared.info.Info.{Info}
@@ -24,7 +25,6 @@ use Rattle.sync_info.specs.declared.key_record.KeyRecord.{KeyRecord}
 use Rattle.sync_info.specs.declared.member.Member.{Member}
 use Rattle.sync_info.specs.declared.timed.Timed.{Timed}
 use Rattle.sync_info.proofs.Compact.{read-compact_text}
-use Rattle.sync_info.proofs.IdLemmas.{IsIdText-from_is_id}
 use Rattle.sync_info.proofs.InfoLemmas.{whole-info_json, depth-info_json, info_of-info_json}
 use Rattle.sync_info.proofs.KeptLemmas.{AreKept-nil, foreign-kept_of, sorted-kept_of}
 use Rattle.sync_info.proofs.JsonLemmas.{value_in-read}
@@ -128,11 +128,12 @@ compact-kept_of of (member k d ms) sound whole shallow =
       shallow = omega arith;
     } in
     let rest = compact-kept_of of ms sound.2 parts.1 (omega arith) in
-    cond_both (is_own of k) _ _ (AllByRecursion (λ m. IsCompact (room of) m.json)) (λ own. rest)
+    cond_both (is_own_member of k) _ _ (AllByRecursion (λ m. IsCompact (room of) m.json))
+    (λ own. rest)
     (λ foreign. (here, rest))
 
 kept_valid : (of : Holder) (d : Data) → IsSound d → has_float d ≡ false → depth d ≤ suc (room of)
-    → AreKept of (kept_in of d)
+    → AreKeptMembers of (kept_in of d)
 kept_valid of null sound whole shallow = AreKept-nil of
 kept_valid of (boolean b) sound whole shallow = AreKept-nil of
 kept_valid of (number n) sound whole shallow = AreKept-nil of
@@ -148,7 +149,7 @@ kept_valid of (object ms) sound whole shallow = record {
 
 id_valid : (d : Data) → IfSome (id_in d) IsIdText
 id_valid d =
-    if_found IsIdText id_of (get (codes "id") d)
+    if_found IsIdText json_id (get (codes "id") d)
     (λ v found. if_passes (λ x. Unit {0}) IsIdText is_id (λ x h e. IsIdText-from_is_id x e)
     (as_str v) (any (as_str v)))
 
@@ -159,7 +160,8 @@ record_fits d =
 
 if_record : (id content : Option (List ℕ)) (updated : Option ℕ) (others : List Member)
     → IfSome id IsIdText → IfSome updated Fits
-    → AreKept holder.KeyRecord others → IfSome (key_record id content updated others) IsKeyRecord
+    → AreKeptMembers holder.KeyRecord others
+    → IfSome (key_record id content updated others) IsKeyRecord
 if_record None content updated others own fit kept = tt
 if_record (Some id) None updated others own fit kept = tt
 if_record (Some id) (Some content) None others own fit kept = tt
@@ -231,7 +233,7 @@ if_info : (version : Option ℕ) (e2ee : Option (Timed Bool)) (active : Option (
     (keys : Option (List KeyRecord)) (others : List Member)
     → IfSome version (λ n. n < 2 ^ 64) → IfSome e2ee (λ s. Fits s.updated) → IfSome active IsActive
     → IfSome keys AreKeys
-    → AreKept holder.Info others → IfSome (info version e2ee active keys others) IsInfo
+    → AreKeptMembers holder.Info others → IfSome (info version e2ee active keys others) IsInfo
 if_info None e2ee active keys others a b d e kept = tt
 if_info (Some version) None active keys others a b d e kept = tt
 if_info (Some version) (Some e2ee) None keys others a b d e kept = tt
@@ -297,7 +299,8 @@ sound-members_of limit (m ∷ ms) sorted compact =
       sound-members_of limit ms sorted.1 compact.1,
     )
 
-sound-kept : (of : Holder) (ms : List Member) → AreKept of ms → AreSoundMembers (members_of ms)
+sound-kept : (of : Holder) (ms : List Member) → AreKeptMembers of ms
+    → AreSoundMembers (members_of ms)
 sound-kept of ms kept = sound-members_of (room of) ms kept.sorted kept.compact
 
 sound-setting_json : (value : Data) (updated : ℕ) → IsSound value → Fits updated

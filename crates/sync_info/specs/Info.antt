@@ -1,11 +1,11 @@
 -- What an info is. Joplin's specification of synchronisation has the members of `info.json`; the bounds are our own.
-use Rattle.std.specs.Prelude.{ℕ, ◌≡◌, ◌<◌, ◌≤◌, ◌^◌, Bool, true, false, ◌&&◌, ◌||◌, ◌==◌, not, List, [], ◌∷◌, map, length, codes, Some}
+use Rattle.std.specs.Prelude.{ℕ, ◌≡◌, ◌<◌, ◌≤◌, ◌^◌, Bool, true, false, ◌&&◌, ◌||◌, not, List, [], ◌∷◌, map, codes, Some}
 use Rattle.std.specs.Cmp.Lexicographic.{slice_cmp}
-use Rattle.std.specs.List.{list_any, list_all, AllByRecursion}
+use Rattle.std.specs.List.{list_any, AllByRecursion}
 use Rattle.std.specs.List.Sorted.{IsStrictlySortedBy}
 use Rattle.std.specs.Ordering.{nat_cmp}
 use Rattle.std.specs.Str.{bytes_eq}
-use Rattle.jop_base.specs.Id.{IsIdText, is_digit}
+use Rattle.jop_base.specs.Id.{IsIdText, is_id}
 use Rattle.jop_base.specs.Times.{last_time}
 use Rattle.serde_json.specs.Data.{Data, depth}
 use Rattle.serde_json.specs.Read.{read}
@@ -16,10 +16,6 @@ use Rattle.sync_info.specs.declared.info.Info.{Info}
 use Rattle.sync_info.specs.declared.key_record.KeyRecord.{KeyRecord}
 use Rattle.sync_info.specs.declared.member.Member.{Member}
 use Rattle.sync_info.specs.declared.timed.Timed.{Timed}
-
--- the text is an id
-abbrev pub is_id : List ℕ → Bool
-is_id text = (length text == 32) && list_all is_digit text
 
 -- the text names a key, or none
 abbrev pub is_key_name : List ℕ → Bool
@@ -36,11 +32,11 @@ are_distinct [] = true
 are_distinct (key ∷ keys) = not (list_any (has_id key.id) keys) && are_distinct keys
 
 -- the members that are read, and so are never among those that are kept
-abbrev pub is_own : Holder → List ℕ → Bool
-is_own holder.Info name =
+abbrev pub is_own_member : Holder → List ℕ → Bool
+is_own_member holder.Info name =
     bytes_eq name (codes "activeMasterKeyId") || bytes_eq name (codes "e2ee")
     || bytes_eq name (codes "masterKeys") || bytes_eq name (codes "version")
-is_own holder.KeyRecord name =
+is_own_member holder.KeyRecord name =
     bytes_eq name (codes "content") || bytes_eq name (codes "id")
     || bytes_eq name (codes "updated_time")
 
@@ -58,15 +54,15 @@ pub record IsCompact (limit : ℕ) (json : List ℕ) : Type 0 where
   pub shallow : depth value ≤ limit
 
 -- members that an info or a record keeps: each name once, in the order of their bytes
-pub record AreKept (of : Holder) (others : List Member) : Type 0 where
-  pub foreign : AllByRecursion (λ m. is_own of m.name ≡ false) others
+pub record AreKeptMembers (of : Holder) (others : List Member) : Type 0 where
+  pub foreign : AllByRecursion (λ m. is_own_member of m.name ≡ false) others
   pub sorted : IsStrictlySortedBy (slice_cmp nat_cmp) (map (λ m. m.name) others)
   pub compact : AllByRecursion (λ m. IsCompact (room of) m.json) others
 
 pub record IsKeyRecord (key : KeyRecord) : Type 0 where
   pub id : IsIdText key.id
   pub updated : key.updated ≤ last_time
-  pub others : AreKept holder.KeyRecord key.others
+  pub others : AreKeptMembers holder.KeyRecord key.others
 
 -- records of which no two have one id
 pub record AreKeys (keys : List KeyRecord) : Type 0 where
@@ -84,7 +80,7 @@ pub record IsInfo (info : Info) : Type 0 where
   pub e2ee : info.e2ee.updated ≤ last_time
   pub active : IsActive info.active
   pub keys : AreKeys info.keys
-  pub others : AreKept holder.Info info.others
+  pub others : AreKeptMembers holder.Info info.others
 
 -- the info of a target that holds nothing yet
 abbrev pub new_info : ℕ → Info

@@ -33,8 +33,8 @@ renewed local remote = map (λ key. later_record (find (has_id key.id) local) ke
 abbrev pub missing : List KeyRecord → List KeyRecord → List KeyRecord
 missing local remote = filter (λ key. not (list_any (has_id key.id) remote)) local
 
-abbrev pub joined : List KeyRecord → List KeyRecord → List KeyRecord
-joined local remote = renewed local remote ++ missing local remote
+abbrev pub joined_keys : List KeyRecord → List KeyRecord → List KeyRecord
+joined_keys local remote = renewed local remote ++ missing local remote
 
 -- version and kept members are the remote's
 abbrev pub merged : Info → Info → Info
@@ -42,6 +42,6 @@ merged local remote = record {
   version = remote.version;
   e2ee = later local.e2ee remote.e2ee;
   active = later local.active remote.active;
-  keys = joined local.keys remote.keys;
+  keys = joined_keys local.keys remote.keys;
   others = remote.others;
 }

@@ -2,12 +2,13 @@
 use Rattle.std.specs.Prelude.{ℕ, Bool, false, not, List, [], ◌∷◌, Option, Some, None, nat_le, if◌then◌else◌, option_and_then, codes}
 use Rattle.std.specs.Option.{option_map_or}
 use Rattle.std.specs.Str.{is_utf8}
+use Rattle.jop_base.specs.Id.{is_id}
 use Rattle.jop_base.specs.Times.{last_time}
 use Rattle.serde_json.specs.Data.{Data, Items, no_items, item, Members, no_members, member}
 use Rattle.serde_json.specs.Find.{get, as_bool, as_number, as_str, as_array, as_object, as_u64}
 use Rattle.serde_json.specs.Read.{read}
 use Rattle.serde_json.specs.Written.{has_float, compact_text}
-use Rattle.sync_info.specs.Info.{is_id, is_key_name, are_distinct, is_own}
+use Rattle.sync_info.specs.Info.{is_key_name, are_distinct, is_own_member}
 use Rattle.sync_info.specs.declared.holder.Holder.{Holder}
 use Rattle.sync_info.specs.declared.holder.Holder.TheVariants as holder
 use Rattle.sync_info.specs.declared.info.Info.{Info}
@@ -30,8 +31,8 @@ count_of d = option_and_then as_u64 (as_number d)
 abbrev pub time_of : Data → Option ℕ
 time_of d = option_filter (λ t. nat_le t last_time) (count_of d)
 
-abbrev pub id_of : Data → Option (List ℕ)
-id_of d = option_filter is_id (as_str d)
+abbrev pub json_id : Data → Option (List ℕ)
+json_id d = option_filter is_id (as_str d)
 
 -- the id of a key, or the empty text
 abbrev pub key_name_of : Data → Option (List ℕ)
@@ -69,7 +70,7 @@ active_in d =
 abbrev pub kept_of : Holder → Members → List Member
 kept_of of no_members = []
 kept_of of (member name d ms) =
-    if is_own of name then kept_of of ms
+    if is_own_member of name then kept_of of ms
     else record { name = name; json = compact_text d } ∷ kept_of of ms
 
 abbrev pub kept_in : Holder → Data → List Member
@@ -85,7 +86,7 @@ key_record (Some id) (Some content) (Some updated) others =
 key_record id content updated others = None
 
 abbrev pub id_in : Data → Option (List ℕ)
-id_in d = option_and_then id_of (get (codes "id") d)
+id_in d = option_and_then json_id (get (codes "id") d)
 
 abbrev pub content_in : Data → Option (List ℕ)
 content_in d = option_and_then as_str (get (codes "content") d)

@@ -1,5 +1,5 @@
 ghost use Rattle.std.specs.Prelude.{◌≡◌};
-ghost use Rattle.sync_info.specs.Info.{is_own};
+ghost use Rattle.sync_info.specs.Info.{is_own_member};
 
 /// What has members of its own and keeps others.
 #[derive(Clone, Copy)]
@@ -11,7 +11,7 @@ pub(crate) enum Holder {
 impl Holder {
     /// Whether the member of this name is its own.
     pub(crate) fn is_own(self, name: &str) -> bool
-        ensures { result ≡ is_own self name.now }
+        ensures { result ≡ is_own_member self name.now }
     {
         match self {
             Holder::Info => is_info_name(name),
@@ -21,13 +21,13 @@ impl Holder {
 }
 
 fn is_info_name(name: &str) -> bool
-    ensures { result ≡ is_own Holder.Info name.now }
+    ensures { result ≡ is_own_member Holder.Info name.now }
 {
     name == "activeMasterKeyId" || name == "e2ee" || name == "masterKeys" || name == "version"
 }
 
 fn is_record_name(name: &str) -> bool
-    ensures { result ≡ is_own Holder.KeyRecord name.now }
+    ensures { result ≡ is_own_member Holder.KeyRecord name.now }
 {
     name == "content" || name == "id" || name == "updated_time"
 }

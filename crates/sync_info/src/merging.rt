@@ -1,7 +1,7 @@
 ghost use Rattle.std.specs.Prelude.{◌≡◌, [], ◌∷◌, ◌++◌, IfOk};
 ghost use Rattle.std.specs.Option.{option_copied};
 ghost use Rattle.sync_info.specs.Info.{IsInfo};
-ghost use Rattle.sync_info.specs.Merge.{later, later_record, renewed, missing, joined, merged};
+ghost use Rattle.sync_info.specs.Merge.{later, later_record, renewed, missing, joined_keys, merged};
 
 use crate::index::{has_record, index_of, record_of};
 use crate::info::Info;
@@ -79,7 +79,7 @@ fn joined(
     local: &[KeyRecord],
     remote: &[KeyRecord],
 ) -> Result<Seq<KeyRecord>, AllocError>
-    ensures { IfOk result (λ keys. keys ≡ joined local.now remote.now) }
+    ensures { IfOk result (λ keys. keys ≡ joined_keys local.now remote.now) }
 {
     let mut keys = renewed(alloc, local, remote)?;
     add_missing(alloc, &mut keys, local, remote)?;

@@ -1,7 +1,8 @@
 ghost use Rattle.std.specs.Prelude.{◌≡◌, IfOk, option_map, Some};
+ghost use Rattle.jop_base.specs.Id.{is_id};
 ghost use Rattle.serde_json.specs.View.{view};
-ghost use Rattle.sync_info.specs.Info.{is_id, is_key_name};
-ghost use Rattle.sync_info.specs.Read.{option_filter, version_in, time_of, id_of, key_name_of, e2ee_of, e2ee_in, active_of, active_in};
+ghost use Rattle.sync_info.specs.Info.{is_key_name};
+ghost use Rattle.sync_info.specs.Read.{option_filter, version_in, time_of, json_id, key_name_of, e2ee_of, e2ee_in, active_of, active_in};
 
 use crate::timed::Timed;
 use jop_base::{Id, MAX_TIME, Text};
@@ -22,7 +23,7 @@ fn read_id(text: &str) -> Option<Id>
 }
 
 pub(crate) fn id_of(value: &Value) -> Option<Id>
-    ensures { result ≡ id_of (view value.now) }
+    ensures { result ≡ json_id (view value.now) }
 {
     read_id(value.as_str()?)
 }

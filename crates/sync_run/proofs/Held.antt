@@ -31,8 +31,8 @@ use Rattle.target_upgrade.proofs.Courses.{course_from-last, idle_work}
 use Rattle.target_upgrade.proofs.Made.{client_same, goes_lease, goes_on, goes_then, same_on, stops_then}
 use Rattle.sync_run.proofs.Starved.{none_failed_stopped, none_failed_starved}
 use Rattle.sync_run.specs.Outcomes.{Comes, RefusesUpgrade, StandsFor}
-use Rattle.sync_run.specs.Sessions.{HasBegun, IsReleased, session_err_of, Runs}
-use Rattle.sync_run.specs.Upgrades.{HasLeft, IsUpgradedAt, RunsUpgrade, UpgradeAnswers, answer_released}
+use Rattle.sync_run.specs.Sessions.{HasBegun, IsReleased, session_err_of, RunsTask}
+use Rattle.sync_run.specs.Upgrades.{HasLeftUpgrade, IsUpgradedAt, RunsUpgrade, UpgradeAnswers, answer_released}
 use Rattle.sync_run.specs.declared.outcome.Outcome.{Outcome}
 use Rattle.sync_run.specs.declared.session_err.SessionErr.{SessionErr}
 use Rattle.sync_run.specs.declared.session_err.SessionErr.TheVariants as session_errors
@@ -120,7 +120,7 @@ abbrev has_left : (lease : Lease) (old new : LineNow) (reply : Reply) (Was : Lis
     Was old.trail →
     new.trail ≡ old.trail
     ++ Called (Delete (LockFile (own_name lease.kind lease.client))) reply ∷ [] →
-    HasLeft lease.client new.trail Was
+    HasLeftUpgrade lease.client new.trail Was
 has_left lease old new reply Was exclusive held was ends = record {
   before = old.trail;
   stamp = lease.stamp;
@@ -247,7 +247,7 @@ comes_found a b c found old mid new (Err e) h k l =
 -- ---- a check
 
 abbrev pub RunsCheck : List ℕ → LineNow → LineNow → Result (Unit {0}) SessionErr → Type 0
-RunsCheck client old new result = Runs IsLeaseEvent CheckAnswers client old new result
+RunsCheck client old new result = RunsTask IsLeaseEvent CheckAnswers client old new result
 
 abbrev IsCheckReleased : List ℕ → LineNow → Result (Unit {0}) SessionErr → Type 0
 IsCheckReleased client new result = IsReleased (CheckAnswers client) client new.trail result

@@ -23,7 +23,7 @@ use Rattle.target_upgrade.proofs.Courses.{course_from-last}
 use Rattle.target_upgrade.proofs.Whole.{course_of-begun, stage_left}
 use Rattle.sync_run.specs.Checks.{AddsCheck, CheckAnswers}
 use Rattle.sync_run.specs.Leases.{KeepsLeaseFrom, blocked_in, is_done}
-use Rattle.sync_run.specs.Sessions.{AddsSession, IsWhole}
+use Rattle.sync_run.specs.Sessions.{AddsSession, IsWholeSession}
 use Rattle.sync_run.specs.Upgrades.{AddsUpgrade, UpgradeAnswers}
 use Rattle.sync_run.specs.declared.session_err.SessionErr.{SessionErr}
 use Rattle.sync_run.specs.declared.session_err.SessionErr.TheVariants.{Busy, NoMemory}
@@ -32,7 +32,7 @@ use Rattle.sync_run.specs.declared.session_err.SessionErr.TheVariants.{Busy, NoM
 
 obeys_whole : {T : Type 0} (P : Event → Type 0) (B : List Event → Result T SessionErr → Type 0)
     (client : List ℕ) (old new added : List Event) (result : Result T SessionErr) →
-    IsWhole P B client old new result → new ≡ old ++ added → ObeysLease client added
+    IsWholeSession P B client old new result → new ≡ old ++ added → ObeysLease client added
 obeys_whole P B client old new added result h is =
     subst (ObeysLease client) (append_cancel_left old _ added (sym h.whole.trail ∙ is))
     (record { locks = h.whole.obeys; work = h.work })
@@ -79,7 +79,8 @@ stage_ended client old middle at =
     ∙ (ap (λ (c : Course). c.stage) (sym (course_of-begun client old middle)) ∙ at)
 
 leaves_added : (client : List ℕ) (old new added : List Event) (version : ℕ) →
-    DoneSessionsLeaveUpgraded → IsWhole IsCall (UpgradeAnswers client) client old new (Ok version) →
+    DoneSessionsLeaveUpgraded →
+    IsWholeSession IsCall (UpgradeAnswers client) client old new (Ok version) →
     new ≡ old ++ added → LeavesUpgraded client added
 leaves_added client old new added version law h is =
     let left = h.because.1.left in

@@ -13,7 +13,7 @@ use Rattle.lease.proofs.WholeSessions.{adds_begun, adds_none, adds_whole, at_sea
 use Rattle.target_upgrade.specs.Course.{KeepsVersions, course_of}
 use Rattle.target_upgrade.proofs.Whole.{keeps_begun, keeps_none, keeps_whole}
 use Rattle.sync_run.proofs.Starved.{none_failed_begun, none_failed_unbegun}
-use Rattle.sync_run.specs.Sessions.{AddsTask, Runs, IsMarkOr, IsOpen, IsWhole, has_ended}
+use Rattle.sync_run.specs.Sessions.{AddsTask, RunsTask, IsMarkOr, IsOpen, IsWholeSession, has_ended}
 use Rattle.sync_run.specs.declared.session_err.SessionErr.{SessionErr}
 use Rattle.sync_run.specs.declared.session_err.SessionErr.TheVariants.{NoMemory}
 
@@ -33,10 +33,10 @@ AreInner calls = (client : List ℕ) (e : Event) → calls client e → IsInner 
 whole : {T : Type 0} (calls : List ℕ → Event → Type 0)
     (answers : List ℕ → List Event → Result T SessionErr → Type 0) (client : List ℕ)
     (old new : List Event) (start mid : LineNow) (result : Result T SessionErr) → AreInner calls →
-    start.trail ≡ old ++ Began ∷ [] → Runs calls answers client start mid result →
+    start.trail ≡ old ++ Began ∷ [] → RunsTask calls answers client start mid result →
     answers client mid.trail result → ends_released (phase_of client mid.trail) ≡ true →
     new ≡ mid.trail ++ Ended ∷ [] →
-    IsWhole (calls client) (answers client) client old new result
+    IsWholeSession (calls client) (answers client) client old new result
 whole calls answers client old new start mid result inner begun runs because released ends =
     let adds = adds_whole (calls client) client old new start mid (inner client) begun runs.on.goes
     released ends in
@@ -51,7 +51,7 @@ whole calls answers client old new start mid result inner begun runs because rel
 pub adds_ended : {T : Type 0} (calls : List ℕ → Event → Type 0)
     (answers : List ℕ → List Event → Result T SessionErr → Type 0) (client : List ℕ)
     (old new : List Event) (start mid : LineNow) (result : Result T SessionErr) → AreInner calls →
-    start.trail ≡ old ++ Began ∷ [] → Runs calls answers client start mid result →
+    start.trail ≡ old ++ Began ∷ [] → RunsTask calls answers client start mid result →
     has_ended result ≡ true → new ≡ mid.trail ++ Ended ∷ [] →
     AddsTask calls answers client old new result
 adds_ended calls answers client old new start mid (Err NoMemory) inner begun runs ended ends = cc
@@ -62,7 +62,7 @@ adds_ended calls answers client old new start mid result inner begun runs ended 
 adds_open : {T : Type 0} (calls : List ℕ → Event → Type 0)
     (answers : List ℕ → List Event → Result T SessionErr → Type 0) (client : List ℕ)
     (old new : List Event) (start mid : LineNow) (result : Result T SessionErr) → AreInner calls →
-    start.trail ≡ old ++ Began ∷ [] → Runs calls answers client start mid result →
+    start.trail ≡ old ++ Began ∷ [] → RunsTask calls answers client start mid result →
     NoneFailed start.trail mid.trail → new ≡ mid.trail → IsOpen (calls client) client old new
 adds_open calls answers client old new start mid result inner begun runs none same =
     let more = runs.on.goes.line.more in
@@ -95,7 +95,7 @@ adds_nothing P client old new same =
 pub adds_unended : {T : Type 0} (calls : List ℕ → Event → Type 0)
     (answers : List ℕ → List Event → Result T SessionErr → Type 0) (client : List ℕ)
     (old new : List Event) (start mid : LineNow) (result : Result T SessionErr) → AreInner calls →
-    start.trail ≡ old ++ Began ∷ [] → Runs calls answers client start mid result →
+    start.trail ≡ old ++ Began ∷ [] → RunsTask calls answers client start mid result →
     has_ended result ≡ false → new ≡ mid.trail → AddsTask calls answers client old new result
 adds_unended calls answers client old new start mid (Err NoMemory) inner begun runs ended same =
     adds_open calls answers client old new start mid (Err NoMemory) inner begun runs

@@ -12,20 +12,20 @@ use Rattle.lease.specs.declared.error.LeaseErr.{LeaseErr}
 use Rattle.lease.specs.declared.lease.Lease.{Lease}
 use Rattle.sync_info.specs.declared.info.Info.{Info}
 use Rattle.target_upgrade.specs.Answers.{StandsAt, Stops}
-use Rattle.target_upgrade.specs.Reading.{IsBadReply, IsGot}
-use Rattle.target_upgrade.specs.Steps.{SUPPORTED, Stage, Upgraded as IsUpgraded}
+use Rattle.target_upgrade.specs.Reading.{IsBadReply, IsGotInfo}
+use Rattle.target_upgrade.specs.Steps.{SUPPORTED, UpgradeStage, Upgraded as IsUpgraded}
 use Rattle.sync_run.specs.declared.outcome.Outcome.{Outcome}
 use Rattle.sync_run.specs.declared.outcome.Outcome.TheVariants.{Upgraded, Refused}
 
 -- the last call got an info of this version, which is newer than the supported one
 pub record ReadsNewer (trail : List Event) (version : ℕ) : Type 0 where
   pub info : Info
-  pub got : IsGot trail info
+  pub got : IsGotInfo trail info
   pub version_is : info.version ≡ version
   pub newer : SUPPORTED < version
 
 -- the last call got an `info.json` that is too large or holds no info
-pub record ReadsBadInfo (trail : List Event) : Type 0 where
+pub record EndsInBadInfo (trail : List Event) : Type 0 where
   pub reply : Reply
   pub ends : EndsWith trail (Get InfoFile) reply
   pub bad : IsBadReply reply
@@ -33,16 +33,16 @@ pub record ReadsBadInfo (trail : List Event) : Type 0 where
 -- why an upgrade is refused, by what its last call got
 abbrev pub RefusesUpgrade : Refusal → List Event → Type 0
 RefusesUpgrade (TargetNewer version) trail = ReadsNewer trail version
-RefusesUpgrade BadInfo trail = ReadsBadInfo trail
+RefusesUpgrade BadInfo trail = EndsInBadInfo trail
 RefusesUpgrade why trail = ⊥
 
-abbrev pub IsToldBy : Stage → List Event → Outcome → Type 0
+abbrev pub IsToldBy : UpgradeStage → List Event → Outcome → Type 0
 IsToldBy stage trail Upgraded = stage ≡ IsUpgraded
 IsToldBy stage trail (Refused why) = RefusesUpgrade why trail
 
 -- the session holds its lease, and this is what it came to
 pub record StandsFor (lease : Lease) (trail : List Event) (outcome : Outcome) : Type 0 where
-  pub stage : Stage
+  pub stage : UpgradeStage
   pub stands : StandsAt lease trail stage
   pub told : IsToldBy stage trail outcome
 

@@ -57,7 +57,7 @@ pub record EndsAs {T : Type 0} (answers : List ℕ → List Event → Result T S
   pub heard : result ≡ Err NoMemory → NoneFailed old new
 
 -- The session of a task went on by the calls of that task, and ends as it answers.
-pub record Runs {T : Type 0} (calls : List ℕ → Event → Type 0)
+pub record RunsTask {T : Type 0} (calls : List ℕ → Event → Type 0)
     (answers : List ℕ → List Event → Result T SessionErr → Type 0) (client : List ℕ)
     (old new : LineNow) (result : Result T SessionErr) : Type 0 where
   pub on : RunsOn (calls client) client old new
@@ -67,7 +67,7 @@ pub record Runs {T : Type 0} (calls : List ℕ → Event → Type 0)
 
 -- One session was added to the trail, which has ended with this answer; under its lease it did what
 -- is allowed. It went on by events as `P` says.
-pub record IsWhole {T : Type 0} (P : Event → Type 0)
+pub record IsWholeSession {T : Type 0} (P : Event → Type 0)
     (Because : List Event → Result T SessionErr → Type 0) (client : List ℕ) (old new : List Event)
     (result : Result T SessionErr) : Type 0 where
   pub whole : AddsWhole P client old new
@@ -85,7 +85,7 @@ abbrev pub AddsSession : {T : Type 0} → (Event → Type 0) →
     (List Event → Result T SessionErr → Type 0) → List ℕ → List Event → List Event →
     Result T SessionErr → Type 0
 AddsSession P Because client old new (Err NoMemory) = IsOpen P client old new
-AddsSession P Because client old new result = IsWhole P Because client old new result
+AddsSession P Because client old new result = IsWholeSession P Because client old new result
 
 -- an event as `P` says, or an end of the session
 abbrev pub IsMarkOr : (Event → Type 0) → Event → Type 0

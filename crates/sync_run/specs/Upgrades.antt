@@ -21,7 +21,7 @@ use Rattle.target_upgrade.specs.Course.{course_of}
 use Rattle.target_upgrade.specs.Steps.{SUPPORTED, Upgraded}
 use Rattle.sync_run.specs.Leases.{KeepsLeaseFrom, blocked_in, is_done}
 use Rattle.sync_run.specs.Outcomes.{RefusesUpgrade}
-use Rattle.sync_run.specs.Sessions.{AddsTask, GoesBy, Runs}
+use Rattle.sync_run.specs.Sessions.{AddsTask, GoesBy, RunsTask}
 use Rattle.sync_run.specs.declared.outcome.Outcome.{Outcome}
 use Rattle.sync_run.specs.declared.outcome.Outcome.TheVariants as outcomes
 use Rattle.sync_run.specs.declared.session_err.SessionErr.{SessionErr}
@@ -45,7 +45,7 @@ answer_released (Err e) outcome = answer_by false outcome
 
 -- This held while the exclusive lease was held; then its lock was deleted once, which is the last
 -- call.
-pub record HasLeft (client : List ℕ) (trail : List Event) (Was : List Event → Type 0)
+pub record HasLeftUpgrade (client : List ℕ) (trail : List Event) (Was : List Event → Type 0)
     : Type 0 where
   pub before : List Event
   pub stamp : ℕ
@@ -60,7 +60,7 @@ IsUpgradedAt client trail = (course_of client trail).stage ≡ Upgraded
 
 -- and the delete was answered, and not by `Failed`
 pub record HasUpgraded (client : List ℕ) (trail : List Event) : Type 0 where
-  pub left : HasLeft client trail (IsUpgradedAt client)
+  pub left : HasLeftUpgrade client trail (IsUpgradedAt client)
   pub heard : ¬ (left.reply ≡ Failed)
 
 -- each answer, by what its calls came to
@@ -69,7 +69,7 @@ UpgradeAnswers client trail (Ok version) = (version ≡ SUPPORTED) × HasUpgrade
 UpgradeAnswers client trail (Err (Busy lock now)) = IsBlocked Exclusive client trail lock now
 UpgradeAnswers client trail (Err (LeaseLost seen)) =
     HasMissed Exclusive client (Asked Exclusive) trail seen ⊎ HasLapsed client trail seen
-UpgradeAnswers client trail (Err (Refused why)) = HasLeft client trail (RefusesUpgrade why)
+UpgradeAnswers client trail (Err (Refused why)) = HasLeftUpgrade client trail (RefusesUpgrade why)
 UpgradeAnswers client trail (Err TargetFault) = EndsFailed client trail
 UpgradeAnswers client trail (Err NoMemory) = Unit {0}
 
@@ -79,7 +79,7 @@ UpgradeCalls client = IsCall
 
 -- the session that has begun goes on by such calls
 abbrev pub RunsUpgrade : List ℕ → LineNow → LineNow → Result ℕ SessionErr → Type 0
-RunsUpgrade client old new result = Runs UpgradeCalls UpgradeAnswers client old new result
+RunsUpgrade client old new result = RunsTask UpgradeCalls UpgradeAnswers client old new result
 
 -- the session, of calls
 abbrev pub AddsUpgrade : List ℕ → List Event → List Event → Result ℕ SessionErr → Type 0

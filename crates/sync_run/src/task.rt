@@ -1,7 +1,7 @@
 ghost use Rattle.std.specs.Prelude.{List, Result, ℕ};
 ghost use Rattle.jop_target.specs.declared.event.Event.{Event};
 ghost use Rattle.lease.specs.WholeSession.{IsInner};
-ghost use Rattle.sync_run.specs.Sessions.{HasBegun, Runs};
+ghost use Rattle.sync_run.specs.Sessions.{HasBegun, RunsTask};
 ghost use Rattle.sync_run.specs.declared.session_err.SessionErr.{SessionErr};
 
 use crate::session_err::SessionErr;
@@ -27,7 +27,8 @@ pub(crate) trait Task {
         client: &ClientId,
     ) -> Result<Self::Answer, SessionErr>
         requires { HasBegun client.now (L.state line.old).trail }
-        ensures runs { Runs calls answers client.now (L.state line.old) (L.state line.new) result }
+        ensures runs { RunsTask
+            calls answers client.now (L.state line.old) (L.state line.new) result }
         ensures keeps { L.keeps line.old line.new };
 
     ghost inner: { (client : List ℕ) (event : Event) → calls client event → IsInner event };

@@ -1,6 +1,5 @@
 -- What was saved and removed here is sent, and then the page is read.
-use Rattle.std.specs.Prelude.{ℕ, ◌≡◌, ◌||◌, Some, None, Result, Ok, Err, OnOk}
-use Rattle.std.proofs.Common.{sym, subst}
+use Rattle.std.specs.Prelude.{◌≡◌, ◌||◌, None, Result, Ok, Err, OnOk}
 use Rattle.std.proofs.lemmas.Bool.{or_left, or_right}
 use Rattle.conflicts.specs.declared.error.StepErr.{StepErr}
 use Rattle.download.specs.Downloading.{Downloads, is_download}
@@ -9,7 +8,7 @@ use Rattle.local_store.specs.Sound.{IsSound}
 use Rattle.session.proofs.Ending.{ends_then}
 use Rattle.session.proofs.Joins.{does_then}
 use Rattle.session.proofs.Refusing.{not_refused, refuses_behind, refuses_within}
-use Rattle.session.specs.Doing.{Does, Ends, GivesNothing, RefusesOr}
+use Rattle.session.specs.Doing.{Does, Ends, GivesNothing}
 use Rattle.session.specs.Work.{WorkNow}
 use Rattle.upload.proofs.Deleted.{none_behind}
 use Rattle.upload.specs.Deleting.{Deletes, is_deletion}

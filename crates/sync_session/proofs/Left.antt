@@ -35,7 +35,7 @@ use Rattle.session.proofs.Recast.{unknown_fits}
 use Rattle.session.proofs.Joins.{client_is, seen_between}
 use Rattle.session.specs.Doing.{Went}
 use Rattle.session.specs.Steps.{IsStep}
-use Rattle.session.specs.Work.{Fits, IsReady, WorkNow, view_of, work}
+use Rattle.session.specs.Work.{MayBeShown, IsReady, WorkNow, view_of, work}
 use Rattle.target_upgrade.proofs.Courses.{idle_work}
 use Rattle.target_upgrade.specs.Course.{Course, course_of}
 use Rattle.sync_session.proofs.Telling.{tells_had, tells_left, tells_went}
@@ -43,7 +43,7 @@ use Rattle.sync_session.proofs.Worked.{works_here}
 use Rattle.sync_session.specs.Errors.{of_lease}
 use Rattle.sync_session.specs.Telling.{TellsWork}
 use Rattle.sync_session.specs.Leaving.{LeavesLease, LeavesIf, holds_lease}
-use Rattle.sync_session.specs.Syncing.{EndsWork, HasBegunSync, HasLeft, IsSyncReleased, SyncGoesOn, begun_view}
+use Rattle.sync_session.specs.Syncing.{EndsWork, HasBegunSync, HasLeftSync, IsSyncReleased, SyncGoesOn, begun_view}
 use Rattle.sync_session.specs.Working.{SyncWorks, is_sync}
 use Rattle.sync_session.specs.declared.sync_err.SyncErr.{SyncErr}
 use Rattle.sync_session.specs.declared.sync_err.SyncErr.TheVariants.{Busy, LeaseLost, Refused, TargetFault, KeeperFault, NoMemory}
@@ -141,7 +141,7 @@ told_if false v a lease worked b result new inside h leaves =
     subst (λ (d : SiteNow). TellsWork v a d) (sym leaves.1) h
 
 pub tells_worked : (a b : WorkNow) (worked result : Result (Unit {0}) SyncErr) (new : SiteNow)
-    → SyncWorks a worked b → MergesBetween a.site b.site → Fits a.known None
+    → SyncWorks a worked b → MergesBetween a.site b.site → MayBeShown a.known None
     → LeavesLease b.lease worked b.site result new
     → TellsWork (view_of None a.site) a.site new
 tells_worked a b worked result new works merges fits leaves =
@@ -287,7 +287,7 @@ abbrev pub has_left : (client : List ℕ) (lease : Lease) (worked : Result (Unit
     → IsSameSite late.site new
     → new.line.trail ≡ late.site.line.trail
     ++ Called (Delete (LockFile (own_name late.lease.kind late.lease.client))) reply ∷ []
-    → HasLeft client worked old new
+    → HasLeftSync client worked old new
 has_left client lease worked old held late new reply taken works same ends = record {
   lease = lease;
   held = held;

@@ -27,7 +27,7 @@ use Rattle.session.specs.Doing.{Went}
 use Rattle.session.specs.Steps.{IsStep}
 use Rattle.session.specs.Work.{IsReady, WorkNow, work}
 use Rattle.sync_session.specs.Leaving.{LeavesLease, answer_once_left, holds_lease}
-use Rattle.sync_session.specs.Syncing.{EndsWork, HasLeft, IsSyncReleased}
+use Rattle.sync_session.specs.Syncing.{EndsWork, HasLeftSync, IsSyncReleased}
 use Rattle.sync_session.specs.Working.{SyncWorks, is_sync}
 use Rattle.sync_session.specs.declared.sync_err.SyncErr.{SyncErr}
 use Rattle.sync_session.specs.declared.sync_err.SyncErr.TheVariants.{Busy, LeaseLost, Refused, TargetFault, KeeperFault, NoMemory}
@@ -109,7 +109,7 @@ given_up : (client : List ℕ) (lease : Lease) (old held : SiteNow) (late : Work
     → holds_lease (Err f) ≡ true
     → (result : Result (Unit {0}) SyncErr) → result ≡ Err e
     → result ≡ answer_once_left released (Err f)
-    → (HasLeft client (Err f) old new → ends_released (phase_of client new.line.trail) ≡ true
+    → (HasLeftSync client (Err f) old new → ends_released (phase_of client new.line.trail) ≡ true
     → IsSyncReleased client old (Err f) new)
     → IsSyncReleased client old (Err e) new
 given_up client lease old held late new e f (Ok done) taken works gives same made holds

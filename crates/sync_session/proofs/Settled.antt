@@ -10,7 +10,7 @@ use Rattle.law_licences.specs.Checks.{is_pending}
 use Rattle.law_licences.specs.Deeds.{Deed, Begins, Asks, Makes, MakesUntold, Ends, Stops, events_of}
 use Rattle.law_licences.specs.Licences.{AreWork, Each, IsInside, MayChange, MayDo}
 use Rattle.law_licences.specs.Trails.{session_calls}
-use Rattle.law_licences.specs.Views.{Heard, View, changed, heard, is_about_locks, view_from}
+use Rattle.law_licences.specs.Views.{Heard, View, view_after_change, view_after_call, is_about_locks, view_from}
 use Rattle.local_store.specs.Changing.{after, conflicted, uploaded}
 use Rattle.local_store.specs.Rows.{deletion_id}
 use Rattle.local_store.specs.Sound.{IsSound}
@@ -42,9 +42,9 @@ unfolding AreWork view_from
 unread_stays id v [] work was = was
 unread_stays id v (Begins ∷ ds) work was = absurd work
 unread_stays id v (Asks call reply ∷ ds) work was =
-    unread_stays id (heard v call reply) ds work
+    unread_stays id (view_after_call v call reply) ds work
     (unread_if id (is_about_locks call) (record { call = call; reply = reply }) v.calls was)
-unread_stays id v (Makes c ∷ ds) work was = unread_stays id (changed v c) ds work.1 was
+unread_stays id v (Makes c ∷ ds) work was = unread_stays id (view_after_change v c) ds work.1 was
 unread_stays id v (MakesUntold ∷ ds) work was = absurd work
 unread_stays id v (Ends ∷ ds) work was = absurd work
 unread_stays id v (Stops ∷ ds) work was = absurd work
@@ -87,9 +87,9 @@ unfolding AreWork Each view_from
 none_stays v [] inside work obeys none = none
 none_stays v (Begins ∷ ds) inside work obeys none = absurd work
 none_stays v (Asks call reply ∷ ds) inside work obeys none =
-    none_stays (heard v call reply) ds inside work obeys.1 none
+    none_stays (view_after_call v call reply) ds inside work obeys.1 none
 none_stays v (Makes c ∷ ds) inside work obeys none =
-    none_stays (changed v c) ds (stays_inside v.stage c inside) work.1 obeys.1
+    none_stays (view_after_change v c) ds (stays_inside v.stage c inside) work.1 obeys.1
     (none_after v v.tables c (made_inside v.stage v c inside obeys.0) none)
 none_stays v (MakesUntold ∷ ds) inside work obeys none = absurd work
 none_stays v (Ends ∷ ds) inside work obeys none = absurd work

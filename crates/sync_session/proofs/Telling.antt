@@ -20,7 +20,7 @@ use Rattle.session.proofs.Joins.{count_is, kept_after-append, trail_is}
 use Rattle.session.proofs.LockDeeds.{AreCalls-locks, AreLocks, AreWork-calls, changes_in-calls, obeys-locks, told_locks, view_from-locks}
 use Rattle.session.specs.Doing.{Went}
 use Rattle.session.specs.Saving.{kept_after_saves}
-use Rattle.session.specs.Work.{Fits, WorkNow, view_of}
+use Rattle.session.specs.Work.{MayBeShown, WorkNow, view_of}
 use Rattle.sync_session.proofs.Merging.{merges_own}
 use Rattle.sync_session.specs.Telling.{TellsWork}
 
@@ -42,7 +42,7 @@ inside-work v (Stops ∷ ds) inside work = absurd work
 -- ---- a part of a session
 
 pub tells_went : (sort : Call → Bool) (a b : WorkNow) (shown : Option Shown)
-    → Fits a.known shown → Went sort a b → MergesBetween a.site b.site
+    → MayBeShown a.known shown → Went sort a b → MergesBetween a.site b.site
     → TellsWork (view_of shown a.site) a.site b.site
 tells_went sort a b shown fits w merges = record {
   tells = record {

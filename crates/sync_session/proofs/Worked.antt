@@ -1,5 +1,5 @@
 -- What is done behind the opening is done behind it for the whole.
-use Rattle.std.specs.Prelude.{ℕ, ◌≡◌, List, [], ◌∷◌, map, filter, Bool, true, false, ◌&&◌, ◌||◌, if◌then◌else◌, Option, Some, None, Result, Ok, Err, refl}
+use Rattle.std.specs.Prelude.{◌≡◌, List, [], ◌∷◌, map, filter, Bool, true, false, ◌&&◌, ◌||◌, if◌then◌else◌, Option, Some, None, Result, Ok, Err, refl}
 use Rattle.std.proofs.Common.{◌∙◌, ap, subst, inl, inr}
 use Rattle.std.proofs.lemmas.Bool.{or_left, or_right}
 use Rattle.std.specs.List.{list_any}
@@ -30,7 +30,7 @@ use Rattle.session.proofs.Ending.{does_as, does_nothing}
 use Rattle.session.proofs.Joins.{does_then}
 use Rattle.session.proofs.Recast.{ends_at_placed, gives_up_placed}
 use Rattle.session.proofs.Refusing.{refuses_as, refuses_behind, refuses_within, went_refused}
-use Rattle.session.specs.Doing.{Does, DoesTo, Finishes, GivesNothing, RefusesOr, Went}
+use Rattle.session.specs.Doing.{Does, DoesTo, DoesLast, GivesNothing, RefusesOr, Went}
 use Rattle.session.specs.Parts.{ForEach, Nothing, Part, Then}
 use Rattle.session.specs.Work.{WorkNow, nowhere, placed, work, work_by}
 use Rattle.target_upgrade.specs.Steps.{SUPPORTED}
@@ -101,8 +101,8 @@ works_unopened a b e h =
 
 -- what came behind the opening
 works_both : (a b c : WorkNow) → Does Opens is_opening a b
-    → Finishes (Exchanges b.site.keeper.kept) is_exchange b c
-    → Finishes (SyncsTables a.site.keeper.kept) is_sync a c
+    → DoesLast (Exchanges b.site.keeper.kept) is_exchange b c
+    → DoesLast (SyncsTables a.site.keeper.kept) is_sync a c
 works_both a b c h k =
     let same = opened_blobs a b h in
     does_then Opens (Exchanges a.site.keeper.kept) is_sync a b c

@@ -46,7 +46,7 @@ use Rattle.sync_session.specs.declared.sync_err.SyncErr.TheVariants.{Busy, Lease
 -- ---- why
 
 -- The lease was had, the work under it came to this, and then its lock was deleted, which is the last call.
-pub record HasLeft (client : List ℕ) (worked : Result (Unit {0}) SyncErr) (old new : SiteNow)
+pub record HasLeftSync (client : List ℕ) (worked : Result (Unit {0}) SyncErr) (old new : SiteNow)
     : Type 0 where
   pub lease : Lease
   pub held : SiteNow
@@ -66,7 +66,7 @@ with_locked t r = record r { locked = sealed_rows t }
 -- All was done, and the lock's delete was answered, and not by `Failed`. The report says what was
 -- done, and the bytes of resources that the session has put or got are the target's.
 pub record HasSynced (client : List ℕ) (report : SyncReport) (old new : SiteNow) : Type 0 where
-  pub left : HasLeft client (Ok tt) old new
+  pub left : HasLeftSync client (Ok tt) old new
   pub heard : ¬ (left.reply ≡ Failed)
   pub reports : report ≡ with_locked left.late.site.tables left.late.report
   pub agrees : AgreeBut [] new
@@ -80,9 +80,9 @@ SyncAnswers client old (Err (LeaseLost seen)) new =
     (at : Phase) × HasMissed Sync client at new.line.trail seen
 SyncAnswers client old (Err TargetFault) new = Fails client old.line new.line
 SyncAnswers client old (Err KeeperFault) new =
-    HasLeft client (Err KeeperFault) old new × HasRisen old.keeper.faults new.keeper.faults
+    HasLeftSync client (Err KeeperFault) old new × HasRisen old.keeper.faults new.keeper.faults
 SyncAnswers client old (Err NoMemory) new = NoneFailed old.line.trail new.line.trail
-SyncAnswers client old (Err e) new = HasLeft client (Err e) old new
+SyncAnswers client old (Err e) new = HasLeftSync client (Err e) old new
 
 -- the calls have come to this, and the lock is released as far as can be known, but for want of
 -- memory

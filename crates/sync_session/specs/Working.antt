@@ -14,7 +14,7 @@ use Rattle.law_licences.specs.Trails.{session_calls}
 use Rattle.keeper.specs.Keepers.{Kept}
 use Rattle.session_opening.specs.Opening.{IsLawful, Opens, RefusesTarget, is_opening}
 use Rattle.session.specs.Agreeing.{AgreeBut}
-use Rattle.session.specs.Doing.{Does, Finishes, HasLostLease, KeeperFails, RefusesOr, Starves, Stops}
+use Rattle.session.specs.Doing.{Does, DoesLast, HasLostLease, KeeperFails, RefusesOr, Starves, CameToEnd}
 use Rattle.session.specs.Parts.{Nothing, Part, Then}
 use Rattle.session.specs.Work.{IsReady, WorkNow}
 use Rattle.upload.specs.Deleting.{Deletes, is_deletion}
@@ -68,7 +68,7 @@ RefusesExchange kept why = Then (Sends kept) (RefusesDownload why)
 -- each answer behind the opening, by its cause
 abbrev pub ExchangesOr : WorkNow → Result (Unit {0}) StepErr → WorkNow → Type 0
 ExchangesOr old (Ok done) new =
-    Finishes (Exchanges old.site.keeper.kept) is_exchange old new × LeavesNothing new.site
+    DoesLast (Exchanges old.site.keeper.kept) is_exchange old new × LeavesNothing new.site
 ExchangesOr old (Err e) new =
     RefusesOr (RefusesExchange old.site.keeper.kept) is_exchange old e new
 
@@ -83,18 +83,18 @@ RefusesSync kept why v ds = RefusesTarget why v ds ⊎ Then Opens (RefusesOpened
 
 -- the lease, from whatever stamp it was held, was lost at its renewal
 abbrev pub Lapses : WorkNow → WorkNow → Seen → Type 0
-Lapses old new seen = Stops is_sync old new × HasLostLease old.lease new seen
+Lapses old new seen = CameToEnd is_sync old new × HasLostLease old.lease new seen
 
 -- each answer, by its cause
 abbrev pub SyncWorks : WorkNow → Result (Unit {0}) SyncErr → WorkNow → Type 0
 SyncWorks old (Ok done) new =
-    Finishes (SyncsTables old.site.keeper.kept) is_sync old new
+    DoesLast (SyncsTables old.site.keeper.kept) is_sync old new
     × (LeavesNothing new.site × AgreeBut [] new.site)
 SyncWorks old (Err (LeaseLost seen)) new = Lapses old new seen
 SyncWorks old (Err (Refused why)) new =
     Does (RefusesSync old.site.keeper.kept why) is_sync old new
 SyncWorks old (Err TargetFault) new =
-    Stops is_sync old new × Fails old.lease.client old.site.line new.site.line
+    CameToEnd is_sync old new × Fails old.lease.client old.site.line new.site.line
 SyncWorks old (Err KeeperFault) new = KeeperFails is_sync old new
 SyncWorks old (Err NoMemory) new = Starves is_sync old new
 SyncWorks old (Err (Busy lock now)) new = ⊥

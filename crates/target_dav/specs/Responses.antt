@@ -5,7 +5,7 @@ use Rattle.dav_link.specs.Links.{LinkNow, IsAtEnd}
 use Rattle.dav_link.specs.Receiving.{HasReadBytes, HasBroken, HasStarved}
 use Rattle.dav_link.specs.declared.error.LinkErr.{LinkErr}
 use Rattle.dav_link.specs.declared.error.LinkErr.TheVariants.{Fault, NoMemory}
-use Rattle.dav_wire.specs.ResponseReading.{ResponseReadsAs, IsMissing}
+use Rattle.dav_wire.specs.ResponseReading.{ResponseReadsAs, IsResponseMissing}
 use Rattle.dav_wire.specs.declared.response_reader.ReadResponse.TheVariants.{Whole, More, Bad}
 use Rattle.jop_target.specs.declared.call.Call.{Call}
 use Rattle.target_dav.specs.declared.receiving.Received.{Received}
@@ -13,7 +13,7 @@ use Rattle.target_dav.specs.declared.receiving.Received.{Received}
 -- how the response to a call is read in the bytes that came so far
 abbrev pub response_now : Call → MessageNow
 response_now call =
-    record { misses = IsMissing call; more = λ bytes. ResponseReadsAs call bytes More }
+    record { misses = IsResponseMissing call; more = λ bytes. ResponseReadsAs call bytes More }
 
 -- why there is none though the link didn't fail: the bytes are no response to the call, or the link
 -- ended before a whole one

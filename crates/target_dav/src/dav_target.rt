@@ -1,5 +1,5 @@
 ghost use Rattle.std.specs.Prelude.{◌≡◌, IfOk, None, false};
-ghost use Rattle.jop_target.specs.Replies.{IsReplyTo, HasCause, Answers, KeepsBlob};
+ghost use Rattle.jop_target.specs.Replies.{IsReplyTo, HasReplyCause, Answers, KeepsBlob};
 ghost use Rattle.target_dav.specs.Exchanges.{BeginsCall, CallsOver, SendsText, TriesOver, blob_after, client_now, is_ready};
 
 use crate::receiving::{Received, receive};
@@ -125,7 +125,7 @@ impl<L: Link> Target for DavTarget<L> {
 
     fn call(&mut self, alloc: Global, call: &Call, blob: &mut Bytes) -> Result<Reply, AllocError>
         ensures shape { IfOk result (λ reply. IsReplyTo call.now reply) }
-        ensures cause { HasCause self.old.faults result self.new.faults }
+        ensures cause { HasReplyCause self.old.faults result self.new.faults }
         ensures answers { Answers None call.now blob.old result None }
         ensures blob { KeepsBlob None call.now blob.old result blob.new }
 

@@ -19,7 +19,7 @@ use Rattle.sync_info.specs.Json.{info_text}
 use Rattle.sync_info.specs.declared.info.Info.{Info}
 use Rattle.target_upgrade.specs.Answers.{leaves_items}
 use Rattle.target_upgrade.specs.Course.{Course, outside_course, course_after, course_from, course_of, is_call, puts_text, is_awaited, is_allowed, may_do}
-use Rattle.target_upgrade.specs.Steps.{Stage, Reads, ReadsOld, At, Gets, Upgraded, Stuck, awaited, at_version, stage_after, step_call}
+use Rattle.target_upgrade.specs.Steps.{UpgradeStage, Reads, ReadsOld, At, Gets, Upgraded, Stuck, awaited, at_version, stage_after_reply, step_call}
 use Rattle.target_upgrade.specs.declared.step.Step.{Step}
 use Rattle.target_upgrade.specs.declared.step.Step.TheVariants.{MakesResources, MakesOldSync, PutsOne, MakesLocks as MakesLockFolder, MakesTemp, PutsTwo, PutsInfo, ListsRoot}
 
@@ -142,7 +142,8 @@ step_is PutsTwo info = refl
 step_is PutsInfo info = same_bytes (info_text (at_version 2 info))
 step_is ListsRoot info = refl
 
-is_itself : (stage : Stage) (call : Call) → awaited stage ≡ Some call → is_call call call ≡ true
+is_itself : (stage : UpgradeStage) (call : Call) → awaited stage ≡ Some call
+    → is_call call call ≡ true
 is_itself Reads call h = subst (λ (c : Call). is_call c c ≡ true) (same_Some _ _ h) refl
 is_itself ReadsOld call h = subst (λ (c : Call). is_call c c ≡ true) (same_Some _ _ h) refl
 is_itself (At step info) call h = subst (λ (c : Call). is_call c c ≡ true) (same_Some _ _ h)
@@ -154,13 +155,15 @@ is_itself (Gets [] info) call h = subst (λ (c : Call). is_call c c ≡ true) (s
 is_itself Upgraded call h = cc
 is_itself Stuck call h = cc
 
-awaited_is : (stage : Stage) (call : Call) → awaited stage ≡ Some call → puts_text call ≡ true →
+awaited_is : (stage : UpgradeStage) (call : Call) → awaited stage ≡ Some call
+    → puts_text call ≡ true →
     is_awaited (awaited stage) call ≡ true
 awaited_is stage call h text =
     rw h (and_from (is_call call call) (puts_text call) (is_itself stage call h) text)
 
 -- an awaited call has to do neither with locks nor with temporary files, or makes the folder of locks
-pub awaited_works : (client : List ℕ) (stage : Stage) (call : Call) → awaited stage ≡ Some call →
+pub awaited_works : (client : List ℕ) (stage : UpgradeStage) (call : Call)
+    → awaited stage ≡ Some call →
     is_working (role_of client call) ≡ true
 awaited_works client Reads call h = subst (λ (c : Call). is_working (role_of client c) ≡ true)
     (same_Some _ _ h) refl
@@ -185,7 +188,8 @@ awaited_works client Upgraded call h = cc
 awaited_works client Stuck call h = cc
 
 -- and it names no blob
-pub awaited_callable : (stage : Stage) (call : Call) (blob : List ℕ) → awaited stage ≡ Some call →
+pub awaited_callable : (stage : UpgradeStage) (call : Call) (blob : List ℕ)
+    → awaited stage ≡ Some call →
     IsCallable call blob
 awaited_callable Reads call blob h = subst (λ (c : Call). IsCallable c blob) (same_Some _ _ h) refl
 awaited_callable ReadsOld call blob h = subst (λ (c : Call). IsCallable c blob) (same_Some _ _ h)
@@ -209,7 +213,8 @@ awaited_callable Upgraded call blob h = cc
 awaited_callable Stuck call blob h = cc
 
 -- and it leaves all items as they are
-pub awaited_leaves : (stage : Stage) (call : Call) → awaited stage ≡ Some call → leaves_items call ≡
+pub awaited_leaves : (stage : UpgradeStage) (call : Call) → awaited stage ≡ Some call
+    → leaves_items call ≡
     true
 awaited_leaves Reads call h = subst (λ (c : Call). leaves_items c ≡ true) (same_Some _ _ h) refl
 awaited_leaves ReadsOld call h = subst (λ (c : Call). leaves_items c ≡ true) (same_Some _ _ h)
@@ -235,17 +240,20 @@ awaited_leaves Stuck call h = cc
 -- ---- the monitor behind an awaited call
 
 -- what a session is before its next call
-pub record IsReady (client : List ℕ) (stamp : ℕ) (trail : List Event) (stage : Stage) : Type 0 where
+pub record IsReady (client : List ℕ) (stamp : ℕ) (trail : List Event) (stage : UpgradeStage)
+    : Type 0 where
   pub phase : (session_of client trail).phase ≡ Held Exclusive stamp
   pub lawful : (course_of client trail).lawful ≡ true
   pub at : (course_of client trail).stage ≡ stage
 
-lease_phase : (client : List ℕ) (stamp : ℕ) (trail : List Event) (stage : Stage) → IsReady client
+lease_phase : (client : List ℕ) (stamp : ℕ) (trail : List Event) (stage : UpgradeStage)
+    → IsReady client
     stamp trail stage → (course_of client trail).lease.phase ≡ Held Exclusive stamp
 lease_phase client stamp trail stage r = ap (λ (s : Session). s.phase) (lease-is client trail) ∙
     r.phase
 
-allowed_now : (client : List ℕ) (stamp : ℕ) (trail : List Event) (stage : Stage) (call : Call) →
+allowed_now : (client : List ℕ) (stamp : ℕ) (trail : List Event) (stage : UpgradeStage)
+    (call : Call) →
     IsReady client stamp trail stage → awaited stage ≡ Some call → puts_text call ≡ true →
     is_allowed client (course_of client trail) call ≡ true
 allowed_now client stamp trail stage call r next text =
@@ -254,7 +262,7 @@ allowed_now client stamp trail stage call r next text =
     Exclusive stamp (role_of client call) (awaited_works client stage call next) in
     rw (phase, work, r.at) (awaited_is stage call next text)
 
-pub lawful_called : (client : List ℕ) (stamp : ℕ) (old new : List Event) (stage : Stage)
+pub lawful_called : (client : List ℕ) (stamp : ℕ) (old new : List Event) (stage : UpgradeStage)
     (call : Call) (reply : Reply) → IsReady client stamp old stage → awaited stage ≡ Some call →
     puts_text call ≡ true → new ≡ old ++ Called call reply ∷ [] → (course_of client new).lawful ≡
     true
@@ -266,7 +274,7 @@ lawful_called client stamp old new stage call reply r next text is =
     (is_allowed client (course_of client old) call) r.lawful
     (allowed_now client stamp old stage call r next text)
 
-pub lawful_sent : (client : List ℕ) (stamp : ℕ) (old new : List Event) (stage : Stage)
+pub lawful_sent : (client : List ℕ) (stamp : ℕ) (old new : List Event) (stage : UpgradeStage)
     (call : Call) → IsReady client stamp old stage → awaited stage ≡ Some call → puts_text call ≡
     true → new ≡ old ++ Sent call ∷ [] → (course_of client new).lawful ≡ true
 lawful_sent client stamp old new stage call r next text is =
@@ -276,9 +284,9 @@ lawful_sent client stamp old new stage call r next text is =
     (is_allowed client (course_of client old) call) r.lawful
     (allowed_now client stamp old stage call r next text)
 
-pub stage_called : (client : List ℕ) (stamp : ℕ) (old new : List Event) (stage : Stage)
+pub stage_called : (client : List ℕ) (stamp : ℕ) (old new : List Event) (stage : UpgradeStage)
     (call : Call) (reply : Reply) → IsReady client stamp old stage → awaited stage ≡ Some call → new
-    ≡ old ++ Called call reply ∷ [] → (course_of client new).stage ≡ stage_after stage reply
+    ≡ old ++ Called call reply ∷ [] → (course_of client new).stage ≡ stage_after_reply stage reply
 stage_called client stamp old new stage call reply r next is =
     let whole : course_of client new ≡ course_after client (course_of client old)
     (Called call reply) = ap (course_of client) is ∙ course_from-last client outside_course old

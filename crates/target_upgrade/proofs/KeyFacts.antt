@@ -9,18 +9,17 @@ use Rattle.jop_base.specs.Times.{last_time}
 use Rattle.item_kinds.specs.Kinds.{IsTimeOrZero, IsUpdated}
 use Rattle.item_kinds.specs.Times.{time_text, IsCount, IsTime}
 use Rattle.jop_base.proofs.DecimalLaws.{digits_test, digits_yes}
+use Rattle.jop_base.proofs.IdLaws.{IsIdText-from_is_id, is_id-from_IsIdText}
 use Rattle.item_kinds.proofs.OneTime.{one_time}
 use Rattle.item_text.specs.Grammar.{first_fault, item_in}
 use Rattle.item_text.specs.Props.{value_of}
 use Rattle.item_text.specs.declared.bad_item.BadItem.{BadItem}
 use Rattle.item_text.specs.declared.item.Item.{Item}
 use Rattle.item_text.specs.declared.item.Prop.{Prop}
-use Rattle.jop_base.specs.Id.{IsIdText}
+use Rattle.jop_base.specs.Id.{IsIdText, is_id}
 use Rattle.sync_info.specs.Info.{IsKeyRecord}
 use Rattle.sync_info.proofs.KeptLemmas.{AreKept-nil}
-use Rattle.sync_info.proofs.IdLemmas.{IsIdText-from_is_id, is_id-from_IsIdText}
-use Rattle.sync_info.specs.Info.{is_id}
-use Rattle.target_upgrade.specs.Keys.{is_key, record_with, is_count_of, is_time_of, last_up_to, time_in, time_at, updated_in, key_of_item, key_of}
+use Rattle.target_upgrade.specs.Keys.{is_key, record_with, is_count_of, is_time_of, last_up_to, time_in, time_at, last_updated, key_of_item, key_of}
 
 -- ---- times
 
@@ -88,7 +87,7 @@ time_in-time text t (inl is) = sym (last_up_to-only (is_time_of text) last_time 
 time_in-time text t (inr none) = none.0 ∙ sym (last_up_to-none (is_time_of text) last_time
     (λ s within. false_from_ne_true _ (λ h. none.1 s (time_yes text s within h))))
 
-pub updated_is : (props : List Prop) (t : ℕ) → IsUpdated props t → t ≡ updated_in props
+pub updated_is : (props : List Prop) (t : ℕ) → IsUpdated props t → t ≡ last_updated props
 updated_is props t h = go (value_of (codes "updated_time") props) h where
   go : (o : Option (List ℕ)) → MatchOption o (t ≡ 0) (λ value. IsTimeOrZero value t) → t ≡ time_at o
   go None h = h
@@ -117,7 +116,7 @@ time_in-within : (text : List ℕ) → time_in text ≤ last_time
 unfolding time_in
 time_in-within text = last_up_to-within (is_time_of text) last_time
 
-updated_in-within : (props : List Prop) → updated_in props ≤ last_time
+updated_in-within : (props : List Prop) → last_updated props ≤ last_time
 updated_in-within props = go (value_of (codes "updated_time") props) where
   go : (o : Option (List ℕ)) → time_at o ≤ last_time
   go None = omega arith
@@ -155,13 +154,13 @@ key_valid id content t props valid up =
 key_of_item-valid : (id : List ℕ) (item : Item) → IfSome (key_of_item id item) IsKeyRecord
 key_of_item-valid id item = go (is_key id item.props) refl where
   made : IsIdText id → (o : Option (List ℕ)) →
-      IfSome (option_map (record_with id (updated_in item.props)) o) IsKeyRecord
+      IfSome (option_map (record_with id (last_updated item.props)) o) IsKeyRecord
   made whose None = tt
   made whose (Some content) =
       record { id = whose; updated = updated_in-within item.props; others = AreKept-nil _ }
 
   go : (b : Bool) → is_key id item.props ≡ b →
-      IfSome (cond b (option_map (record_with id (updated_in item.props))
+      IfSome (cond b (option_map (record_with id (last_updated item.props))
       (value_of (codes "content") item.props)) None) IsKeyRecord
   go true h =
       made (IsIdText-from_is_id id (and_parts (is_id id) _ h).0)

@@ -16,7 +16,7 @@ use Rattle.lease.specs.Idle.{is_working}
 use Rattle.lease.specs.Outcomes.{HasMissed}
 use Rattle.lease.specs.Phase.{Held, Renewing, role_of}
 use Rattle.lease.specs.Standing.{IsFresh, IsSameBut}
-use Rattle.lease.specs.Work.{IsReady as IsFreshlyHeld, HasCalled, HasCalledUnheard, HasWorked, NoneFailed, Works}
+use Rattle.lease.specs.Work.{IsFreshlyHeld, HasCalled, HasCalledUnheard, HasWorked, NoneFailed, Works}
 use Rattle.lease.specs.declared.error.LeaseErr.{LeaseErr}
 use Rattle.lease.specs.declared.error.LeaseErr.TheVariants.{Busy, Lost, TargetFault, NoMemory}
 use Rattle.lease.specs.declared.error.Seen.{Seen}
@@ -24,9 +24,9 @@ use Rattle.lease.specs.declared.lease.Lease.{Lease}
 use Rattle.lease.proofs.NoFailures.{begins, none_failed_held, none_failed_on}
 use Rattle.lease.proofs.Sessions.{goes_answered, goes_leased, goes_nowhere as line_nowhere, goes_on as line_on, goes_unheard as line_unheard}
 use Rattle.lease.proofs.Works.{may_work as lease_may}
-use Rattle.target_upgrade.specs.Answers.{HasCome, HasLapsed, HasMade, IsCall, MayCall, StandsAt, Stops, WorkGoesOn, leaves_items, stage_of}
+use Rattle.target_upgrade.specs.Answers.{HasCome, HasLapsed, HasMade, IsCall, IsNextCall, StandsAt, Stops, WorkGoesOn, leaves_items, stage_of}
 use Rattle.target_upgrade.specs.Course.{course_of, puts_text}
-use Rattle.target_upgrade.specs.Steps.{Stage, awaited, stage_after}
+use Rattle.target_upgrade.specs.Steps.{UpgradeStage, awaited, stage_after_reply}
 use Rattle.target_upgrade.proofs.Courses.{IsReady, idle_work, awaited_works, awaited_callable, awaited_leaves, lawful_called, lawful_sent, stage_called}
 
 -- ---- leases
@@ -77,7 +77,8 @@ pub goes_on : (client : List ℕ) (a b c : LineNow) → WorkGoesOn client a b �
 goes_on client a b c h k =
     record { goes = line_on IsCall client a b c h.goes k.goes; work = k.work }
 
-pub goes_nowhere : (lease : Lease) (s : LineNow) (stage : Stage) → StandsAt lease s.trail stage →
+pub goes_nowhere : (lease : Lease) (s : LineNow) (stage : UpgradeStage) →
+    StandsAt lease s.trail stage →
     WorkGoesOn lease.client s s
 goes_nowhere lease s stage at = record {
   goes = line_nowhere IsCall lease.client s (Held lease.kind lease.stamp) at.held.stands;
@@ -86,26 +87,26 @@ goes_nowhere lease s stage at = record {
 
 -- ---- the next call
 
-pub may_call : (lease : Lease) (trail : List Event) (stage : Stage) (call : Call) →
+pub may_call : (lease : Lease) (trail : List Event) (stage : UpgradeStage) (call : Call) →
     StandsAt lease trail stage → awaited stage ≡ Some call → puts_text call ≡ true →
-    MayCall lease trail call
+    IsNextCall lease trail call
 may_call lease trail stage call at next text = record {
   stands = record { exclusive = at.exclusive; held = at.held; lawful = at.lawful; at = refl };
   next = rw (at.at) next;
   text = text;
 }
 
-pub may_work : (lease : Lease) (trail : List Event) (call : Call) → MayCall lease trail call →
+pub may_work : (lease : Lease) (trail : List Event) (call : Call) → IsNextCall lease trail call →
     is_working (role_of lease.client call) ≡ true
 may_work lease trail call may =
     awaited_works lease.client (stage_of lease trail) call may.next
 
 pub may_be_called : (lease : Lease) (trail : List Event) (call : Call) (blob : List ℕ) →
-    MayCall lease trail call → IsCallable call blob
+    IsNextCall lease trail call → IsCallable call blob
 may_be_called lease trail call blob may =
     awaited_callable (stage_of lease trail) call blob may.next
 
-may_leave : (lease : Lease) (trail : List Event) (call : Call) → MayCall lease trail call →
+may_leave : (lease : Lease) (trail : List Event) (call : Call) → IsNextCall lease trail call →
     leaves_items call ≡ true
 may_leave lease trail call may = awaited_leaves (stage_of lease trail) call may.next
 
@@ -119,7 +120,7 @@ fresh_again lease now trail same fresh = subst (λ (l : Lease). IsFresh l trail)
 
 -- behind the renewal the session stands where it stood
 ready : (lease now : Lease) (old mid : LineNow) (call : Call) → IsSameBut lease now →
-    MayCall lease old.trail call → IsFreshlyHeld lease now old mid →
+    IsNextCall lease old.trail call → IsFreshlyHeld lease now old mid →
     IsReady lease.client now.stamp mid.trail (stage_of lease old.trail)
 ready lease now old mid call same may h =
     let work = idle_work lease.client old.trail mid.trail h.goes.idle in
@@ -132,7 +133,7 @@ ready lease now old mid call same may h =
     }
 
 goes_called : (lease now : Lease) (old new : LineNow) (call : Call) (before after : List ℕ)
-    (reply : Reply) → IsSameBut lease now → MayCall lease old.trail call →
+    (reply : Reply) → IsSameBut lease now → IsNextCall lease old.trail call →
     HasCalled lease now call before old new after reply → WorkGoesOn lease.client old new
 goes_called lease now old new call before after reply same may h =
     let fresh = fresh_again lease now h.mid.trail same h.ready.fresh in
@@ -150,7 +151,7 @@ goes_called lease now old new call before after reply same may h =
     (goes_lease lease.client old h.mid may.stands.lawful h.ready.goes) step
 
 goes_unheard : (lease now : Lease) (old new : LineNow) (call : Call) (before after : List ℕ) →
-    IsSameBut lease now → MayCall lease old.trail call →
+    IsSameBut lease now → IsNextCall lease old.trail call →
     HasCalledUnheard lease now call before old new after → WorkGoesOn lease.client old new
 goes_unheard lease now old new call before after same may h =
     let fresh = fresh_again lease now h.mid.trail same h.ready.fresh in
@@ -174,7 +175,7 @@ goes_unheard lease now old new call before after same may h =
 -- ---- what `call_held` gives
 
 pub made : (lease now : Lease) (old new : LineNow) (call : Call) (before after : List ℕ) →
-    IsSameBut lease now → MayCall lease old.trail call →
+    IsSameBut lease now → IsNextCall lease old.trail call →
     HasWorked lease now call before old new after →
     HasMade lease now call (stage_of lease old.trail) new
 made lease now old new call before after same may h =
@@ -196,13 +197,13 @@ made lease now old new call before after same may h =
         held = h.held;
         lawful = subst (λ (c : List ℕ). (course_of c new.trail).lawful ≡ true) (sym client)
             lawful;
-        at = subst (λ (c : List ℕ). (course_of c new.trail).stage ≡ stage_after stage h.reply)
+        at = subst (λ (c : List ℕ). (course_of c new.trail).stage ≡ stage_after_reply stage h.reply)
             (sym client) next;
       };
     }
 
 pub goes_made : (lease now : Lease) (old new : LineNow) (call : Call) (before after : List ℕ) →
-    IsSameBut lease now → MayCall lease old.trail call →
+    IsSameBut lease now → IsNextCall lease old.trail call →
     HasWorked lease now call before old new after → WorkGoesOn lease.client old new
 goes_made lease now old new call before after same may h =
     goes_called lease now old new call before after h.reply same may h.called
@@ -215,7 +216,7 @@ lapsed lease kind trail seen is h =
     subst (λ (k : LockKind). HasMissed k lease.client (Renewing k lease.stamp) trail seen) is h
 
 pub stops_held : (lease now : Lease) (old new : LineNow) (call : Call) (before after : List ℕ)
-    (e : LeaseErr) → MayCall lease old.trail call →
+    (e : LeaseErr) → IsNextCall lease old.trail call →
     Works lease now call before old new after (Err e) → Stops lease old new e
 stops_held lease now old new call before after (Lost seen) may h =
     (lease.stamp, lapsed lease Exclusive new.trail seen may.stands.exclusive h.1)
@@ -224,7 +225,7 @@ stops_held lease now old new call before after NoMemory may h = h.0
 stops_held lease now old new call before after (Busy lock moment) may h = h
 
 pub goes_held : (lease now : Lease) (old new : LineNow) (call : Call) (before after : List ℕ)
-    (e : LeaseErr) → IsSameBut lease now → MayCall lease old.trail call →
+    (e : LeaseErr) → IsSameBut lease now → IsNextCall lease old.trail call →
     Works lease now call before old new after (Err e) → WorkGoesOn lease.client old new
 goes_held lease now old new call before after (Lost seen) same may h =
     goes_lease lease.client old new may.stands.lawful h.0.goes
@@ -246,27 +247,27 @@ begins_none Began h = absurd h
 begins_none e h = refl
 
 -- as long as the lease is held, no call has failed
-pub none_failed_come : (a b : Lease) (at : Stage) (old mid : LineNow) → HasCome a b at mid →
+pub none_failed_come : (a b : Lease) (at : UpgradeStage) (old mid : LineNow) → HasCome a b at mid →
     WorkGoesOn a.client old mid → NoneFailed old.trail mid.trail
 none_failed_come a b at old mid come h =
     none_failed_held IsCall b old mid begins_none
     (subst (λ (c : List ℕ). GoesOn IsCall c old mid) (sym (client_same a b come.same)) h.goes)
     come.stands.held
 
-pub none_failed_made : (a b : Lease) (call : Call) (stage : Stage) (old mid : LineNow) →
+pub none_failed_made : (a b : Lease) (call : Call) (stage : UpgradeStage) (old mid : LineNow) →
     HasMade a b call stage mid → WorkGoesOn a.client old mid →
     NoneFailed old.trail mid.trail
 none_failed_made a b call stage old mid m h =
-    none_failed_come a b (stage_after stage m.reply) old mid
+    none_failed_come a b (stage_after_reply stage m.reply) old mid
     (record { same = m.same; stands = m.stands }) h
 
-pub goes_then : (a b : Lease) (at : Stage) (old mid new : LineNow) → HasCome a b at mid →
+pub goes_then : (a b : Lease) (at : UpgradeStage) (old mid new : LineNow) → HasCome a b at mid →
     WorkGoesOn a.client old mid → WorkGoesOn b.client mid new → WorkGoesOn a.client old new
 goes_then a b at old mid new come h k =
     goes_on a.client old mid new h
     (subst (λ (c : List ℕ). WorkGoesOn c mid new) (client_same a b come.same) k)
 
-pub stops_then : (a b : Lease) (at : Stage) (old mid new : LineNow) (e : LeaseErr) →
+pub stops_then : (a b : Lease) (at : UpgradeStage) (old mid new : LineNow) (e : LeaseErr) →
     HasCome a b at mid → WorkGoesOn a.client old mid → Stops b mid new e → Stops a old new e
 stops_then a b at old mid new (Lost seen) come h k =
     subst (λ (c : List ℕ). HasLapsed c new.trail seen) (client_same a b come.same) k
@@ -278,7 +279,7 @@ stops_then a b at old mid new NoMemory come h k =
     none_failed_on old.trail mid.trail new.trail (none_failed_come a b at old mid come h) k
 stops_then a b at old mid new (Busy lock moment) come h k = k
 
-pub come_then : (a b c : Lease) (at stage : Stage) (mid new : LineNow) → HasCome a b at mid →
+pub come_then : (a b c : Lease) (at stage : UpgradeStage) (mid new : LineNow) → HasCome a b at mid →
     HasCome b c stage new → HasCome a c stage new
 come_then a b c at stage mid new come h =
     record { same = same_on a b c come.same h.same; stands = h.stands }

@@ -21,10 +21,10 @@ use Rattle.sync_info.proofs.KeptLemmas.{IsInfo-new_info}
 use Rattle.sync_info.specs.declared.info.Info.{Info}
 use Rattle.sync_info.specs.declared.key_record.KeyRecord.{KeyRecord}
 use Rattle.target_upgrade.specs.Keys.{with_key}
-use Rattle.target_upgrade.specs.Reading.{Gives, HasFound, IsGot, StopsReading, Tells}
+use Rattle.target_upgrade.specs.Reading.{GivesInfo, HasFound, IsGotInfo, StopsReading, ReplyTells}
 use Rattle.target_upgrade.specs.declared.reading.ReadErr.{ReadErr}
 use Rattle.target_upgrade.specs.declared.reading.ReadErr.TheVariants.{BadInfo, Lease as LeaseStops}
-use Rattle.target_upgrade.specs.Steps.{Stage, Reads, ReadsOld, At, Gets, Upgraded, Stuck, after_old, starts, starts_from, stage_after, step_call, is_last, next_step, after_step, after_get, after_last, key_in, items_in, at_version}
+use Rattle.target_upgrade.specs.Steps.{UpgradeStage, Reads, ReadsOld, At, Gets, Upgraded, Stuck, after_old, starts, starts_from, stage_after_reply, step_call, is_last, next_step, after_step, after_get, after_last, key_in, items_in, at_version}
 use Rattle.target_upgrade.specs.declared.step.Step.{Step}
 use Rattle.target_upgrade.specs.declared.step.Step.TheVariants.{MakesResources, MakesOldSync, PutsOne, MakesLocks, MakesTemp, PutsTwo, PutsInfo, ListsRoot}
 use Rattle.target_upgrade.proofs.Made.{none_failed_made, same_lease}
@@ -32,10 +32,12 @@ use Rattle.target_upgrade.proofs.Made.{none_failed_made, same_lease}
 -- ---- what the replies lead to
 
 -- the stage that was known
-made_at : (lease now : Lease) (old : List Event) (new : LineNow) (stage : Stage) (call : Call) →
+made_at : (lease now : Lease) (old : List Event) (new : LineNow) (stage : UpgradeStage)
+    (call : Call) →
     StandsAt lease old stage → HasMade lease now call (stage_of lease old) new → HasMade lease now
     call stage new
-made_at lease now old new stage call at h = subst (λ (s : Stage). HasMade lease now call s new)
+made_at lease now old new stage call at h =
+    subst (λ (s : UpgradeStage). HasMade lease now call s new)
     at.at h
 
 -- what a step's reply must be
@@ -67,7 +69,7 @@ step_done lease now old new step info call at is early h =
     let m = made_at lease now old new (At step info) call at h in
     record {
       same = m.same;
-      stands = subst (λ (s : Stage). StandsAt now new.trail s)
+      stands = subst (λ (s : UpgradeStage). StandsAt now new.trail s)
           (step_reply step info m.reply early (subst (λ (c : Call). IsReplyTo c m.reply) is m.shape)
           m.heard) m.stands;
     }
@@ -98,7 +100,7 @@ get_done lease now old new id ids info after key r at h last gives is =
     (sym gives) ∙ sym is in
     record {
       same = m.same;
-      stands = subst (λ (s : Stage). StandsAt now new.trail s)
+      stands = subst (λ (s : UpgradeStage). StandsAt now new.trail s)
           (stage ∙ ap (Gets ids) added) m.stands;
     }
 
@@ -116,7 +118,7 @@ last_done lease now old new info text is at h =
     let m = made_at lease now old new (Gets [] info) (Put InfoFile text) at h in
     record {
       same = m.same;
-      stands = subst (λ (s : Stage). StandsAt now new.trail s)
+      stands = subst (λ (s : UpgradeStage). StandsAt now new.trail s)
           (last_reply text m.reply m.shape m.heard) m.stands;
     }
 
@@ -178,13 +180,14 @@ pub begins_at : (lease : Lease) (trail : List Event) (from v : ℕ) (info : Info
 begins_at lease trail from v info b is = subst (λ (n : ℕ). StandsAt lease trail
     (starts_from n info)) (b.version ∙ is) b.stands
 
-pub come_nowhere : (lease : Lease) (s : LineNow) (stage : Stage) → StandsAt lease s.trail stage →
+pub come_nowhere : (lease : Lease) (s : LineNow) (stage : UpgradeStage) →
+    StandsAt lease s.trail stage →
     HasCome lease lease stage s
 come_nowhere lease s stage at = record { same = same_lease lease; stands = at }
 
 -- ---- what the replies of reading lead to
 
-module _ (lease now : Lease) (old : List Event) (new : LineNow) (call : Call) (stage : Stage)
+module _ (lease now : Lease) (old : List Event) (new : LineNow) (call : Call) (stage : UpgradeStage)
     (r : Reply) (h : HasMade lease now call stage new) (last : (c : Call) (y : Reply) → EndsWith
     new.trail c y → r ≡ y) where
   pub read_is : r ≡ h.reply
@@ -196,17 +199,18 @@ module _ (lease now : Lease) (old : List Event) (new : LineNow) (call : Call) (s
   pub read_heard : ¬ (r ≡ Failed)
   read_heard = λ e. h.heard (sym read_is ∙ e)
 
-  pub come_read : (next : Stage) → stage_after stage r ≡ next → HasCome lease now next new
+  pub come_read : (next : UpgradeStage) → stage_after_reply stage r ≡ next
+      → HasCome lease now next new
   come_read next is = record {
     same = h.same;
     stands = subst
-        (λ (s : Stage). StandsAt now new.trail s) (ap (stage_after stage) (sym read_is) ∙ is) h.stands;
+        (λ (s : UpgradeStage). StandsAt now new.trail s) (ap (stage_after_reply stage) (sym read_is) ∙ is) h.stands;
   }
 
-pub come_at : (lease now : Lease) (old : List Event) (new : LineNow) (stage next : Stage)
+pub come_at : (lease now : Lease) (old : List Event) (new : LineNow) (stage next : UpgradeStage)
     (call : Call) (r : Reply) → StandsAt lease old stage → HasMade lease now call
     (stage_of lease old) new → ((c : Call) (y : Reply) → EndsWith new.trail c y → r ≡ y) →
-    stage_after stage r ≡ next → HasCome lease now next new
+    stage_after_reply stage r ≡ next → HasCome lease now next new
 come_at lease now old new stage next call r at h last is = come_read lease now old new call stage r
     (made_at lease now old new stage call at h) last next is
 
@@ -229,15 +233,15 @@ old_there lease now old new r at h last other = come_at lease now old new ReadsO
     (read_shape lease now old new (Get OldVersion) (stage_of lease old) r h last)
     (read_heard lease now old new (Get OldVersion) (stage_of lease old) r h last) other)
 
-got_it : (trail : List Event) (info : Info) (r : Reply) → Gives info r →
-    EndsWith trail (Get InfoFile) r → IsGot trail info
+got_it : (trail : List Event) (info : Info) (r : Reply) → GivesInfo info r →
+    EndsWith trail (Get InfoFile) r → IsGotInfo trail info
 got_it trail info (Got now content) gives ends =
     record { now = now; content = content; ends = ends; holds = gives }
 got_it trail info r gives ends = absurd gives
 
 pub told_some : (lease now : Lease) (old : List Event) (new : LineNow) (info : Info) (r : Reply) →
     StandsAt lease old Reads → HasMade lease now (Get InfoFile) (stage_of lease old) new →
-    ((c : Call) (y : Reply) → EndsWith new.trail c y → r ≡ y) → Tells r (Ok (Some info)) →
+    ((c : Call) (y : Reply) → EndsWith new.trail c y → r ≡ y) → ReplyTells r (Ok (Some info)) →
     HasFound lease now (record { version = info.version; info = Some info }) new
 told_some lease now old new info r at h last tells =
     let come = come_at lease now old new Reads (starts info) (Get InfoFile) r at h last tells.0 in
@@ -255,7 +259,7 @@ told_some lease now old new info r at h last tells =
 
 pub told_none : (lease now : Lease) (old : List Event) (new : LineNow) (r : Reply) →
     StandsAt lease old Reads → HasMade lease now (Get InfoFile) (stage_of lease old) new →
-    ((c : Call) (y : Reply) → EndsWith new.trail c y → r ≡ y) → Tells r (Ok None) →
+    ((c : Call) (y : Reply) → EndsWith new.trail c y → r ≡ y) → ReplyTells r (Ok None) →
     HasCome lease now ReadsOld new
 told_none lease now old new r at h last tells =
     come_at lease now old new Reads ReadsOld (Get InfoFile) r at h last tells
@@ -264,7 +268,7 @@ pub told_stops : (lease now : Lease) (old new : LineNow) (r : Reply) (e : ReadEr
     StandsAt lease old.trail Reads →
     HasMade lease now (Get InfoFile) (stage_of lease old.trail) new →
     WorkGoesOn lease.client old new →
-    ((c : Call) (y : Reply) → EndsWith new.trail c y → r ≡ y) → Tells r (Err e) →
+    ((c : Call) (y : Reply) → EndsWith new.trail c y → r ≡ y) → ReplyTells r (Err e) →
     StopsReading lease now old new e
 told_stops lease now old new r BadInfo at h goes last tells =
     let come = come_at lease now old.trail new Reads Stuck (Get InfoFile) r at h last tells.0 in

@@ -22,24 +22,24 @@ use Rattle.lease.specs.Work.{NoneFailed}
 use Rattle.sync_info.specs.Info.{IsInfo, new_info}
 use Rattle.sync_info.specs.declared.info.Info.{Info}
 use Rattle.target_upgrade.specs.Course.{course_of, puts_text}
-use Rattle.target_upgrade.specs.Steps.{Stage, Upgraded, SUPPORTED, awaited, starts, stage_after}
+use Rattle.target_upgrade.specs.Steps.{UpgradeStage, Upgraded, SUPPORTED, awaited, starts, stage_after_reply}
 
 -- ---- where a session stands
 
 -- the trail's last session holds this exclusive lease, has done what is allowed, and stands at this
 -- stage of an upgrade
-pub record StandsAt (lease : Lease) (trail : List Event) (stage : Stage) : Type 0 where
+pub record StandsAt (lease : Lease) (trail : List Event) (stage : UpgradeStage) : Type 0 where
   pub exclusive : lease.kind ≡ Exclusive
   pub held : IsHeld lease trail
   pub lawful : (course_of lease.client trail).lawful ≡ true
   pub at : (course_of lease.client trail).stage ≡ stage
 
 -- where the session stands in an upgrade
-abbrev pub stage_of : Lease → List Event → Stage
+abbrev pub stage_of : Lease → List Event → UpgradeStage
 stage_of lease trail = (course_of lease.client trail).stage
 
 -- this is the session's next call
-pub record MayCall (lease : Lease) (trail : List Event) (call : Call) : Type 0 where
+pub record IsNextCall (lease : Lease) (trail : List Event) (call : Call) : Type 0 where
   pub stands : StandsAt lease trail (stage_of lease trail)
   pub next : awaited (stage_of lease trail) ≡ Some call
   pub text : puts_text call ≡ true
@@ -67,17 +67,17 @@ pub record WorkGoesOn (client : List ℕ) (old new : LineNow) : Type 0 where
 -- ---- the answers
 
 -- the call was made under the lease, which may have been renewed before, and was heard
-pub record HasMade (before after : Lease) (call : Call) (stage : Stage) (new : LineNow)
+pub record HasMade (before after : Lease) (call : Call) (stage : UpgradeStage) (new : LineNow)
     : Type 0 where
   pub same : IsSameBut before after
   pub reply : Reply
   pub ends : EndsWith new.trail call reply
   pub shape : IsReplyTo call reply
   pub heard : ¬ (reply ≡ Failed)
-  pub stands : StandsAt after new.trail (stage_after stage reply)
+  pub stands : StandsAt after new.trail (stage_after_reply stage reply)
 
 -- the lease is held still, but for its renewals, and the session stands at this stage
-pub record HasCome (before after : Lease) (stage : Stage) (new : LineNow) : Type 0 where
+pub record HasCome (before after : Lease) (stage : UpgradeStage) (new : LineNow) : Type 0 where
   pub same : IsSameBut before after
   pub stands : StandsAt after new.trail stage
 
@@ -93,7 +93,7 @@ Stops lease old new TargetFault = Fails lease.client old new
 Stops lease old new NoMemory = NoneFailed old.trail new.trail
 Stops lease old new (Busy lock now) = ⊥
 
-abbrev pub ComesOr : {T : Type 0} → Lease → Lease → Stage → LineNow → LineNow →
+abbrev pub ComesOr : {T : Type 0} → Lease → Lease → UpgradeStage → LineNow → LineNow →
     Result T LeaseErr → Type 0
 ComesOr before after stage old new (Ok done) = HasCome before after stage new
 ComesOr before after stage old new (Err e) = Stops before old new e
@@ -111,7 +111,7 @@ info_or_new from None = new_info from
 info_or_new from (Some info) = info
 
 -- each answer, by its cause
-abbrev pub Upgrades : Lease → Lease → LineNow → LineNow → Result ℕ LeaseErr → Type 0
-Upgrades before after old new (Ok version) =
+abbrev pub UpgradesTarget : Lease → Lease → LineNow → LineNow → Result ℕ LeaseErr → Type 0
+UpgradesTarget before after old new (Ok version) =
     (version ≡ SUPPORTED) × HasCome before after Upgraded new
-Upgrades before after old new (Err e) = Stops before old new e
+UpgradesTarget before after old new (Err e) = Stops before old new e

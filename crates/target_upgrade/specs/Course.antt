@@ -17,7 +17,7 @@ use Rattle.lease.specs.Discipline.{Session, ObeysLocks, session_after, begun, ou
 use Rattle.lease.specs.Idle.{is_work}
 use Rattle.lease.specs.Phase.{Phase, Held, role_of}
 use Rattle.sync_info.specs.Read.{info_in}
-use Rattle.target_upgrade.specs.Steps.{Stage, Reads, Stuck, awaited, stage_after}
+use Rattle.target_upgrade.specs.Steps.{UpgradeStage, Reads, Stuck, awaited, stage_after_reply}
 
 -- ---- a synchroniser
 
@@ -29,12 +29,12 @@ abbrev pub if_known : ℕ → Option ℕ
 if_known version = if is_known version then Some version else None
 
 -- the version of the info that a text is, if it is one
-abbrev pub version_in : List ℕ → Option ℕ
-version_in content = option_map (λ info. info.version) (info_in content)
+abbrev pub version_in_text : List ℕ → Option ℕ
+version_in_text content = option_map (λ info. info.version) (info_in content)
 
 -- and that, if some client may work at it
 abbrev pub known_in : List ℕ → Option ℕ
-known_in content = option_and_then if_known (version_in content)
+known_in content = option_and_then if_known (version_in_text content)
 
 abbrev pub is_version : ℕ → Option ℕ → Bool
 is_version version None = false
@@ -42,7 +42,7 @@ is_version version (Some found) = nat_eq found version
 
 -- whether a text is an info of this version
 abbrev pub is_info_at : ℕ → List ℕ → Bool
-is_info_at version content = is_version version (version_in content)
+is_info_at version content = is_version version (version_in_text content)
 
 -- whether the session was told a version
 abbrev pub is_told : Option ℕ → Bool
@@ -105,7 +105,7 @@ is_awaited (Some next) call = is_call call next && puts_text call
 pub record Course : Type 0 where
   pub lease : Session
   pub told : Option ℕ
-  pub stage : Stage
+  pub stage : UpgradeStage
   pub lawful : Bool
 
 -- a session that begins, whatever stands before it
@@ -126,12 +126,12 @@ abbrev pub told_by : Course → Phase → Call → Reply → Option ℕ
 told_by c (Held Sync stamp) call reply = told_after c.told call reply
 told_by c phase call reply = c.told
 
-abbrev pub stage_by : Course → Phase → Reply → Stage
-stage_by c (Held Exclusive stamp) reply = stage_after c.stage reply
+abbrev pub stage_by : Course → Phase → Reply → UpgradeStage
+stage_by c (Held Exclusive stamp) reply = stage_after_reply c.stage reply
 stage_by c phase reply = c.stage
 
 -- a call whose reply is never heard is the last one
-abbrev pub stage_lost : Course → Phase → Stage
+abbrev pub stage_lost : Course → Phase → UpgradeStage
 stage_lost c (Held Exclusive stamp) = Stuck
 stage_lost c phase = c.stage
 

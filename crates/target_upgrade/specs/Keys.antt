@@ -1,16 +1,17 @@
 -- The keys that stand in item files, as older versions of a target kept them.
-use Rattle.std.specs.Prelude.{ℕ, zero, suc, Bool, false, ◌&&◌, ◌||◌, not, List, [], ◌∷◌, ◌++◌, length, codes, nat_eq, nat_le, bytes_eq, Option, Some, None, option_map, option_and_then, if◌then◌else◌}
+use Rattle.std.specs.Prelude.{ℕ, zero, suc, Bool, ◌&&◌, ◌||◌, not, List, [], ◌∷◌, ◌++◌, length, codes, nat_eq, nat_le, bytes_eq, Option, Some, None, option_map, option_and_then, if◌then◌else◌}
 use Rattle.std.specs.Char.{is_ascii_digit}
 use Rattle.std.specs.List.{list_all, list_any}
 use Rattle.std.specs.Str.Parse.{digits_value}
-use Rattle.item_kinds.specs.Kinds.{type_number}
+use Rattle.item_kinds.specs.Kinds.{is_number, type_number}
 use Rattle.item_kinds.specs.Times.{time_text}
 use Rattle.item_text.specs.Grammar.{item_in}
-use Rattle.item_text.specs.Props.{type_key, value_of}
+use Rattle.item_text.specs.Props.{has_value, type_key, value_of}
 use Rattle.item_text.specs.declared.item.Item.{Item}
 use Rattle.item_text.specs.declared.item.Prop.{Prop}
+use Rattle.jop_base.specs.Id.{is_id}
 use Rattle.jop_base.specs.Times.{last_time}
-use Rattle.sync_info.specs.Info.{has_id, is_id}
+use Rattle.sync_info.specs.Info.{has_id}
 use Rattle.sync_info.specs.declared.info.Info.{Info}
 use Rattle.sync_info.specs.declared.key_record.KeyRecord.{KeyRecord}
 
@@ -36,25 +37,13 @@ time_in text = last_up_to (is_time_of text) last_time
 
 -- ---- the pairs of an item
 
-abbrev pub is_text : List ℕ → Option (List ℕ) → Bool
-is_text text None = false
-is_text text (Some found) = bytes_eq found text
-
-abbrev pub is_number : ℕ → Option ℕ → Bool
-is_number number None = false
-is_number number (Some found) = nat_eq found number
-
--- whether the topmost value of a key is this one
-abbrev pub has_value : List ℕ → List ℕ → List Prop → Bool
-has_value key value props = is_text value (value_of key props)
-
 abbrev pub time_at : Option (List ℕ) → ℕ
 time_at None = 0
 time_at (Some text) = time_in text
 
 -- when the item was last changed, 0 if no pair tells
-abbrev pub updated_in : List Prop → ℕ
-updated_in props = time_at (value_of (codes "updated_time") props)
+abbrev pub last_updated : List Prop → ℕ
+last_updated props = time_at (value_of (codes "updated_time") props)
 
 -- the number of a master key's kind
 abbrev pub MASTER_KEY : ℕ
@@ -63,13 +52,13 @@ MASTER_KEY = 9
 abbrev pub is_master : List Prop → Bool
 is_master props = is_number MASTER_KEY (option_and_then type_number (value_of type_key props))
 
-abbrev pub is_sealed : List Prop → Bool
-is_sealed props = has_value (codes "encryption_applied") (codes "1") props
+abbrev pub tells_sealed : List Prop → Bool
+tells_sealed props = has_value (codes "encryption_applied") (codes "1") props
 
 -- the pairs are those of an unsealed master key with this id
 abbrev pub is_key : List ℕ → List Prop → Bool
 is_key id props =
-    is_id id && (has_value (codes "id") id props && (not (is_sealed props) && is_master props))
+    is_id id && (has_value (codes "id") id props && (not (tells_sealed props) && is_master props))
 
 abbrev pub record_with : List ℕ → ℕ → List ℕ → KeyRecord
 record_with id updated content =
@@ -79,7 +68,7 @@ record_with id updated content =
 abbrev pub key_of_item : List ℕ → Item → Option KeyRecord
 key_of_item id item =
     if is_key id item.props
-    then option_map (record_with id (updated_in item.props))
+    then option_map (record_with id (last_updated item.props))
     (value_of (codes "content") item.props)
     else None
 

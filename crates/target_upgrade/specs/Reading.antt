@@ -19,20 +19,20 @@ use Rattle.target_upgrade.specs.declared.reading.ReadErr.{ReadErr}
 use Rattle.target_upgrade.specs.declared.reading.ReadErr.TheVariants.{BadInfo, Lease as LeaseStops}
 
 -- an info was got by the trail's last call
-pub record IsGot (trail : List Event) (info : Info) : Type 0 where
+pub record IsGotInfo (trail : List Event) (info : Info) : Type 0 where
   pub now : ℕ
   pub content : List ℕ
   pub ends : EndsWith trail (Get InfoFile) (Got now content)
   pub holds : info_in content ≡ Some info
 
 -- the info that was found was got by the trail's last call; without one the version is 1 at most
-abbrev pub IsRead : List Event → ℕ → Option Info → Type 0
-IsRead trail version None = version ≤ 1
-IsRead trail version (Some info) = IsGot trail info
+abbrev pub IsFoundInfo : List Event → ℕ → Option Info → Type 0
+IsFoundInfo trail version None = version ≤ 1
+IsFoundInfo trail version (Some info) = IsGotInfo trail info
 
 -- the session holds this lease, and an upgrade would begin at the version that was found
 pub record IsFoundAt (lease : Lease) (found : Found) (trail : List Event) : Type 0 where
-  pub read : IsRead trail found.version found.info
+  pub read : IsFoundInfo trail found.version found.info
   pub stands : StandsAt lease trail (starts (info_or_new found.version found.info))
   pub version : (info_or_new found.version found.info).version ≡ found.version
   pub valid : IsInfo (info_or_new found.version found.info)
@@ -49,17 +49,17 @@ IsBadReply (Got now content) = info_in content ≡ None
 IsBadReply reply = ⊥
 
 -- the reply to the get of `info.json` gives this info
-abbrev pub Gives : Info → Reply → Type 0
-Gives info (Got now content) = info_in content ≡ Some info
-Gives info reply = ⊥
+abbrev pub GivesInfo : Info → Reply → Type 0
+GivesInfo info (Got now content) = info_in content ≡ Some info
+GivesInfo info reply = ⊥
 
 -- what the reply to the get of `info.json` tells
-abbrev pub Tells : Reply → Result (Option Info) ReadErr → Type 0
-Tells reply (Ok None) = after_info reply ≡ ReadsOld
-Tells reply (Ok (Some info)) =
-    (after_info reply ≡ starts info) × IsInfo info × Gives info reply
-Tells reply (Err BadInfo) = (after_info reply ≡ Stuck) × IsBadReply reply
-Tells reply (Err (LeaseStops e)) = e ≡ NoMemory
+abbrev pub ReplyTells : Reply → Result (Option Info) ReadErr → Type 0
+ReplyTells reply (Ok None) = after_info reply ≡ ReadsOld
+ReplyTells reply (Ok (Some info)) =
+    (after_info reply ≡ starts info) × IsInfo info × GivesInfo info reply
+ReplyTells reply (Err BadInfo) = (after_info reply ≡ Stuck) × IsBadReply reply
+ReplyTells reply (Err (LeaseStops e)) = e ≡ NoMemory
 
 -- that was the last call; the session holds its lease still
 pub record HasBadInfo (before after : Lease) (new : LineNow) : Type 0 where

@@ -22,18 +22,18 @@ abbrev pub SUPPORTED : ℕ
 SUPPORTED = 3
 
 -- Where an upgrade stands. It goes on with the target's info as it is so far.
-pub data Stage : Type 0 where
+pub data UpgradeStage : Type 0 where
   -- `info.json` is to be read
-  Reads : Stage
+  Reads : UpgradeStage
   -- there is none, and `.sync/version.txt` is to be read
-  ReadsOld : Stage
-  At : (step : Step) (info : Info) → Stage
+  ReadsOld : UpgradeStage
+  At : (step : Step) (info : Info) → UpgradeStage
   -- the files of these items are still to be got
-  Gets : (ids : List (List ℕ)) (info : Info) → Stage
+  Gets : (ids : List (List ℕ)) (info : Info) → UpgradeStage
   -- the target has the version to which it is brought
-  Upgraded : Stage
+  Upgraded : UpgradeStage
   -- nothing more may be called
-  Stuck : Stage
+  Stuck : UpgradeStage
 
 -- the info with another version
 abbrev pub at_version : ℕ → Info → Info
@@ -52,7 +52,7 @@ step_call PutsInfo info = Put InfoFile (info_text (at_version 2 info))
 step_call ListsRoot info = ListDir Root
 
 -- The last call of all puts the info with the keys that were got.
-abbrev pub awaited : Stage → Option Call
+abbrev pub awaited : UpgradeStage → Option Call
 awaited Reads = Some (Get InfoFile)
 awaited ReadsOld = Some (Get OldVersion)
 awaited (At step info) = Some (step_call step info)
@@ -64,30 +64,30 @@ awaited Stuck = None
 -- ---- where the steps begin
 
 -- from a version; beyond the one that is supported nothing is done
-abbrev pub starts_from : ℕ → Info → Stage
+abbrev pub starts_from : ℕ → Info → UpgradeStage
 starts_from zero info = At MakesResources info
 starts_from (suc zero) info = At MakesLocks info
 starts_from (suc (suc zero)) info = At ListsRoot info
 starts_from (suc (suc (suc zero))) info = Upgraded
 starts_from (suc (suc (suc (suc n)))) info = Stuck
 
-abbrev pub starts : Info → Stage
+abbrev pub starts : Info → UpgradeStage
 starts info = starts_from info.version info
 
-abbrev pub starts_with : Option Info → Stage
+abbrev pub starts_with : Option Info → UpgradeStage
 starts_with None = Stuck
 starts_with (Some info) = starts info
 
 -- ---- what comes behind a reply
 
 -- what was read of `info.json`
-abbrev pub after_info : Reply → Stage
+abbrev pub after_info : Reply → UpgradeStage
 after_info (Got now content) = starts_with (info_in content)
 after_info (Absent now) = ReadsOld
 after_info reply = Stuck
 
 -- without one a `version.txt` in any form means version 1
-abbrev pub after_old : Reply → Stage
+abbrev pub after_old : Reply → UpgradeStage
 after_old (Absent now) = starts (new_info 0)
 after_old (Got now content) = starts (new_info 1)
 after_old (TooLarge len) = starts (new_info 1)
@@ -116,7 +116,7 @@ abbrev pub items_in : List Entry → List (List ℕ)
 items_in [] = []
 items_in (e ∷ es) = with_item e.path (items_in es)
 
-abbrev pub after_step : Step → Info → Reply → Stage
+abbrev pub after_step : Step → Info → Reply → UpgradeStage
 after_step ListsRoot info (Listed listing) =
     Gets (items_in listing.entries) (at_version 3 info)
 after_step step info (Done now) = At (next_step step) info
@@ -127,19 +127,19 @@ abbrev pub key_in : List ℕ → Reply → Option KeyRecord
 key_in id (Got now content) = key_of id content
 key_in id reply = None
 
-abbrev pub after_get : List ℕ → List (List ℕ) → Info → Reply → Stage
+abbrev pub after_get : List ℕ → List (List ℕ) → Info → Reply → UpgradeStage
 after_get id ids info Failed = Stuck
 after_get id ids info reply = Gets ids (with_key (key_in id reply) info)
 
-abbrev pub after_last : Reply → Stage
+abbrev pub after_last : Reply → UpgradeStage
 after_last (Done now) = Upgraded
 after_last reply = Stuck
 
-abbrev pub stage_after : Stage → Reply → Stage
-stage_after Reads reply = after_info reply
-stage_after ReadsOld reply = after_old reply
-stage_after (At step info) reply = after_step step info reply
-stage_after (Gets (id ∷ ids) info) reply = after_get id ids info reply
-stage_after (Gets [] info) reply = after_last reply
-stage_after Upgraded reply = Stuck
-stage_after Stuck reply = Stuck
+abbrev pub stage_after_reply : UpgradeStage → Reply → UpgradeStage
+stage_after_reply Reads reply = after_info reply
+stage_after_reply ReadsOld reply = after_old reply
+stage_after_reply (At step info) reply = after_step step info reply
+stage_after_reply (Gets (id ∷ ids) info) reply = after_get id ids info reply
+stage_after_reply (Gets [] info) reply = after_last reply
+stage_after_reply Upgraded reply = Stuck
+stage_after_reply Stuck reply = Stuck

@@ -1,5 +1,5 @@
 ghost use Rattle.std.specs.Prelude.{IfErr, OnOk};
-ghost use Rattle.target_upgrade.specs.Answers.{HasMade, MayCall, Stops, WorkGoesOn, stage_of};
+ghost use Rattle.target_upgrade.specs.Answers.{HasMade, IsNextCall, Stops, WorkGoesOn, stage_of};
 
 use jop_base::Bytes;
 use jop_target::{Call, Line};
@@ -13,7 +13,7 @@ pub(crate) fn ask<L: Line>(
     lease: &mut Lease,
     call: Call,
 ) -> Result<(), LeaseErr>
-    requires { MayCall lease.old (L.state line.old).trail call }
+    requires { IsNextCall lease.old (L.state line.old).trail call }
     ensures ok { let stage = stage_of lease.old (L.state line.old).trail in
         OnOk result (HasMade lease.old lease.new call stage (L.state line.new)) }
     ensures err { IfErr result (Stops lease.old (L.state line.old) (L.state line.new)) }

@@ -1,9 +1,9 @@
 ghost use Rattle.std.specs.Prelude.{◌≡◌, codes, option_and_then, IfOk, IfSome, OnOk};
 ghost use Rattle.item_kinds.specs.Kinds.{type_number};
-ghost use Rattle.item_text.specs.Props.{type_key, value_of};
+ghost use Rattle.item_text.specs.Props.{has_value, type_key, value_of};
 ghost use Rattle.sync_info.specs.Info.{IsInfo, IsKeyRecord, has_id};
 ghost use Rattle.std.specs.List.{list_any};
-ghost use Rattle.target_upgrade.specs.Keys.{has_value, is_key, is_master, is_sealed};
+ghost use Rattle.target_upgrade.specs.Keys.{is_key, is_master, tells_sealed};
 ghost use Rattle.target_upgrade.specs.Keys.{key_of, key_of_item, with_key};
 ghost use Rattle.target_upgrade.specs.Steps.{key_in};
 
@@ -24,7 +24,7 @@ fn is_of(item: &Item, id: &Id) -> bool
 
 /// Whether the item is sealed.
 fn is_hidden(item: &Item) -> bool
-    ensures { result ≡ is_sealed item.now.props }
+    ensures { result ≡ tells_sealed item.now.props }
 {
     is_sealed(item)
 }

@@ -2,7 +2,7 @@ ghost use Rattle.std.specs.Prelude.{◌≡◌, ◌≤◌, IfErr, IfOk};
 ghost use Rattle.jop_target.specs.Replies.{IsReplyTo};
 ghost use Rattle.sync_info.specs.Info.{new_info};
 ghost use Rattle.target_upgrade.specs.Answers.{HasCome, StandsAt, Stops, WorkGoesOn};
-ghost use Rattle.target_upgrade.specs.Reading.{HasFound, StopsReading, Tells};
+ghost use Rattle.target_upgrade.specs.Reading.{HasFound, StopsReading, ReplyTells};
 ghost use Rattle.target_upgrade.specs.Steps.{Reads, ReadsOld, starts};
 
 use crate::asking::ask;
@@ -71,7 +71,7 @@ pub fn read_version<L: Line>(
 fn told(alloc: Global, reply: &Reply) -> Result<Option<Info>, ReadErr>
     requires shape { IsReplyTo (Call.Get Path.Info) reply.now }
     requires heard { ¬ (reply.now ≡ Reply.Failed) }
-    ensures { Tells reply.now result }
+    ensures { ReplyTells reply.now result }
 {
     match reply {
         Reply::Absent { now: _ } => Ok(None),

@@ -1,6 +1,6 @@
 ghost use Rattle.std.specs.Prelude.{◌≡◌};
 ghost use Rattle.sync_info.specs.Info.{IsInfo};
-ghost use Rattle.target_upgrade.specs.Answers.{Begins, ComesOr, StandsAt, Upgrades};
+ghost use Rattle.target_upgrade.specs.Answers.{Begins, ComesOr, StandsAt, UpgradesTarget};
 ghost use Rattle.target_upgrade.specs.Answers.{WorkGoesOn, info_or_new};
 ghost use Rattle.target_upgrade.specs.Steps.{At, Upgraded};
 
@@ -25,7 +25,8 @@ pub fn upgrade<L: Line>(
 ) -> Result<u64, LeaseErr>
     requires { Begins lease.old (L.state line.old).trail from (info_or_new from info) }
 
-    ensures gives { Upgrades lease.old lease.new (L.state line.old) (L.state line.new) result }
+    ensures gives { UpgradesTarget
+        lease.old lease.new (L.state line.old) (L.state line.new) result }
 
     ensures goes { WorkGoesOn lease.old.client (L.state line.old) (L.state line.new) }
     ensures keeps { L.keeps line.old line.new }

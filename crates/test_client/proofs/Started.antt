@@ -14,13 +14,13 @@ use Rattle.law_licences.specs.Puts.{has_put}
 use Rattle.law_licences.specs.Trails.{calls_from, session_calls}
 use Rattle.session.proofs.Asked.{calls_locks}
 use Rattle.upload.specs.Conditions.{AreUnput}
-use Rattle.test_client.specs.Begun.{HasBegun}
+use Rattle.test_client.specs.Begun.{EndsAtBeginning}
 
-session_begun : (client : List ℕ) (trail : List Event) → (h : HasBegun trail)
+session_begun : (client : List ℕ) (trail : List Event) → (h : EndsAtBeginning trail)
     → session_of client trail ≡ session_of client (h.before ++ Began ∷ [])
 session_begun client trail h = ap (session_of client) h.is
 
-pub stands_begun : (client : List ℕ) (trail : List Event) → HasBegun trail
+pub stands_begun : (client : List ℕ) (trail : List Event) → EndsAtBeginning trail
     → StandsIn client trail Free
 stands_begun client trail h =
     let same = session_begun client trail h ∙ session_from-last client outside h.before Began in
@@ -30,12 +30,12 @@ stands_begun client trail h =
       phase = ap (λ (s : Session). s.phase) same;
     }
 
-calls_begun : (trail : List Event) → HasBegun trail → session_calls trail ≡ []
+calls_begun : (trail : List Event) → EndsAtBeginning trail → session_calls trail ≡ []
 unfolding calls_from
 calls_begun trail h = ap session_calls h.is ∙ calls_from-append [] h.before (Began ∷ [])
 
 -- nothing was put yet
-pub unput_begun : (client : List ℕ) (old new : SiteNow) → HasBegun old.line.trail
+pub unput_begun : (client : List ℕ) (old new : SiteNow) → EndsAtBeginning old.line.trail
     → LeaseGoesOn client old.line new.line → AreUnput new
 unfolding has_put
 unput_begun client old new h goes id is_new =

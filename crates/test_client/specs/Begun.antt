@@ -4,6 +4,6 @@ use Rattle.jop_target.specs.declared.event.Event.{Event}
 use Rattle.jop_target.specs.declared.event.Event.TheVariants.{Began}
 
 -- the trail ends where a session begins
-pub record HasBegun (trail : List Event) : Type 0 where
+pub record EndsAtBeginning (trail : List Event) : Type 0 where
   pub before : List Event
   pub is : trail ≡ before ++ Began ∷ []

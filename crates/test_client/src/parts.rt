@@ -1,7 +1,7 @@
 ghost use Rattle.std.specs.Prelude.{◌≡◌, false};
 ghost use Rattle.client.specs.Sites.{IsTidy};
 ghost use Rattle.upload.specs.Conditions.{CanUpload};
-ghost use Rattle.test_client.specs.Begun.{HasBegun};
+ghost use Rattle.test_client.specs.Begun.{EndsAtBeginning};
 
 use crate::broken_off::BrokenOff;
 use client::Client;
@@ -52,7 +52,7 @@ pub(crate) fn work<S: Client>(
     part: Part,
 ) -> Result<SyncReport, BrokenOff>
     requires tidy { IsTidy (S.site site.old) }
-    requires begun { HasBegun (S.site site.old).line.trail }
+    requires begun { EndsAtBeginning (S.site site.old).line.trail }
     requires readable { (S.site site.old).tables.info.e2ee.value ≡ false }
 {
     let mut lease = acquire(alloc, site, LockKind::Sync, client)?;

@@ -2,7 +2,7 @@
 
 ghost use Rattle.std.specs.Prelude.{◌≡◌, ◌∷◌, [], ℕ, List, None};
 ghost use Rattle.jop_base.specs.declared.lock_name.LockKind.TheVariants.{Exclusive, Sync};
-ghost use Rattle.jop_target.specs.History.{IsHonest, Writes, part_of};
+ghost use Rattle.jop_target.specs.History.{IsHonest, WritesAt, part_of};
 ghost use Rattle.law_exclusion.specs.Exclusive.{AllKeepVersions, IsExclusive};
 ghost use Rattle.lease.specs.Exclusion.{AllKeepLocks, IsTimely, phase_at};
 ghost use Rattle.lease.specs.Locks.{blocking_in};
@@ -19,7 +19,7 @@ pub fn two_upgraders_block_each_other()
     ensures keep { AllKeepLocks two_upgraders }
     ensures first { IsBlocked Exclusive one (part_of one two_upgraders.steps) (lock Exclusive two 5) 6 }
     ensures second { IsBlocked Exclusive two (part_of two two_upgraders.steps) (lock Exclusive one 4) 7 }
-    ensures quiet { (place : ℕ) (client : List ℕ) → Writes two_upgraders place client → ⊥ }
+    ensures quiet { (place : ℕ) (client : List ℕ) → WritesAt two_upgraders place client → ⊥ }
     ensures timely { IsTimely two_upgraders }
     ensures versions { AllKeepVersions two_upgraders }
     ensures exclusive { IsExclusive two_upgraders }

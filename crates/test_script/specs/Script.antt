@@ -9,21 +9,21 @@ use Rattle.jop_target.specs.declared.call.Call.TheVariants.{List as ListDir, Get
 use Rattle.jop_target.specs.declared.reply.Reply.{Reply}
 
 -- a call that names no blob
-abbrev pub is_plain : Call → Bool
-is_plain (ListDir dir) = true
-is_plain (Get path) = not (names_blob path)
-is_plain (Put path content) = not (names_blob path)
-is_plain (Delete path) = not (names_blob path)
-is_plain (MakeDir dir) = true
-is_plain (GetBlob id) = false
-is_plain (PutBlob id len) = false
+abbrev pub names_no_blob : Call → Bool
+names_no_blob (ListDir dir) = true
+names_no_blob (Get path) = not (names_blob path)
+names_no_blob (Put path content) = not (names_blob path)
+names_no_blob (Delete path) = not (names_blob path)
+names_no_blob (MakeDir dir) = true
+names_no_blob (GetBlob id) = false
+names_no_blob (PutBlob id len) = false
 
 -- a call, with the number of the caller's call right before which it is made
 abbrev pub ScriptedCall : Type 0
 ScriptedCall = ℕ × Call
 
 abbrev pub is_scriptable : ScriptedCall → Bool
-is_scriptable s = is_plain s.1
+is_scriptable s = names_no_blob s.1
 
 -- what it holds, what is to land, and how many calls its caller has made and how many of them failed
 pub record Scripted : Type 0 where
@@ -50,8 +50,8 @@ abbrev pub next_number : ℕ → ℕ
 next_number made = min (made + 1) (2 ^ 64 - 1)
 
 -- once its caller has made a call that was answered so
-abbrev pub counted : Scripted → Reply → Scripted
-counted t reply = record t {
+abbrev pub after_answer : Scripted → Reply → Scripted
+after_answer t reply = record t {
   made = next_number t.made;
   faults = if is_failed reply then risen t.faults else t.faults;
 }
@@ -65,4 +65,4 @@ pub record Steps (before : Scripted) (call : Call) (bytes : List ℕ) (reply : R
     (after : Scripted) : Type 0 where
   pub answered : reply ≡ store_reply (store_before before) call
   pub left : after
-      ≡ counted (record before { store = store_after (store_before before) call bytes }) reply
+      ≡ after_answer (record before { store = store_after (store_before before) call bytes }) reply

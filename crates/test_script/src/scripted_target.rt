@@ -1,7 +1,7 @@
 ghost use Rattle.std.specs.Prelude.{◌≡◌, IfOk, OnOk, None, true};
 ghost use Rattle.std.specs.List.{list_all};
-ghost use Rattle.jop_target.specs.Replies.{Answers, HasCause, IsCallable, IsReplyTo, KeepsBlob};
-ghost use Rattle.test_script.specs.Script.{Steps, after_one, after_script, counted};
+ghost use Rattle.jop_target.specs.Replies.{Answers, HasReplyCause, IsCallable, IsReplyTo, KeepsBlob};
+ghost use Rattle.test_script.specs.Script.{Steps, after_one, after_script, after_answer};
 ghost use Rattle.test_script.specs.Script.{is_scriptable, scripted};
 
 use jop_base::Bytes;
@@ -65,7 +65,7 @@ impl ScriptedTarget {
 
     /// Its caller has made a call that was answered so.
     fn count_call(&mut self, reply: &Reply)
-        ensures { self.new ≡ counted self.old reply.now }
+        ensures { self.new ≡ after_answer self.old reply.now }
     {
         self.made = self.made.saturating_add(1);
         if let Reply::Failed = reply {
@@ -116,7 +116,7 @@ impl Target for ScriptedTarget {
     fn call(&mut self, alloc: Global, call: &Call, blob: &mut Bytes) -> Result<Reply, AllocError>
         requires { IsCallable call.now blob.old }
         ensures shape { IfOk result (λ reply. IsReplyTo call.now reply) }
-        ensures cause { HasCause self.old.faults result self.new.faults }
+        ensures cause { HasReplyCause self.old.faults result self.new.faults }
         ensures answers { Answers None call.now blob.old result None }
         ensures blob { KeepsBlob None call.now blob.old result blob.new }
 

@@ -1,6 +1,6 @@
 ghost use Rattle.std.specs.Prelude.{◌≡◌, true, IfOk};
 ghost use Rattle.std.specs.List.{list_all};
-ghost use Rattle.test_script.specs.Script.{is_plain, is_scriptable};
+ghost use Rattle.test_script.specs.Script.{names_no_blob, is_scriptable};
 
 use crate::texts::{A, F, FOLDER, RENAMED};
 use jop_base::{Bytes, Path};
@@ -158,7 +158,7 @@ const FOLDER_DELETIONS: [Case; 2] = [
 ];
 
 fn call_of(alloc: Global, deed: Deed) -> Result<Call, BrokenOff>
-    ensures { IfOk result (λ call. is_plain call ≡ true) }
+    ensures { IfOk result (λ call. names_no_blob call ≡ true) }
 {
     let note = Path::Item(id_of(A)?);
     match deed {
@@ -173,7 +173,7 @@ fn call_of(alloc: Global, deed: Deed) -> Result<Call, BrokenOff>
 
 /// The script that has this call alone, right before the upload's call of this number.
 fn script(alloc: Global, number: u64, call: Call) -> Result<Vec<(u64, Call)>, AllocError>
-    requires { is_plain call ≡ true }
+    requires { names_no_blob call ≡ true }
     ensures { IfOk result (λ script. list_all is_scriptable script.items ≡ true) }
 {
     let mut script = Vec::new(alloc);

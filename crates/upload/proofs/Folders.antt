@@ -26,11 +26,11 @@ use Rattle.session.specs.Parts.{Changes, ForEach}
 use Rattle.session.specs.Work.{IsReady, WorkNow, view_of}
 use Rattle.session.specs.declared.finding.Finding.TheVariants.{Missing}
 use Rattle.session.proofs.Found.{missing_found}
-use Rattle.upload.specs.Found.{IsFound}
+use Rattle.upload.specs.Found.{IsFoundForRow}
 use Rattle.upload.specs.Uploading.{ClearsIf}
 
 -- a row whose file is gone may give way to nothing
-pub may_go : (row : Row) (d : SiteNow) (shown : Option Shown) → IsFound row Missing d
+pub may_go : (row : Row) (d : SiteNow) (shown : Option Shown) → IsFoundForRow row Missing d
     → MayConflict (view_of shown d) row.id None (copies_for row.content None)
 may_go row d shown h = record {
   row = row;
@@ -41,7 +41,7 @@ may_go row d shown h = record {
   copied = refl;
 }
 
-pub is_going : (row : Row) (d : SiteNow) (shown : Option Shown) → IsFound row Missing d
+pub is_going : (row : Row) (d : SiteNow) (shown : Option Shown) → IsFoundForRow row Missing d
     → is_folder (item_of row.content) ≡ true → IsSorted row_id d.tables.rows
     → IsGoing (view_of shown d) row.id row
 is_going row d shown h is ordered = record {
@@ -52,10 +52,10 @@ is_going row d shown h is ordered = record {
 }
 
 -- it is still found gone behind the moves
-pub found_still : (row : Row) (a b : SiteNow) (changes : List Change) → IsFound row Missing a
+pub found_still : (row : Row) (a b : SiteNow) (changes : List Change) → IsFoundForRow row Missing a
     → is_folder (item_of row.content) ≡ true → IsSorted row_id a.tables.rows
     → changes ≡ folder_gone_changes a.tables row.id → b.tables ≡ after_all a.tables changes
-    → session_calls b.line.trail ≡ session_calls a.line.trail → IsFound row Missing b
+    → session_calls b.line.trail ≡ session_calls a.line.trail → IsFoundForRow row Missing b
 found_still row a b changes h is ordered are tables calls =
     let notes = filter (is_note_in row.id) a.tables.rows in
     let gone = goes_on notes (view_of None a) row.id row (is_going row a None h is ordered) refl in
@@ -71,10 +71,11 @@ found_still row a b changes h is ordered are tables calls =
     }
 
 pub found_behind_moves : (row : Row) (changes : List Change) (sort : Call → Bool) (a b : WorkNow)
-    (result : Result (Unit {0}) StepErr) → IsFound row Missing a.site
+    (result : Result (Unit {0}) StepErr) → IsFoundForRow row Missing a.site
     → is_folder (item_of row.content) ≡ true → IsSorted row_id a.site.tables.rows
     → changes ≡ folder_gone_changes a.site.tables row.id
-    → Ends (ForEach Changes changes) sort a result b → OnOk result (IsFound row Missing b.site)
+    → Ends (ForEach Changes changes) sort a result b
+    → OnOk result (IsFoundForRow row Missing b.site)
 found_behind_moves row changes sort a b (Ok done) h is ordered are k =
     found_still row a.site b.site changes h is ordered are (tables_each changes sort a b k)
     (calls_each changes sort a b k)

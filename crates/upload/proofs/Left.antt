@@ -3,7 +3,7 @@ use Rattle.std.specs.Prelude.{ℕ, ◌<◌, ◌≡◌, ◌⊎◌, List, [], ◌�
 use Rattle.std.proofs.Common.{sym, ap, subst, ◌∙◌, arith, inl, inr}
 use Rattle.std.proofs.lemmas.Bool.{or_cases, or_left, or_right}
 use Rattle.conflicts.specs.declared.error.StepErr.{StepErr}
-use Rattle.delta.specs.Order.{has}
+use Rattle.delta.specs.Order.{includes}
 use Rattle.client.specs.Sites.{SiteNow}
 use Rattle.jop_base.proofs.KeyedLaws.{bytes_eq-refl, same_text}
 use Rattle.jop_base.specs.Keyed.{IsSorted, at}
@@ -116,11 +116,11 @@ unput_on id a b h unput other new =
 
 left_if : (a b : SiteNow) (id other : List ℕ) (rest : List (List ℕ)) → HasTended id a b
     → is_pending (row_at b.tables other) ≡ true
-    → (has (id ∷ rest) other ≡ true) ⊎ WasUnreadable other (session_calls a.line.trail)
-    → (has rest other ≡ true) ⊎ WasUnreadable other (session_calls b.line.trail)
+    → (includes (id ∷ rest) other ≡ true) ⊎ WasUnreadable other (session_calls a.line.trail)
+    → (includes rest other ≡ true) ⊎ WasUnreadable other (session_calls b.line.trail)
 left_if a b id other rest h waits (inr was) = inr (h.tended.tends.heard other was)
 left_if a b id other rest h waits (inl here) =
-    elim (or_cases (bytes_eq other id) (has rest other) here) [
+    elim (or_cases (bytes_eq other id) (includes rest other) here) [
       | inl e ↦ inr (subst (λ (k : List ℕ). WasUnreadable k (session_calls b.line.trail))
           (sym (same_text other id e))
           (h.tended.settled
@@ -135,7 +135,7 @@ left_on a b id rest h left other waits =
     left_if a b id other rest h waits (left other (ap is_pending same ∙ waits))
 
 nothing_left : (d : SiteNow) (id : List ℕ)
-    → (has [] id ≡ true) ⊎ WasUnreadable id (session_calls d.line.trail)
+    → (includes [] id ≡ true) ⊎ WasUnreadable id (session_calls d.line.trail)
     → WasUnreadable id (session_calls d.line.trail)
 nothing_left d id (inl h) = absurd cc
 nothing_left d id (inr was) = was
@@ -149,19 +149,20 @@ first_if : (y : Row) (ys : List Row) (id : List ℕ) (same waits : Bool) → byt
     → y.pending ≡ waits
     → is_pending (if same then Some y else at row_id ys id) ≡ true
     → (is_pending (at row_id ys id) ≡ true
-    → has (map row_id (filter (λ (r : Row). r.pending) ys)) id ≡ true)
-    → has (map row_id (if waits then y ∷ filter (λ (r : Row). r.pending) ys
+    → includes (map row_id (filter (λ (r : Row). r.pending) ys)) id ≡ true)
+    → includes (map row_id (if waits then y ∷ filter (λ (r : Row). r.pending) ys
     else filter (λ (r : Row). r.pending) ys)) id ≡ true
 first_if y ys id true true e p h rest =
-    or_left (bytes_eq id y.id) (has (map row_id (filter (λ (r : Row). r.pending) ys)) id)
+    or_left (bytes_eq id y.id) (includes (map row_id (filter (λ (r : Row). r.pending) ys)) id)
     (ap (λ (k : List ℕ). bytes_eq id k) (same_text y.id id e) ∙ bytes_eq-refl id)
 first_if y ys id true false e p h rest = absurd cc
 first_if y ys id false true e p h rest =
-    or_right (bytes_eq id y.id) (has (map row_id (filter (λ (r : Row). r.pending) ys)) id) (rest h)
+    or_right (bytes_eq id y.id)
+    (includes (map row_id (filter (λ (r : Row). r.pending) ys)) id) (rest h)
 first_if y ys id false false e p h rest = rest h
 
 has_each : (rows : List Row) (id : List ℕ) → is_pending (at row_id rows id) ≡ true
-    → has (map row_id (filter (λ (r : Row). r.pending) rows)) id ≡ true
+    → includes (map row_id (filter (λ (r : Row). r.pending) rows)) id ≡ true
 unfolding at
 has_each [] id h = absurd cc
 has_each (y ∷ ys) id h =

@@ -39,7 +39,7 @@ use Rattle.session.specs.Work.{IsReady, WorkNow, view_of}
 use Rattle.session.specs.declared.finding.Finding.{Finding}
 use Rattle.session.specs.declared.finding.Finding.TheVariants.{Same}
 use Rattle.keeper.specs.declared.blob.Blob.{Blob}
-use Rattle.upload.specs.Found.{IsFound}
+use Rattle.upload.specs.Found.{IsFoundForRow}
 use Rattle.upload.specs.Uploading.{PutsIfNew, PutsKept, PutsText, is_new_resource, is_upload}
 
 -- ---- what was found
@@ -47,7 +47,7 @@ use Rattle.upload.specs.Uploading.{PutsIfNew, PutsKept, PutsText, is_new_resourc
 -- nothing on the row's file was called since
 pub still_found : (row : Row) (finding : Finding) (a b : SiteNow) → b.tables ≡ a.tables
     → last_on row.id (session_calls b.line.trail) ≡ last_on row.id (session_calls a.line.trail)
-    → IsFound row finding a → IsFound row finding b
+    → IsFoundForRow row finding a → IsFoundForRow row finding b
 still_found row finding a b tables last h = record {
   reply = h.reply;
   found = h.found;
@@ -59,7 +59,8 @@ still_found row finding a b tables last h = record {
 -- a row that waits, of which the file was found
 pub found_row : (row : Row) (finding : Finding) (sort : Call → Bool) (a b : WorkNow)
     → b.site.tables ≡ a.site.tables → row_at a.site.tables row.id ≡ Some row
-    → row.pending ≡ true → Does (FindsFile row.id finding) sort a b → IsFound row finding b.site
+    → row.pending ≡ true → Does (FindsFile row.id finding) sort a b
+    → IsFoundForRow row finding b.site
 found_row row finding sort a b same at pending h =
     let f = found_behind row.id finding sort a b h in
     let still : row_at b.site.tables row.id ≡ Some row =
@@ -88,7 +89,7 @@ none_is : (base : Option (List ℕ)) → is_none base ≡ true → base ≡ None
 none_is None e = refl
 none_is (Some base) e = absurd cc
 
-pub may_put_blob : (row : Row) (d : SiteNow) (shown : Option Shown) → IsFound row Same d
+pub may_put_blob : (row : Row) (d : SiteNow) (shown : Option Shown) → IsFoundForRow row Same d
     → is_new_resource row ≡ true
     → (is_none row.base ≡ true → has_put row.id (session_calls d.line.trail) ≡ false)
     → MayPutBlob (view_of shown d) row.id
@@ -114,7 +115,8 @@ valid_item t row sound at =
     valid_content row.id row.content (All-at row_id IsSoundRow t.rows row.id row sound.rows at).content
 
 pub may_put : (row : Row) (d : SiteNow) (text : List ℕ) (shown : Option Shown)
-    → IsFound row Same d → d.tables.info.e2ee.value ≡ false → text ≡ written (item_of row.content)
+    → IsFoundForRow row Same d → d.tables.info.e2ee.value ≡ false
+    → text ≡ written (item_of row.content)
     → MayPut (view_of shown d) row.id text
 may_put row d text shown h readable is = record {
   row = row;

@@ -23,7 +23,7 @@ abbrev pub row_file_got : Row → Reply → Heard
 row_file_got row reply = record { call = Get (Item row.id); reply = Some reply }
 
 -- the row waits, and the session's last call on its file row_file_got this
-pub record IsFound (row : Row) (finding : Finding) (d : SiteNow) : Type 0 where
+pub record IsFoundForRow (row : Row) (finding : Finding) (d : SiteNow) : Type 0 where
   pub reply : Reply
   pub found : finding ≡ finding_of row.id row.base reply
   pub at : row_at d.tables row.id ≡ Some row
@@ -40,7 +40,7 @@ pub record IsUploadable (row : Row) (d : SiteNow) : Type 0 where
 
 -- the session's last call on its file row_file_got this, which may take its place
 pub record IsSeen (row : Row) (finding : Finding) (d : SiteNow) : Type 0 where
-  pub found : IsFound row finding d
+  pub found : IsFoundForRow row finding d
   pub sound : IsSoundFinding row.id finding
   pub readable : d.tables.info.e2ee.value ≡ false
   pub unput : is_none row.base ≡ true → has_put row.id (session_calls d.line.trail) ≡ false

@@ -1,6 +1,6 @@
 -- Which rows are settled.
 use Rattle.std.specs.Prelude.{ℕ, ◌≡◌, ◌⊎◌, List, [], ◌∷◌, true, None, Some}
-use Rattle.delta.specs.Order.{has}
+use Rattle.delta.specs.Order.{includes}
 use Rattle.client.specs.Sites.{SiteNow}
 use Rattle.jop_base.specs.declared.path.Path.TheVariants.{Item}
 use Rattle.jop_target.specs.declared.call.Call.TheVariants.{Get}
@@ -42,7 +42,7 @@ AreSettled d = (id : List ℕ) → IsSettled id d
 abbrev pub AreLeft : SiteNow → List (List ℕ) → Type 0
 AreLeft d ids =
     (id : List ℕ) → is_pending (row_at d.tables id) ≡ true
-    → (has ids id ≡ true) ⊎ WasUnreadable id (session_calls d.line.trail)
+    → (includes ids id ≡ true) ⊎ WasUnreadable id (session_calls d.line.trail)
 
 -- these may be put, no file of a new row was put in this session, and each row that waits is one of them or settled
 pub record AreUploadable (ids : List (List ℕ)) (d : SiteNow) : Type 0 where

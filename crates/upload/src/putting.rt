@@ -1,10 +1,10 @@
 ghost use Rattle.std.specs.Prelude.{◌≡◌, IfOk, false};
 ghost use Rattle.item_text.specs.Grammar.{written};
 ghost use Rattle.local_store.specs.Rows.{item_of};
-ghost use Rattle.session.specs.Doing.{Ends, EndsIn};
+ghost use Rattle.session.specs.Doing.{Ends, EndsGiving};
 ghost use Rattle.session.specs.Work.{IsAtWork};
 ghost use Rattle.session.specs.declared.finding.Finding.TheVariants.{Same};
-ghost use Rattle.upload.specs.Found.{IsFound, IsSeen};
+ghost use Rattle.upload.specs.Found.{IsFoundForRow, IsSeen};
 ghost use Rattle.upload.specs.Uploading.{EndsUpload, Puts, PutsBytes, PutsTextOf, is_new_resource, is_upload};
 
 use crate::loading::put_bytes;
@@ -40,7 +40,7 @@ fn put_if_new<W: Session>(alloc: Global, s: &mut W, row: &Row) -> Result<(), Ste
 /// Puts the text of a row's item over a file that is as the client left it, and gives the text back.
 fn put_text<W: Session>(alloc: Global, s: &mut W, row: &Row) -> Result<Bytes, StepErr>
     requires ready { IsAtWork (W.now s.old) }
-    requires found { IsFound row.now Same (W.now s.old).site }
+    requires found { IsFoundForRow row.now Same (W.now s.old).site }
     requires readable { (W.now s.old).site.tables.info.e2ee.value ≡ false }
 
     ensures ends { Ends (PutsTextOf row.now) is_upload (W.now s.old) result (W.now s.new) }

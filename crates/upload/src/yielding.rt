@@ -3,7 +3,7 @@ ghost use Rattle.session.specs.Doing.{Ends};
 ghost use Rattle.session.specs.Parts.{Then};
 ghost use Rattle.session.specs.Work.{IsAtWork};
 ghost use Rattle.session.specs.declared.finding.Finding.TheVariants.{Missing};
-ghost use Rattle.upload.specs.Found.{IsFound, MayYield};
+ghost use Rattle.upload.specs.Found.{IsFoundForRow, MayYield};
 ghost use Rattle.upload.specs.Uploading.{Clears, Yields, is_upload};
 
 use crate::moving::clear;
@@ -31,7 +31,7 @@ pub(crate) fn give_way<W: Session>(
 /// Lets a row go whose file is gone, and before it the notes in it, if it is a folder.
 pub(crate) fn let_go<W: Session>(alloc: Global, s: &mut W, row: &Row) -> Result<(), StepErr>
     requires ready { IsAtWork (W.now s.old) }
-    requires found { IsFound row.now Missing (W.now s.old).site }
+    requires found { IsFoundForRow row.now Missing (W.now s.old).site }
 
     ensures ends { Ends (Then (Clears row.now) (Yields row.now None)) is_upload (W.now s.old) result
         (W.now s.new) }

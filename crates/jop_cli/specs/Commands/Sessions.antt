@@ -34,7 +34,7 @@ IsUncalled trail = All IsChange trail
 -- ---- whose session it is
 
 -- one session of this kind, for the client that the words name, or else for that of the tables
-pub record Session : Type 0 where
+pub record NamedSession : Type 0 where
   pub kind : LockKind
   pub client : Option (List ℕ)
 

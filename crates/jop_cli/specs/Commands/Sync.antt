@@ -3,7 +3,7 @@
 use Rattle.std.specs.Prelude.{ℕ, List, [], ◌∷◌, ◌++◌, length, codes, Result, Ok, Err}
 use Rattle.std.specs.Fmt.{decimal}
 use Rattle.std.specs.List.{flat_map}
-use Rattle.client.specs.Outside.{AreKept, OutsideNow}
+use Rattle.client.specs.Outside.{AreKeptTables, OutsideNow}
 use Rattle.conflicts.specs.declared.report.SyncReport.{SyncReport}
 use Rattle.jop_cli.specs.Commands.Sessions.{OwnRuns}
 use Rattle.jop_cli.specs.Worlds.{RanSync}
@@ -17,7 +17,7 @@ use Rattle.sync_session.specs.declared.sync_err.SyncErr.TheVariants as sync_erro
 -- a session was added, from the tables that are kept
 abbrev pub SyncsKept : List ℕ → OutsideNow → Result SyncReport SyncErr → OutsideNow → Type 0
 SyncsKept client before result after =
-    (t : Tables) × AreKept before.keeper t × RanSync client t before result after
+    (t : Tables) × AreKeptTables before.keeper t × RanSync client t before result after
 
 -- ---- what is printed
 

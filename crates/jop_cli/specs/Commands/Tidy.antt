@@ -80,9 +80,9 @@ pub record EmitsTidied (bytes : List ℕ) (old : OutsideNow) (status : Status) (
   pub emits : EmitsTo (bytes_outcome text) old status new
 
 -- a text, or its failing print, stands for what was read; a refusal for itself
-abbrev pub StandsFor : Result (List ℕ) TidyErr → Status → Type 0
-StandsFor (Ok text) status = (status ≡ statuses.Ok) ⊎ (status ≡ statuses.SinkFault)
-StandsFor (Err error) status = status ≡ tidy_status error
+abbrev pub HasTidyStatus : Result (List ℕ) TidyErr → Status → Type 0
+HasTidyStatus (Ok text) status = (status ≡ statuses.Ok) ⊎ (status ≡ statuses.SinkFault)
+HasTidyStatus (Err error) status = status ≡ tidy_status error
 
 -- the input is tidied, and nothing else was used
 pub record Tidies (old : OutsideNow) (outcome : Outcome) (new : OutsideNow) : Type 0 where

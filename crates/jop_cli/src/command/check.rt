@@ -1,5 +1,5 @@
 ghost use Rattle.std.specs.Prelude.{◌≡◌, Some};
-ghost use Rattle.jop_cli.specs.Run.{Acts, IsFresh};
+ghost use Rattle.jop_cli.specs.Run.{Acts, IsFreshOutside};
 ghost use Rattle.jop_words.specs.declared.target_name.TargetName.{TargetName};
 ghost use Rattle.jop_words.specs.declared.verb.Verb.TheVariants.{Check};
 
@@ -13,7 +13,7 @@ const FREE_LINE: &str = "free\n";
 
 /// Takes a sync lock on the target for the client, releases it, and prints that it was free.
 pub(crate) fn obey<W: World>(alloc: Global, world: &mut W, client: &ClientId) -> Status
-    requires { IsFresh (W.now world.old) }
+    requires { IsFreshOutside (W.now world.old) }
     ensures acts { (name : TargetName) → Acts (Some (Check name client.now))
         (W.now world.old) result (W.now world.new) }
     ensures stays { W.place world.new ≡ W.place world.old }

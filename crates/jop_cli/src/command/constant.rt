@@ -1,6 +1,6 @@
 ghost use Rattle.std.specs.Prelude.{◌≡◌, Some};
 ghost use Rattle.jop_cli.specs.Commands.Constants.{constant_of};
-ghost use Rattle.jop_cli.specs.Run.{Acts, IsFresh};
+ghost use Rattle.jop_cli.specs.Run.{Acts, IsFreshOutside};
 ghost use Rattle.jop_words.specs.declared.verb.Verb.{Verb};
 
 use crate::world::World;
@@ -8,7 +8,7 @@ use jop_status::{Piece, Status};
 
 /// Prints a text, and does nothing else: what every command does that has this constant.
 pub(crate) fn obey<W: World>(world: &mut W, text: &str) -> Status
-    requires { IsFresh (W.now world.old) }
+    requires { IsFreshOutside (W.now world.old) }
     ensures acts { (verb : Verb) → constant_of verb ≡ Some text.now → Acts (Some verb)
         (W.now world.old) result (W.now world.new) }
     ensures stays { W.place world.new ≡ W.place world.old }

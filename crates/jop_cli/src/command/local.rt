@@ -1,5 +1,5 @@
 ghost use Rattle.std.specs.Prelude.{◌≡◌, Some};
-ghost use Rattle.jop_cli.specs.Run.{Acts, IsFresh};
+ghost use Rattle.jop_cli.specs.Run.{Acts, IsFreshOutside};
 ghost use Rattle.jop_words.specs.declared.verb.Verb.TheVariants as verbs;
 ghost use Rattle.local_commands.specs.Plans.{IsWellFormed};
 
@@ -11,7 +11,7 @@ use std::alloc::Global;
 /// Does a command on the tables, and prints what it tells.
 pub(crate) fn obey<W: World>(alloc: Global, world: &mut W, command: LocalCommand) -> Status
     requires fit { IsWellFormed command }
-    requires fresh { IsFresh (W.now world.old) }
+    requires fresh { IsFreshOutside (W.now world.old) }
     ensures acts { Acts (Some (verbs.Local command)) (W.now world.old) result (W.now world.new) }
     ensures stays { W.place world.new ≡ W.place world.old }
 {

@@ -1,6 +1,6 @@
 ghost use Rattle.std.specs.Prelude.{◌≡◌, Some};
 ghost use Rattle.jop_cli.specs.Commands.Tidy.{EmitsTidied, TIDY_LIMIT};
-ghost use Rattle.jop_cli.specs.Run.{Acts, IsFresh};
+ghost use Rattle.jop_cli.specs.Run.{Acts, IsFreshOutside};
 ghost use Rattle.jop_words.specs.declared.verb.Verb.TheVariants as verbs;
 
 use crate::world::World;
@@ -72,7 +72,7 @@ impl From<TidyErr> for Status {
 /// Reads the text of an item from the input and prints its canonical text, with nothing added. `Fault`
 /// and `TooLarge` come before `Bad`.
 pub(crate) fn obey<W: World>(alloc: Global, world: &mut W) -> Status
-    requires { IsFresh (W.now world.old) }
+    requires { IsFreshOutside (W.now world.old) }
     ensures acts { Acts (Some verbs.Tidy) (W.now world.old) result (W.now world.new) }
     ensures stays { W.place world.new ≡ W.place world.old }
 {

@@ -1,5 +1,5 @@
 ghost use Rattle.std.specs.Prelude.{◌≡◌, ◌++◌, OnOk, Ok, codes};
-ghost use Rattle.local_changes.specs.Lookup.{has_value};
+ghost use Rattle.item_text.specs.Props.{has_value};
 ghost use Rattle.local_commands.specs.Commands.Ls.{is_listed, label, line_if_listed, listing};
 ghost use Rattle.local_commands.specs.Commands.Ls.{row_line};
 ghost use Rattle.local_commands.specs.Running.{only_text};
@@ -56,7 +56,7 @@ fn is_listed(row: &Row, book: &Option<Id>) -> bool
 
 /// Whether the item says that it is in this notebook.
 fn is_in(item: &Item, book: &Id) -> bool
-    ensures { result ≡ has_value (codes "parent_id") book.now item.now }
+    ensures { result ≡ has_value (codes "parent_id") book.now item.now.props }
 {
     match prop(item, b"parent_id") {
         Some(own) => own.as_slice() == book.as_str().as_bytes(),

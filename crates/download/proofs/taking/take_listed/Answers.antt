@@ -1,7 +1,7 @@
 use Rattle.std.proofs.Common.{arith, subst, sym}
 use Rattle.std.proofs.lemmas.List.Elements.{All-get_or}
 use Rattle.std.proofs.lemmas.Result.{err_from_is_err_and}
-use Rattle.download.specs.Asked.{AsksFor}
+use Rattle.download.specs.Asked.{PageAsksFor}
 use Rattle.download.specs.Taking.{TakesOne, is_taking}
 use Rattle.session.proofs.Ending.{does_nothing, gives_up_behind}
 use Rattle.session.proofs.Repeating.{does_all, does_here}
@@ -29,8 +29,8 @@ loop-index-preserved g c =
           does_here TakesOne is_taking ids i id _ _ _ (omega arith) c.index-ids-index.is
           (c.loop-index.invariant.does known asks)
           (c.in_ok-take_one.ensures.ends known
-          (subst (AsksFor known) (sym c.index-ids-index.is)
-          (All-get_or (AsksFor known) ids i id (omega arith) asks)));
+          (subst (PageAsksFor known) (sym c.index-ids-index.is)
+          (All-get_or (PageAsksFor known) ids i id (omega arith) asks)));
     }
 
 pub returns-in_err-take_one : goal.returns-in_err-take_one
@@ -39,8 +39,8 @@ returns-in_err-take_one g c = record {
       let p = err_from_is_err_and c.from_residual.result c.from_residual.ensures.1 in
       rw (p.1, p.2) (gives_up_behind _ _ _ _ _ _ (c.loop-index.invariant.does known asks)
       (c.in_err-take_one.ensures.ends known
-      (subst (AsksFor known) (sym c.index-ids-index.is)
-      (All-get_or (AsksFor known) c.args.ids.now c.loop-index.index c.index-ids-index.result
+      (subst (PageAsksFor known) (sym c.index-ids-index.is)
+      (All-get_or (PageAsksFor known) c.args.ids.now c.loop-index.index c.index-ids-index.result
       (omega arith) asks))));
 }
 

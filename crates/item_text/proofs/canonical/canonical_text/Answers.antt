@@ -2,7 +2,7 @@ use Rattle.std.proofs.Common.{◌∙◌}
 use Rattle.std.proofs.lemmas.Result.{err_from_is_err_and}
 use Rattle.item_text.specs.declared.item.Item.{Item}
 use Rattle.item_text.specs.Lines.{lines}
-use Rattle.item_text.specs.Grammar.{item_of}
+use Rattle.item_text.specs.Grammar.{item_of_lines}
 use Rattle.item_text.specs.Steps.{lines_of}
 use Rattle.item_text.proofs.Answered.{fault_text, length_block, fault_type, reads_parts}
 use Rattle.item_text.proofs.Parted.{item_in-reads}
@@ -33,7 +33,7 @@ returns c =
     let block = c.in_ok-above.block in
     let good = fault_type text above block _ c.utf8.text c.in_ok-above.ensures
     c.type_refusal.ensures ∙ c.in_default.is in
-    let item : Item = item_of (lines_of above) (lines_of block) in
+    let item : Item = item_of_lines (lines_of above) (lines_of block) in
     record {
       item = item;
       is_read = item_in-reads text item

@@ -1,8 +1,8 @@
 use Rattle.std.proofs.Common.{◌∙◌}
 use Rattle.std.proofs.lemmas.Result.{err_from_is_err_and}
-use Rattle.item_text.specs.Answers.{Answers}
+use Rattle.item_text.specs.Answers.{ReadsOrRefuses}
 use Rattle.item_text.specs.Lines.{lines}
-use Rattle.item_text.specs.Grammar.{item_of}
+use Rattle.item_text.specs.Grammar.{item_of_lines}
 use Rattle.item_text.specs.declared.item.Item.{Item}
 use Rattle.item_text.proofs.Answered.{length_block, fault_type, answered_bad, answered_ok}
 use Rattle.item_text.proofs.read.read_text.Goals as goal
@@ -18,7 +18,7 @@ type_refusal-requires c =
     (lines c.args.text.now) c.in_ok-above.above c.in_ok-above.block c.in_ok-above.ensures
 
 pub returns-in-Some : goal.returns-in-Some
-unfolding Answers
+unfolding ReadsOrRefuses
 returns-in-Some c =
     fault_type c.args.text.now c.in_ok-above.above c.in_ok-above.block _ c.utf8.text
     c.in_ok-above.ensures
@@ -26,7 +26,7 @@ returns-in-Some c =
     ∙ c.in-Some.is
 
 pub returns : goal.returns
-unfolding item_of
+unfolding item_of_lines
 returns c =
     let text = c.args.text.now in
     let above = c.in_ok-above.above in

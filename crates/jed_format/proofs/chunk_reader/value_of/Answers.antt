@@ -3,10 +3,10 @@ use Rattle.std.proofs.lemmas.Bool.{cases_Bool, iff_false}
 use Rattle.std.proofs.lemmas.Str.{is_utf8-from_IsUtf8, IsUtf8-from_is_utf8}
 use Rattle.std.specs.Str.{IsUtf8, is_utf8}
 use Rattle.serde_json.specs.Read.{read}
-use Rattle.jed_format.specs.Chunk.{value_of}
+use Rattle.jed_format.specs.Chunk.{json_value}
 use Rattle.jed_format.proofs.chunk_reader.value_of.Goals as goal
 
-no_value : (text : List ℕ) → (IsUtf8 text → read text ≡ None) → None ≡ value_of text
+no_value : (text : List ℕ) → (IsUtf8 text → read text ≡ None) → None ≡ json_value text
 no_value text refused = elim (cases_Bool (is_utf8 text)) [
   | inl holds ↦ rw holds (sym (refused (IsUtf8-from_is_utf8 text holds)))
   | inr fails ↦ rw fails

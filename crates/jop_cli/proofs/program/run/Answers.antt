@@ -3,7 +3,7 @@ use Rattle.client.specs.Outside.{OutsidePlace}
 use Rattle.jop_cli.proofs.Local.{unsaved_of}
 use Rattle.jop_cli.proofs.Runs.{does_as, does_of}
 use Rattle.jop_cli.proofs.Tidied.{exact_of}
-use Rattle.jop_cli.specs.Run.{IsFresh}
+use Rattle.jop_cli.specs.Run.{IsFreshOutside}
 use Rattle.jop_cli.proofs.program.run.Goals as goal
 
 pub answer-status-requires : goal.answer-status-requires
@@ -14,7 +14,7 @@ answer-status-requires g c =
 pub returns-clause-does : goal.returns-clause-does
 returns-clause-does g c =
     let acts = c.answer-status.ensures.acts in
-    let fresh : IsFresh _ =
+    let fresh : IsFreshOutside _ =
     record { unwritten = c.requires.unwritten; unchanged = c.requires.unchanged } in
     let does = does_of _ _ _ _ (exact_of _ _ _ _ acts.answers)
     (unsaved_of _ _ _ _ fresh acts.answers) c.notes_are_kept_by_tables.ensures.joined acts in

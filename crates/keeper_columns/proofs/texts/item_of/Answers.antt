@@ -1,13 +1,13 @@
 use Rattle.std.proofs.Common.{◌≡◌, List, ℕ, Some, Err}
-use Rattle.item_text.specs.Answers.{Answers}
+use Rattle.item_text.specs.Answers.{ReadsOrRefuses}
 use Rattle.item_text.specs.Grammar.{first_fault}
 use Rattle.item_text.specs.declared.bad_item.BadItem.{BadItem}
 use Rattle.item_text.specs.declared.bad_item.ItemErr.TheVariants as errors
 use Rattle.keeper_columns.proofs.texts.item_of.Goals as goal
 
-refused_for : (bytes : List ℕ) (bad : BadItem) → Answers bytes (Err (errors.Bad bad))
+refused_for : (bytes : List ℕ) (bad : BadItem) → ReadsOrRefuses bytes (Err (errors.Bad bad))
     → first_fault bytes ≡ Some bad
-unfolding Answers
+unfolding ReadsOrRefuses
 refused_for bytes bad is = is
 
 pub returns-in-Err-Bad-clause-bad : goal.returns-in-Err-Bad-clause-bad

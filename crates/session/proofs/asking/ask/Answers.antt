@@ -2,7 +2,7 @@ use Rattle.std.specs.Prelude.{Ok, Err}
 use Rattle.std.proofs.Common.{subst}
 use Rattle.lease.specs.declared.error.LeaseErr.{LeaseErr}
 use Rattle.session.proofs.Asked.{asks_at, has_asked, works_at}
-use Rattle.session.specs.Asking.{Asks, step_of_lease}
+use Rattle.session.specs.Asking.{AsksUnderLease, step_of_lease}
 use Rattle.session.proofs.asking.ask.Goals as goal
 
 pub returns-in-Ok-clause-asks : goal.returns-in-Ok-clause-asks
@@ -22,7 +22,8 @@ returns-in-Err-Lost-clause-asks g c =
     let old = g.S.Client.site c.args.site.now in
     let new = g.S.Client.site c.call_held.new.line in
     subst (λ (e : LeaseErr).
-    Asks c.args.call old c.args.lease.now (Err (step_of_lease e)) new c.call_held.new.lease
+    AsksUnderLease c.args.call old c.args.lease.now
+    (Err (step_of_lease e)) new c.call_held.new.lease
     c.call_held.new.blob)
     c.in-Err-Lost.field-0-is
     (asks_at old new _ _ _ _ _ _ _ _ (g.met.S.Client.same_line _) (g.met.S.Client.same_line _)
@@ -34,7 +35,8 @@ returns-in-Err-TargetFault-clause-asks g c =
     let old = g.S.Client.site c.args.site.now in
     let new = g.S.Client.site c.call_held.new.line in
     subst (λ (e : LeaseErr).
-    Asks c.args.call old c.args.lease.now (Err (step_of_lease e)) new c.call_held.new.lease
+    AsksUnderLease c.args.call old c.args.lease.now
+    (Err (step_of_lease e)) new c.call_held.new.lease
     c.call_held.new.blob)
     c.in-Err-TargetFault.field-0-is
     (asks_at old new _ _ _ _ _ _ _ _ (g.met.S.Client.same_line _) (g.met.S.Client.same_line _)
@@ -46,7 +48,8 @@ returns-in-Err-NoMemory-clause-asks g c =
     let old = g.S.Client.site c.args.site.now in
     let new = g.S.Client.site c.call_held.new.line in
     subst (λ (e : LeaseErr).
-    Asks c.args.call old c.args.lease.now (Err (step_of_lease e)) new c.call_held.new.lease
+    AsksUnderLease c.args.call old c.args.lease.now
+    (Err (step_of_lease e)) new c.call_held.new.lease
     c.call_held.new.blob)
     c.in-Err-NoMemory.field-0-is
     (asks_at old new _ _ _ _ _ _ _ _ (g.met.S.Client.same_line _) (g.met.S.Client.same_line _)

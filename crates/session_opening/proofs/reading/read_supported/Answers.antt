@@ -7,7 +7,7 @@ use Rattle.session_opening.proofs.Gets.{absent_refuses, absent_stops, takes, tol
 use Rattle.session_opening.specs.Opening.{RefusesTarget, is_reading}
 use Rattle.session.proofs.Refusing.{not_refused}
 use Rattle.session.specs.Asking.{IsAnswer}
-use Rattle.target_upgrade.specs.Reading.{Gives}
+use Rattle.target_upgrade.specs.Reading.{GivesInfo}
 use Rattle.session_opening.proofs.reading.read_supported.Goals as goal
 
 pub last-requires : goal.last-requires
@@ -60,6 +60,6 @@ returns-in-Some g c = record {
   reads = let h = c.in_ok-ask.ensures.ends is_reading refl in
       let tells = rw c.in-Some.is at c.in_ok-info.ensures in
       takes c.in-Some.info c.supported.result _ _ h c.requires.sync tells.0
-      (subst (Gives c.in-Some.info) (c.last.ensures (Get InfoFile) h.reply h.ends) tells.1)
+      (subst (GivesInfo c.in-Some.info) (c.last.ensures (Get InfoFile) h.reply h.ends) tells.1)
       c.supported.ensures;
 }

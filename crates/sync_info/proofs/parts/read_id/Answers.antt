@@ -1,5 +1,5 @@
 use Rattle.std.proofs.Common.{ap, ◌∙◌, Some}
-use Rattle.sync_info.specs.Info.{is_id}
+use Rattle.jop_base.specs.Id.{is_id}
 use Rattle.sync_info.specs.Read.{option_filter}
 use Rattle.sync_info.proofs.IdLemmas.{option_filter-is_id}
 use Rattle.sync_info.proofs.parts.read_id.Goals as goal

@@ -1,7 +1,7 @@
 use Rattle.std.proofs.Common.{◌≡◌, ◌∙◌, ap, subst, Some}
 use Rattle.jop_base.specs.declared.path.Path.TheVariants.{Blob}
 use Rattle.jop_target.specs.declared.call.Call.TheVariants.{GetBlob}
-use Rattle.jop_target.specs.Memory.{IsSound}
+use Rattle.jop_target.specs.Memory.{IsSoundStore}
 use Rattle.jop_target.specs.Store.{BLOB_LIMIT, got_blob, file_at, limit_of}
 use Rattle.jop_target.proofs.SoundStore.{got_blob_fits, got_blob_kept, other_kept}
 use Rattle.jop_target.proofs.mem_store.MemStore.get_blob.Goals as goal
@@ -17,7 +17,7 @@ returns-clause-blob c =
     let now = c.args.now in
     let contents = c.args.self.now in
     let reply = c.got_blob-reply.result in
-    let sound : IsSound contents = subst IsSound c.self.view_is c.self.invariant in
+    let sound : IsSoundStore contents = subst IsSoundStore c.self.view_is c.self.invariant in
     let got = ap (got_blob now BLOB_LIMIT) c.at.ensures in
     let asked : reply ≡ got_blob now (limit_of (Blob id)) (file_at contents.tree.files (Blob id)) =
     rw (← c.self.view_is) (c.got_blob-reply.ensures ∙ got) in
