@@ -26,14 +26,14 @@ use Rattle.law_licences.specs.Deeds.{deeds_of}
 use Rattle.law_licences.specs.Licences.{ObeysData}
 use Rattle.law_licences.specs.Views.{at_rest}
 use Rattle.local_commands.proofs.Leaving.{drawn_fault, follows, given_fault, unsaved}
-use Rattle.local_commands.proofs.Rows.{follows_changes, makes_licensed}
-use Rattle.local_commands.specs.Following.{MayBeLate, saves_bytes}
+use Rattle.local_commands.proofs.UserActs.{follows_changes, makes_licensed}
+use Rattle.local_commands.specs.Following.{MayBeLate}
 use Rattle.local_commands.specs.Keeping.{AreNoted, changes_among, kept_after_all, trail_of}
-use Rattle.local_commands.specs.Plans.{plan_of}
+use Rattle.local_commands.specs.Commands.{plan_of}
 use Rattle.local_commands.specs.Running.{Runs}
 use Rattle.local_commands.specs.Sparing.{Spares}
 use Rattle.local_commands.specs.declared.act.Act.TheVariants.{MakeChange}
-use Rattle.local_commands.specs.declared.local_command.LocalCommand.{LocalCommand}
+use Rattle.local_commands.specs.declared.command.LocalCommand.{LocalCommand}
 use Rattle.local_commands.specs.declared.local_err.LocalErr.{LocalErr}
 use Rattle.local_commands.specs.declared.local_err.LocalErr.TheVariants.{KeeperFault, SourceFault, ClockFault, EntropyFault, NotFound, Sealed, TimeEnd, NotEmpty, NoConflict, TooLarge, NotText, NoMemory}
 use Rattle.local_store.specs.Changing.{after_all}
@@ -147,9 +147,9 @@ keeps_changes before after made changes is kept =
 
 keeps : (command : LocalCommand) (before after : OutsideNow) (answer : Result (List ℕ) LocalErr) →
     IsFreshOutside before → Runs (plan_of command) before answer after →
-    KeepsChanges (saves_bytes command) before.keeper after.made after.keeper
-keeps command before after answer fresh runs = by (saves_bytes command) refl where
-  by : (b : Bool) → saves_bytes command ≡ b → KeepsChanges b before.keeper after.made after.keeper
+    KeepsChanges (plan_of command).bytes before.keeper after.made after.keeper
+keeps command before after answer fresh runs = by (plan_of command).bytes refl where
+  by : (b : Bool) → (plan_of command).bytes ≡ b → KeepsChanges b before.keeper after.made after.keeper
   by true saves =
       let is = follows (plan_of command) before after answer runs in
       record {
@@ -158,7 +158,7 @@ keeps command before after answer fresh runs = by (saves_bytes command) refl whe
         kept = is.done.kept;
       }
   by false saves =
-      let is = follows_changes command before after answer runs saves in
+      let is = follows_changes (plan_of command) before after answer runs saves in
       let all = all_noted (changes_among (map MakeChange is.made)) before after fresh is.done.noted in
       keeps_changes before.keeper after.keeper after.made is.made (all.made ∙ only_changes is.made)
       is.done.kept
@@ -168,7 +168,7 @@ keeps command before after answer fresh runs = by (saves_bytes command) refl whe
 licensed : (command : LocalCommand) (before after : OutsideNow) (answer : Result (List ℕ) LocalErr) →
     IsFreshOutside before → Runs (plan_of command) before answer after → HasLicences before after
 licensed command before after answer fresh runs = λ k told.
-    let is = makes_licensed command before after answer runs in
+    let is = makes_licensed (plan_of command) before after answer runs in
     let all = all_noted is.changes before after fresh is.noted in
     subst (λ (t : List Event). ObeysData (at_rest k.tables) (deeds_of t after.made)) (sym all.trail)
     (subst (λ (cs : List Change). ObeysData (at_rest k.tables) (deeds_of (trail_of 0 is.changes) cs))

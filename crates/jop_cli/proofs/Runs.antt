@@ -33,7 +33,7 @@ use Rattle.law_licences.specs.Licences.{Each, ObeysData}
 use Rattle.law_licences.specs.Views.{at_rest}
 use Rattle.local_commands.specs.Keeping.{kept_after_all}
 use Rattle.local_commands.specs.Sparing.{SparesClock, SparesInput, SparesRandom}
-use Rattle.local_commands.specs.declared.local_command.LocalCommand.{LocalCommand}
+use Rattle.local_commands.specs.declared.command.LocalCommand.{LocalCommand}
 use Rattle.local_store.specs.Changing.{after_all}
 use Rattle.local_store.specs.declared.change.Change.{Change}
 use Rattle.local_store.specs.declared.tables.Tables.{Tables}

@@ -29,7 +29,7 @@ use Rattle.lease.specs.declared.lock.Lock.{Lock}
 use Rattle.law_licences.specs.Trails.{session_calls}
 use Rattle.law_licences.specs.Pages.{emptied_by}
 use Rattle.law_licences.specs.Views.{Heard, shown_to}
-use Rattle.local_commands.specs.declared.local_command.LocalCommand.{LocalCommand}
+use Rattle.local_commands.specs.declared.command.LocalCommand.{LocalCommand}
 use Rattle.local_commands.specs.declared.local_err.LocalErr.{LocalErr}
 use Rattle.local_commands.specs.declared.local_err.LocalErr.TheVariants.{NotFound, Sealed, TimeEnd, TooLarge, NoConflict, NotEmpty, NotText}
 use Rattle.keeper.specs.Keepers.{IsOfKept, KeeperNow}
@@ -40,7 +40,7 @@ use Rattle.sync_session.specs.Keys.{IsActiveKey, needs_key}
 use Rattle.target_upgrade.specs.Reading.{GivesInfo, IsBadReply}
 use Rattle.target_upgrade.specs.Steps.{SUPPORTED}
 use Rattle.jop_cli.specs.Commands.{used}
-use Rattle.local_commands.specs.Plans.{plan_of}
+use Rattle.local_commands.specs.Commands.{plan_of}
 use Rattle.local_commands.specs.Running.{Runs}
 use Rattle.jop_cli.specs.Commands.Sessions.{IsClientOf, IsUncalled, NamedSession}
 use Rattle.jop_cli.specs.Commands.Tidy.{IsFaulty}

@@ -11,10 +11,9 @@ use Rattle.std.specs.Prelude.{Option, Some, None, option_map}
 use Rattle.jop_status.specs.Outcomes.{Outcome}
 use Rattle.jop_base.specs.declared.lock_name.LockKind.{LockKind}
 use Rattle.jop_base.specs.declared.lock_name.LockKind.TheVariants as kinds
-use Rattle.local_commands.specs.Following.{saves_bytes}
-use Rattle.local_commands.specs.Plans.{plan_of}
+use Rattle.local_commands.specs.Commands.{plan_of}
 use Rattle.local_commands.specs.Sparing.{draws_ids, intake_limit}
-use Rattle.local_commands.specs.declared.local_command.LocalCommand.{LocalCommand}
+use Rattle.local_commands.specs.declared.command.LocalCommand.{LocalCommand}
 use Rattle.jop_words.specs.Verbs.{uses_tables}
 use Rattle.jop_words.specs.declared.verb.Verb.{Verb}
 use Rattle.jop_words.specs.declared.verb.Verb.TheVariants as verbs
@@ -55,7 +54,7 @@ uses_locally command = record {
   input = option_map intake_limit (plan_of command).intake;
   session = None;
   tables = uses_tables (verbs.Local command);
-  bytes = saves_bytes command;
+  bytes = (plan_of command).bytes;
   clock = (plan_of command).clock;
   random = draws_ids (plan_of command).draws;
 }

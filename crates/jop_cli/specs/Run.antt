@@ -17,7 +17,7 @@ use Rattle.law_licences.specs.Views.{at_rest}
 use Rattle.local_commands.specs.Keeping.{changes_among, kept_after_all, trail_of}
 use Rattle.local_commands.specs.declared.act.Act.{Act}
 use Rattle.local_commands.specs.Sparing.{SparesClock, SparesInput, SparesRandom}
-use Rattle.local_commands.specs.declared.local_command.LocalCommand.{LocalCommand}
+use Rattle.local_commands.specs.declared.command.LocalCommand.{LocalCommand}
 use Rattle.local_store.specs.Changing.{after_all}
 use Rattle.keeper.specs.Keepers.{KeeperNow, Kept}
 use Rattle.local_store.specs.declared.change.Change.{Change}

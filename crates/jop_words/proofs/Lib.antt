@@ -1,2 +1,2 @@
-mod Fit
 mod Ids
+mod Lines

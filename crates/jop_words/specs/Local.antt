@@ -3,8 +3,8 @@ use Rattle.std.specs.Prelude.{ℕ, List, [], ◌∷◌, length, codes, bytes_eq,
 use Rattle.std.specs.Prelude.{Option, Some, None, option_map}
 use Rattle.jop_base.specs.Decimals.{decimal_in}
 use Rattle.item_text.specs.Lines.{has, trimmed}
-use Rattle.local_commands.specs.declared.local_command.LocalCommand.{LocalCommand}
-use Rattle.local_commands.specs.declared.local_command.LocalCommand.TheVariants.{Add, Attach, Cat, Clear, Conflicts, Edit, Ls, Mkbook, Rm, Tag}
+use Rattle.local_commands.specs.declared.command.LocalCommand.{LocalCommand}
+use Rattle.local_commands.specs.declared.command.LocalCommand.TheVariants.{Add, Attach, Cat, Clear, Conflicts, Edit, Ls, Mkbook, Rm, Tag}
 use Rattle.jop_words.specs.Words.{word_id}
 
 -- ---- single words

@@ -1,7 +1,7 @@
 -- What words say to do: a row for each command.
 use Rattle.std.specs.Prelude.{ℕ, List, [], ◌∷◌, codes, bytes_eq, Bool, true, false, if◌then◌else◌}
 use Rattle.std.specs.Prelude.{Option, Some, None, option_map}
-use Rattle.local_commands.specs.Plans.{IsWellFormed}
+use Rattle.local_commands.specs.Commands.{IsWellFormed}
 use Rattle.jop_words.specs.Local.{local_words}
 use Rattle.jop_words.specs.Words.{word_id, word_target}
 use Rattle.jop_words.specs.declared.target_name.TargetName.{TargetName}

@@ -1,11 +1,13 @@
-ghost use Rattle.std.specs.Prelude.{◌≡◌, ◌∷◌, [], IfOk};
-ghost use Rattle.item_text.specs.Lines.{has};
+ghost use Rattle.std.specs.Prelude.{◌≡◌, ◌∷◌, [], IfOk, IfSome};
+ghost use Rattle.item_kinds.specs.Made.{IsLine};
+ghost use Rattle.item_text.specs.Lines.{has, trimmed};
 ghost use Rattle.jop_words.specs.Local.{add_words, attach_words, both, cat_words};
 ghost use Rattle.jop_words.specs.Local.{conflicts_words, count_in, edit_to, edit_words};
 ghost use Rattle.jop_words.specs.Local.{in_parent, is_line, line_in, local_words, ls_words};
 ghost use Rattle.jop_words.specs.Local.{mime_in, mkbook_words, rm_words, tag_words};
 ghost use Rattle.jop_words.specs.Words.{word_id};
-ghost use Rattle.local_commands.specs.declared.local_command.LocalCommand.TheVariants as commands;
+ghost use Rattle.local_commands.specs.Commands.{IsWellFormed};
+ghost use Rattle.local_commands.specs.declared.command.LocalCommand.TheVariants as commands;
 
 use crate::words::read_id;
 use item_text::trimmed;
@@ -19,7 +21,8 @@ pub(crate) fn read(
     word: &Text,
     words: &[Text],
 ) -> Result<Option<LocalCommand>, AllocError>
-    ensures { IfOk result (λ command. command ≡ local_words word.now words.now) }
+    ensures means { IfOk result (λ command. command ≡ local_words word.now words.now) }
+    ensures fit { IfOk result (λ command. IfSome command IsWellFormed) }
 {
     match word.as_str() {
         "add" => read_add(alloc, words),
@@ -50,8 +53,10 @@ fn is_line(word: &Text) -> bool
 }
 
 /// A title or a name.
+#[tactic(auto, using(crate::proofs::Lines::line_of))]
 fn read_line(alloc: Global, word: &Text) -> Result<Option<Text>, AllocError>
-    ensures { IfOk result (λ line. line ≡ line_in word.now) }
+    ensures means { IfOk result (λ line. line ≡ line_in word.now) }
+    ensures fit { IfOk result (λ line. IfSome line IsLine) }
 {
     if !is_line(word) {
         return Ok(None);
@@ -61,8 +66,11 @@ fn read_line(alloc: Global, word: &Text) -> Result<Option<Text>, AllocError>
 }
 
 /// A type of content.
+#[tactic(auto, using(crate::proofs::Lines::line_of))]
 fn read_mime(alloc: Global, word: &Text) -> Result<Option<Text>, AllocError>
-    ensures { IfOk result (λ mime. mime ≡ mime_in word.now) }
+    ensures means { IfOk result (λ mime. mime ≡ mime_in word.now) }
+    ensures line { IfOk result (λ mime. IfSome mime IsLine) }
+    ensures trimmed { IfOk result (λ mime. IfSome mime (λ mime. trimmed mime ≡ mime)) }
 {
     if !is_line(word) || trimmed(word.as_str()) != word.as_str() {
         return Ok(None);
@@ -85,7 +93,8 @@ fn read_count(word: &Text) -> Option<u64>
 // ---- the words of each command
 
 fn read_add(alloc: Global, words: &[Text]) -> Result<Option<LocalCommand>, AllocError>
-    ensures { IfOk result (λ command. command ≡ add_words words.now) }
+    ensures means { IfOk result (λ command. command ≡ add_words words.now) }
+    ensures fit { IfOk result (λ command. IfSome command IsWellFormed) }
 {
     match words {
         [book, title] => read_add_to(alloc, book, title),
@@ -94,8 +103,9 @@ fn read_add(alloc: Global, words: &[Text]) -> Result<Option<LocalCommand>, Alloc
 }
 
 fn read_add_to(alloc: Global, book: &Text, title: &Text) -> Result<Option<LocalCommand>, AllocError>
-    ensures { IfOk result
+    ensures means { IfOk result
         (λ command. command ≡ both commands.Add (word_id book.now) (line_in title.now)) }
+    ensures fit { IfOk result (λ command. IfSome command IsWellFormed) }
 {
     let Some(book) = read_id(book) else {
         return Ok(None);
@@ -107,7 +117,8 @@ fn read_add_to(alloc: Global, book: &Text, title: &Text) -> Result<Option<LocalC
 }
 
 fn read_attach(alloc: Global, words: &[Text]) -> Result<Option<LocalCommand>, AllocError>
-    ensures { IfOk result (λ command. command ≡ attach_words words.now) }
+    ensures means { IfOk result (λ command. command ≡ attach_words words.now) }
+    ensures fit { IfOk result (λ command. IfSome command IsWellFormed) }
 {
     match words {
         [name, mime] => read_attach_as(alloc, name, mime),
@@ -120,8 +131,9 @@ fn read_attach_as(
     name: &Text,
     mime: &Text,
 ) -> Result<Option<LocalCommand>, AllocError>
-    ensures { IfOk result
+    ensures means { IfOk result
         (λ command. command ≡ both commands.Attach (line_in name.now) (mime_in mime.now)) }
+    ensures fit { IfOk result (λ command. IfSome command IsWellFormed) }
 {
     let Some(name) = read_line(alloc, name)? else {
         return Ok(None);
@@ -133,7 +145,8 @@ fn read_attach_as(
 }
 
 fn read_cat(words: &[Text]) -> Option<LocalCommand>
-    ensures { result ≡ cat_words words.now }
+    ensures means { result ≡ cat_words words.now }
+    ensures fit { IfSome result IsWellFormed }
 {
     match words {
         [id] => Some(LocalCommand::Cat { id: read_id(id)? }),
@@ -142,7 +155,8 @@ fn read_cat(words: &[Text]) -> Option<LocalCommand>
 }
 
 fn read_conflicts(words: &[Text]) -> Option<LocalCommand>
-    ensures { result ≡ conflicts_words words.now }
+    ensures means { result ≡ conflicts_words words.now }
+    ensures fit { IfSome result IsWellFormed }
 {
     match words {
         [] => Some(LocalCommand::Conflicts),
@@ -154,7 +168,8 @@ fn read_conflicts(words: &[Text]) -> Option<LocalCommand>
 }
 
 fn read_edit(alloc: Global, words: &[Text]) -> Result<Option<LocalCommand>, AllocError>
-    ensures { IfOk result (λ command. command ≡ edit_words words.now) }
+    ensures means { IfOk result (λ command. command ≡ edit_words words.now) }
+    ensures fit { IfOk result (λ command. IfSome command IsWellFormed) }
 {
     match words {
         [id] => Ok(read_edit_body(id)),
@@ -164,7 +179,8 @@ fn read_edit(alloc: Global, words: &[Text]) -> Result<Option<LocalCommand>, Allo
 }
 
 fn read_edit_body(id: &Text) -> Option<LocalCommand>
-    ensures { result ≡ edit_words (id.now ∷ []) }
+    ensures means { result ≡ edit_words (id.now ∷ []) }
+    ensures fit { IfSome result IsWellFormed }
 {
     Some(LocalCommand::Edit {
         id: read_id(id)?,
@@ -173,8 +189,9 @@ fn read_edit_body(id: &Text) -> Option<LocalCommand>
 }
 
 fn read_edit_to(alloc: Global, id: &Text, title: &Text) -> Result<Option<LocalCommand>, AllocError>
-    ensures { IfOk result
+    ensures means { IfOk result
         (λ command. command ≡ both edit_to (word_id id.now) (line_in title.now)) }
+    ensures fit { IfOk result (λ command. IfSome command IsWellFormed) }
 {
     let Some(id) = read_id(id) else {
         return Ok(None);
@@ -189,7 +206,8 @@ fn read_edit_to(alloc: Global, id: &Text, title: &Text) -> Result<Option<LocalCo
 }
 
 fn read_ls(words: &[Text]) -> Option<LocalCommand>
-    ensures { result ≡ ls_words words.now }
+    ensures means { result ≡ ls_words words.now }
+    ensures fit { IfSome result IsWellFormed }
 {
     match words {
         [] => Some(LocalCommand::Ls { book: None }),
@@ -201,7 +219,8 @@ fn read_ls(words: &[Text]) -> Option<LocalCommand>
 }
 
 fn read_mkbook(alloc: Global, words: &[Text]) -> Result<Option<LocalCommand>, AllocError>
-    ensures { IfOk result (λ command. command ≡ mkbook_words words.now) }
+    ensures means { IfOk result (λ command. command ≡ mkbook_words words.now) }
+    ensures fit { IfOk result (λ command. IfSome command IsWellFormed) }
 {
     match words {
         [title] => read_mkbook_top(alloc, title),
@@ -213,7 +232,8 @@ fn read_mkbook(alloc: Global, words: &[Text]) -> Result<Option<LocalCommand>, Al
 }
 
 fn read_mkbook_top(alloc: Global, title: &Text) -> Result<Option<LocalCommand>, AllocError>
-    ensures { IfOk result (λ command. command ≡ mkbook_words (title.now ∷ [])) }
+    ensures means { IfOk result (λ command. command ≡ mkbook_words (title.now ∷ [])) }
+    ensures fit { IfOk result (λ command. IfSome command IsWellFormed) }
 {
     let Some(title) = read_line(alloc, title)? else {
         return Ok(None);
@@ -229,8 +249,9 @@ fn read_mkbook_in(
     title: &Text,
     parent: &Text,
 ) -> Result<Option<LocalCommand>, AllocError>
-    ensures { IfOk result
+    ensures means { IfOk result
         (λ command. command ≡ both in_parent (line_in title.now) (word_id parent.now)) }
+    ensures fit { IfOk result (λ command. IfSome command IsWellFormed) }
 {
     let Some(title) = read_line(alloc, title)? else {
         return Ok(None);
@@ -245,7 +266,8 @@ fn read_mkbook_in(
 }
 
 fn read_rm(words: &[Text]) -> Option<LocalCommand>
-    ensures { result ≡ rm_words words.now }
+    ensures means { result ≡ rm_words words.now }
+    ensures fit { IfSome result IsWellFormed }
 {
     match words {
         [id] => Some(LocalCommand::Rm { id: read_id(id)? }),
@@ -254,7 +276,8 @@ fn read_rm(words: &[Text]) -> Option<LocalCommand>
 }
 
 fn read_tag(alloc: Global, words: &[Text]) -> Result<Option<LocalCommand>, AllocError>
-    ensures { IfOk result (λ command. command ≡ tag_words words.now) }
+    ensures means { IfOk result (λ command. command ≡ tag_words words.now) }
+    ensures fit { IfOk result (λ command. IfSome command IsWellFormed) }
 {
     match words {
         [note, title] => read_tag_with(alloc, note, title),
@@ -267,8 +290,9 @@ fn read_tag_with(
     note: &Text,
     title: &Text,
 ) -> Result<Option<LocalCommand>, AllocError>
-    ensures { IfOk result
+    ensures means { IfOk result
         (λ command. command ≡ both commands.Tag (word_id note.now) (line_in title.now)) }
+    ensures fit { IfOk result (λ command. IfSome command IsWellFormed) }
 {
     let Some(note) = read_id(note) else {
         return Ok(None);

@@ -2,5 +2,6 @@ pub mod Edits
 pub mod InARow
 pub mod Leaving
 pub mod Plain
-pub mod Rows
 pub mod Sparing
+pub mod Tags
+pub mod UserActs

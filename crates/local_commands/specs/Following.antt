@@ -1,14 +1,13 @@
 -- What a run leaves, whatever it answers.
-use Rattle.std.specs.Prelude.{ℕ, ◌≡◌, ◌⊎◌, List, map, Bool, true, false, Result, Ok, Err, IsOk}
+use Rattle.std.specs.Prelude.{ℕ, ◌≡◌, ◌⊎◌, List, map, Result, Ok, Err, IsOk}
 use Rattle.client.specs.Outside.{OutsideNow}
 use Rattle.local_store.specs.declared.change.Change.{Change}
 use Rattle.local_commands.specs.Keeping.{AreDone}
-use Rattle.local_commands.specs.Plans.{plan_of}
+use Rattle.local_commands.specs.Commands.{plan_of}
 use Rattle.local_commands.specs.Running.{Plan, Runs}
 use Rattle.local_commands.specs.declared.act.Act.{Act}
 use Rattle.local_commands.specs.declared.act.Act.TheVariants.{MakeChange}
-use Rattle.local_commands.specs.declared.local_command.LocalCommand.{LocalCommand}
-use Rattle.local_commands.specs.declared.local_command.LocalCommand.TheVariants.{Attach}
+use Rattle.local_commands.specs.declared.command.LocalCommand.{LocalCommand}
 use Rattle.local_commands.specs.declared.local_err.LocalErr.{LocalErr}
 use Rattle.local_commands.specs.declared.local_err.LocalErr.TheVariants.{KeeperFault, NoMemory}
 
@@ -21,11 +20,6 @@ pub record Follows (old new : OutsideNow) : Type 0 where
 pub record FollowsChanges (old new : OutsideNow) : Type 0 where
   pub made : List Change
   pub done : AreDone (map MakeChange made) old new
-
--- whether a command saves the bytes of a resource
-abbrev pub saves_bytes : LocalCommand → Bool
-saves_bytes (Attach name mime) = true
-saves_bytes command = false
 
 -- a refusal that may come when something has been saved: the keeper's, and out of memory
 abbrev pub MayBeLate : LocalErr → Type 0

@@ -1,5 +1,5 @@
 -- What acts do to what is kept, and what is written down of them.
-use Rattle.std.specs.Prelude.{ℕ, ◌+◌, ◌≡◌, List, [], ◌∷◌, ◌++◌, length, Result, Ok, Err, option_map}
+use Rattle.std.specs.Prelude.{ℕ, ◌+◌, ◌≡◌, List, [], ◌∷◌, ◌++◌, length, Bool, true, Result, Ok, Err, option_map}
 use Rattle.client.specs.Outside.{OutsideNow}
 use Rattle.jop_outside.specs.Outside.{HasRisen}
 use Rattle.jop_target.specs.declared.event.Event.{Event}
@@ -7,6 +7,7 @@ use Rattle.jop_target.specs.declared.event.Event.TheVariants.{Made}
 use Rattle.keeper.specs.Keepers.{Kept, changed, with_saved_blob}
 use Rattle.keeper.specs.declared.keeper_err.KeeperErr.{KeeperErr}
 use Rattle.keeper.specs.declared.keeper_err.KeeperErr.TheVariants.{Fault, NoMemory}
+use Rattle.law_licences.specs.Licences.{IsLocal}
 use Rattle.local_store.specs.Sound.{IsAllowed}
 use Rattle.local_store.specs.declared.change.Change.{Change}
 use Rattle.local_commands.specs.declared.act.Act.{Act}
@@ -87,3 +88,9 @@ abbrev pub AreAllowed : List Act → Type 0
 AreAllowed [] = Unit {0}
 AreAllowed (SaveBlob blob ∷ acts) = AreAllowed acts
 AreAllowed (MakeChange change ∷ acts) = IsAllowed change × AreAllowed acts
+
+-- each change among acts is one of a user, and bytes of a resource are among them only if some may be
+abbrev pub AreLocal : Bool → List Act → Type 0
+AreLocal bytes [] = Unit {0}
+AreLocal bytes (SaveBlob blob ∷ acts) = (bytes ≡ true) × AreLocal bytes acts
+AreLocal bytes (MakeChange change ∷ acts) = IsLocal change × AreLocal bytes acts

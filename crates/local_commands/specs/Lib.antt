@@ -11,5 +11,4 @@ pub mod Books
 pub mod Lines
 pub mod Saving
 pub mod Commands
-pub mod Plans
 pub mod Licences

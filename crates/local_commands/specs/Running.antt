@@ -1,6 +1,6 @@
 -- What a run of a local command comes to. One order holds for all of them: the tables are read; they have to allow the
 -- command; the input is taken; the clock shows the time; ids are drawn; the acts are done; the text is printed.
-use Rattle.std.specs.Prelude.{ℕ, ◌≡◌, ◌⊎◌, List, [], ◌∷◌, Bool, true, false, Option, Some, None, Result, Ok, Err}
+use Rattle.std.specs.Prelude.{ℕ, ◌≡◌, ◌⊎◌, List, [], ◌∷◌, Bool, true, false, Option, Some, None, Result, Ok, Err, IfOk}
 use Rattle.client.specs.Outside.{AreKeptTables, HasKeeperFailed, OutsideNow}
 use Rattle.jop_outside.specs.Outside.{HasRisen, SourceNow}
 use Rattle.local_store.specs.declared.change.Change.{Change}
@@ -14,7 +14,7 @@ use Rattle.local_commands.specs.declared.local_err.LocalErr.{LocalErr}
 use Rattle.local_commands.specs.declared.local_err.LocalErr.TheVariants.{KeeperFault, SourceFault, ClockFault, EntropyFault, NotFound, Sealed, TimeEnd, NotEmpty, NoConflict, TooLarge, NotText, NoMemory}
 use Rattle.local_commands.specs.declared.work.Work.{Work}
 use Rattle.local_commands.specs.Drawing.{DrawsIds, FailsToDraw}
-use Rattle.local_commands.specs.Keeping.{AreDone, DoesSome}
+use Rattle.local_commands.specs.Keeping.{AreDone, AreLocal, DoesSome}
 use Rattle.local_commands.specs.Taking.{Takes, FailsToGive, GivesTooMuch, GivesNoText, ShowsTime}
 
 -- ---- the command
@@ -27,17 +27,18 @@ only_text text = record { acts = []; text = text }
 abbrev pub one_change : Change → List ℕ → Work
 one_change change text = record { acts = MakeChange change ∷ []; text = text }
 
--- A command: what the tables have to allow, what it takes, and what it makes of tables, input, time
--- and ids.
+-- A command: what the tables have to allow, what it takes, whether it may save the bytes of a resource,
+-- and what it makes of tables, input, time and ids.
 pub record Plan : Type 1 where
   -- the tables refuse it with this word, or with none
   pub Checks : Tables → Option LocalErr → Type 0
   pub intake : Option Intake
   pub clock : Bool
   pub draws : Drawing
+  pub bytes : Bool
   pub Makes : Tables → List ℕ → ℕ → Ids → Result Work LocalErr → Type 0
 
--- a command that takes nothing but the tables
+-- a command that takes nothing but the tables, and saves no bytes
 abbrev pub of_tables : (Tables → Option LocalErr → Type 0)
     → (Tables → Result Work LocalErr → Type 0) → Plan
 of_tables Checks Makes = record {
@@ -45,6 +46,7 @@ of_tables Checks Makes = record {
   intake = None;
   clock = false;
   draws = NoId;
+  bytes = false;
   Makes = λ t input now ids made. Makes t made;
 }
 
@@ -74,7 +76,7 @@ pub record IsTimed (p : Plan) (old new : OutsideNow) (t : Tables) (input : List 
   pub fed : IsFed p old new t input
   pub shows : ShowsTime p.clock old.clock now new.clock
 
--- and the ids were drawn, and this is what is made of all that
+-- and the ids were drawn, and this is what is made of all that: acts of a user, if it isn't refused
 pub record IsMade (p : Plan) (old new : OutsideNow) (made : Result Work LocalErr) : Type 0 where
   pub tables : Tables
   pub input : List ℕ
@@ -83,6 +85,7 @@ pub record IsMade (p : Plan) (old new : OutsideNow) (made : Result Work LocalErr
   pub timed : IsTimed p old new tables input now
   pub draws : DrawsIds p.draws tables old.entropy ids new.entropy
   pub makes : p.Makes tables input now ids made
+  pub local : IfOk made (λ work. AreLocal p.bytes work.acts)
 
 -- ---- well
 

@@ -1,5 +1,5 @@
 -- What each stage of a run comes to.
-use Rattle.std.specs.Prelude.{ℕ, ◌≤◌, ◌≡◌, List, Bool, true, Option, Some, None, option_map, Result, Ok, Err}
+use Rattle.std.specs.Prelude.{ℕ, ◌≤◌, ◌≡◌, List, Bool, true, false, Option, Some, None, option_map, Result, Ok, Err}
 use Rattle.client.specs.Outside.{OutsideNow}
 use Rattle.jop_base.specs.Times.{last_time}
 use Rattle.jop_outside.specs.Clocks.{ClockNow}
@@ -17,7 +17,7 @@ use Rattle.local_commands.specs.declared.needs.Needs.{Needs}
 use Rattle.local_commands.specs.declared.supply.Supply.{Supply}
 use Rattle.local_commands.specs.declared.work.Work.{Work}
 use Rattle.local_commands.specs.Drawing.{AreDrawn, DrawsIds, FailsToDraw, IsNewId, IsSecondId}
-use Rattle.local_commands.specs.Keeping.{AreAllowed}
+use Rattle.local_commands.specs.Keeping.{AreAllowed, AreLocal}
 use Rattle.local_commands.specs.Running.{Plan, IsUnsaved, Runs}
 use Rattle.local_commands.specs.Sparing.{Spares, SparesClock, SparesInput, SparesRandom, draws_ids, intake_limit}
 use Rattle.local_commands.specs.Taking.{FailsToGive, GivesNoText, GivesTooMuch, IsTakenIn, ShowsTime, Takes}
@@ -135,13 +135,20 @@ pub record IsReadyFor (p : Plan) (t : Tables) (supply : Supply) : Type 0 where
   pub time : supply.now ≤ last_time
   pub drawn : AreDrawn p.draws supply.ids
 
--- what the making of a work comes to: only for its length is one refused, once the tables allow it
+-- What the making of a work comes to, in which bytes of a resource may be saved or not: acts of a user.
+-- Only for its length is one refused, once the tables allow it.
+abbrev pub MakesActsOr : Bool → (Result Work LocalErr → Type 0) → Result Work LocalErr → Type 0
+MakesActsOr bytes Makes (Ok work) =
+    Makes (Ok work) × AreAllowed work.acts × AreLocal bytes work.acts
+MakesActsOr bytes Makes (Err (TooLarge len)) = Makes (Err (TooLarge len))
+MakesActsOr bytes Makes (Err NoMemory) = Unit {0}
+MakesActsOr bytes Makes (Err refusal) = ⊥
+
+-- the same where none are saved
 abbrev pub MakesOr : (Result Work LocalErr → Type 0) → Result Work LocalErr → Type 0
-MakesOr Makes (Ok work) = Makes (Ok work) × AreAllowed work.acts
-MakesOr Makes (Err (TooLarge len)) = Makes (Err (TooLarge len))
-MakesOr Makes (Err NoMemory) = Unit {0}
-MakesOr Makes (Err refusal) = ⊥
+MakesOr Makes result = MakesActsOr false Makes result
 
 -- what a plan makes of its needs
 abbrev pub MakesWork : Plan → Tables → Supply → Result Work LocalErr → Type 0
-MakesWork p t supply result = MakesOr (p.Makes t supply.input supply.now supply.ids) result
+MakesWork p t supply result =
+    MakesActsOr p.bytes (p.Makes t supply.input supply.now supply.ids) result

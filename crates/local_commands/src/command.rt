@@ -1,3 +1,5 @@
+//! The commands: a variant for each, its room, and what it needs, asks of the tables and makes.
+
 pub(crate) mod add;
 pub(crate) mod attach;
 pub(crate) mod cat;
@@ -8,3 +10,111 @@ pub(crate) mod ls;
 pub(crate) mod mkbook;
 pub(crate) mod rm;
 pub(crate) mod tag;
+
+ghost use Rattle.std.specs.Prelude.{◌≡◌};
+ghost use Rattle.local_commands.specs.Commands.{IsWellFormed, plan_of};
+ghost use Rattle.local_commands.specs.Stages.{ChecksOr, IsReadyFor, MakesWork, needs_of};
+
+use crate::books::check_book;
+use crate::local_err::LocalErr;
+use crate::needs::{NOTHING, Needs};
+use crate::supply::Supply;
+use crate::work::Work;
+use jop_base::{Id, Text};
+use local_store::Tables;
+use std::alloc::Global;
+
+/// A command on this machine's own tables.
+#[derive(Debug, Drop)]
+pub enum LocalCommand {
+    /// Makes a note in a notebook; its body is the input.
+    Add { book: Id, title: Text },
+    /// Makes a resource of this name and type of content; its bytes are the input.
+    Attach { name: Text, mime: Text },
+    /// Prints the text of an item.
+    Cat { id: Id },
+    /// Takes out the conflict notes of this number.
+    Clear { number: u64 },
+    /// Lists the conflict notes.
+    Conflicts,
+    /// Gives a note another title, if one is given, and the input as its body.
+    Edit { id: Id, title: Option<Text> },
+    /// Lists the notebooks, or the notes of one.
+    Ls { book: Option<Id> },
+    /// Makes a notebook, at the top or in a parent.
+    Mkbook { title: Text, parent: Option<Id> },
+    /// Removes an item.
+    Rm { id: Id },
+    /// Gives a note the tag of a title.
+    Tag { note: Id, title: Text },
+}
+
+impl LocalCommand {
+    /// What it needs beside the tables.
+    pub(crate) fn needs(&self) -> Needs
+        ensures { result ≡ needs_of (plan_of self.now) }
+    {
+        match self {
+            LocalCommand::Add { .. } => add::NEEDS,
+            LocalCommand::Attach { .. } => attach::NEEDS,
+            LocalCommand::Cat { .. } => NOTHING,
+            LocalCommand::Clear { .. } => NOTHING,
+            LocalCommand::Conflicts => NOTHING,
+            LocalCommand::Edit { .. } => edit::NEEDS,
+            LocalCommand::Ls { .. } => NOTHING,
+            LocalCommand::Mkbook { .. } => mkbook::NEEDS,
+            LocalCommand::Rm { .. } => NOTHING,
+            LocalCommand::Tag { .. } => tag::NEEDS,
+        }
+    }
+
+    /// Refuses it where the tables don't allow it.
+    pub(crate) fn check(&self, tables: &Tables) -> Result<(), LocalErr>
+        ensures { ChecksOr ((plan_of self.now).Checks tables.now) result }
+    {
+        match self {
+            LocalCommand::Add { book, .. } => check_book(tables, &Some(*book)),
+            LocalCommand::Attach { .. } => Ok(()),
+            LocalCommand::Cat { id } => cat::check_item(tables, id),
+            LocalCommand::Clear { number } => clear::check_number(tables, *number),
+            LocalCommand::Conflicts => Ok(()),
+            LocalCommand::Edit { id, .. } => edit::check_note(tables, id),
+            LocalCommand::Ls { book } => check_book(tables, book),
+            LocalCommand::Mkbook { parent, .. } => check_book(tables, parent),
+            LocalCommand::Rm { id } => rm::check_removal(tables, id),
+            LocalCommand::Tag { note, .. } => tag::check_note(tables, note),
+        }
+    }
+
+    /// Makes what it is to do, and what it prints then, of the tables that allow it and of what it
+    /// needs beside them.
+    pub(crate) fn make(
+        self,
+        alloc: Global,
+        tables: &Tables,
+        supply: Supply,
+    ) -> Result<Work, LocalErr>
+        requires formed { IsWellFormed self }
+        requires ready { IsReadyFor (plan_of self) tables.now supply }
+        ensures { MakesWork (plan_of self) tables.now supply result }
+    {
+        match self {
+            LocalCommand::Add { book, title } => {
+                add::make_note(alloc, tables, book, title, supply)
+            }
+            LocalCommand::Attach { name, mime } => {
+                attach::make_resource(alloc, name, mime, supply)
+            }
+            LocalCommand::Cat { id } => cat::make_text(alloc, tables, &id),
+            LocalCommand::Clear { number } => clear::make_clear(alloc, number),
+            LocalCommand::Conflicts => conflicts::make_list(alloc, tables),
+            LocalCommand::Edit { id, title } => edit::make_edit(alloc, tables, id, title, supply),
+            LocalCommand::Ls { book } => ls::make_list(alloc, tables, &book),
+            LocalCommand::Mkbook { title, parent } => {
+                mkbook::make_book(alloc, tables, title, parent, supply)
+            }
+            LocalCommand::Rm { id } => rm::make_removal(alloc, tables, id),
+            LocalCommand::Tag { note, title } => tag::make_tag(alloc, tables, note, title, supply),
+        }
+    }
+}

@@ -5,9 +5,9 @@ ghost use Rattle.std.specs.Prelude.{◌≡◌, List, false};
 ghost use Rattle.client.specs.Outside.{OutsideNow};
 ghost use Rattle.keeper.specs.Keepers.{Kept};
 ghost use Rattle.local_store.specs.Changing.{after_all};
-ghost use Rattle.local_commands.specs.Plans.{plan_of};
+ghost use Rattle.local_commands.specs.Commands.{plan_of};
 ghost use Rattle.local_commands.specs.Following.{Follows, FollowsChanges, HasNoCause};
-ghost use Rattle.local_commands.specs.Following.{IsRefusedEarly, IsWellOrMemory, OfEachRun, saves_bytes};
+ghost use Rattle.local_commands.specs.Following.{IsRefusedEarly, IsWellOrMemory, OfEachRun};
 ghost use Rattle.local_commands.specs.Keeping.{AreDone, AreNoted, changes_among, kept_after_all};
 ghost use Rattle.local_commands.specs.Licences.{NotesLicensed};
 ghost use Rattle.local_commands.specs.Running.{IsUnsaved};
@@ -33,16 +33,16 @@ pub fn acts_note_their_changes()
         AreDone acts old new → AreNoted (changes_among acts) old new }
 {}
 
-/// But for `attach`, no command saves bytes of a resource: what is kept is what was kept, after the
+/// A command whose plan saves no bytes of a resource saves none: what is kept is what was kept, after the
 /// changes that are written down.
-#[tactic(auto, using(crate::proofs::Rows::follows_changes))]
-pub fn only_attach_saves_bytes()
+#[tactic(auto, using(crate::proofs::UserActs::follows_changes))]
+pub fn only_plans_with_bytes_save_some()
     ensures { OfEachRun (λ command old answer new.
-        saves_bytes command ≡ false → FollowsChanges old new) }
+        (plan_of command).bytes ≡ false → FollowsChanges old new) }
 {}
 
 /// Whatever a command answers, each change that it made has its licence.
-#[tactic(auto, using(crate::proofs::Rows::makes_licensed))]
+#[tactic(auto, using(crate::proofs::UserActs::makes_licensed))]
 pub fn commands_make_licensed_changes()
     ensures { OfEachRun (λ command old answer new. NotesLicensed old new) }
 {}

@@ -2,7 +2,7 @@
 //! the text that it prints.
 //!
 //! Begin with `specs/Running.antt`, which says what a run of any of them comes to, and with a command's
-//! own file in `specs/Commands/`. A command is pure: `src/planning.rt` has its row of what it needs, of
+//! own file in `specs/Commands/`. A command is pure: [`LocalCommand`] has its rows of what it needs, of
 //! what it asks of the tables and of what it makes, and [`obey`] alone touches the outside. Words,
 //! printing and exit statuses are the program's.
 #![tactic(auto)]
@@ -16,22 +16,20 @@ mod drawing;
 mod intake;
 mod laws;
 mod lines;
-mod local_command;
 mod local_err;
 mod needs;
 mod obeying;
-mod planning;
 mod supply;
 mod work;
 
 pub use act::Act;
+pub use command::LocalCommand;
 pub use command::attach::BLOB_LIMIT;
 pub use intake::BODY_LIMIT;
 pub use laws::{
     acts_change_tables_by_their_changes, acts_note_their_changes, commands_make_licensed_changes,
-    only_attach_saves_bytes, refusals_leave_all_as_it_was, runs_follow_their_acts,
+    only_plans_with_bytes_save_some, refusals_leave_all_as_it_was, runs_follow_their_acts,
     runs_without_a_cause_go_well,
 };
-pub use local_command::LocalCommand;
 pub use local_err::LocalErr;
 pub use obeying::obey;

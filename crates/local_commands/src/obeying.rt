@@ -1,11 +1,11 @@
 ghost use Rattle.std.specs.Prelude.{◌≡◌};
 ghost use Rattle.client.specs.Outside.{AreKeptTables};
-ghost use Rattle.local_commands.specs.Plans.{IsWellFormed, plan_of};
+ghost use Rattle.local_commands.specs.Commands.{IsWellFormed, plan_of};
 ghost use Rattle.local_commands.specs.Running.{Runs};
 ghost use Rattle.local_commands.specs.Sparing.{Spares};
 
 use crate::acting::do_all;
-use crate::local_command::LocalCommand;
+use crate::command::LocalCommand;
 use crate::local_err::LocalErr;
 use crate::supply::fetch_supply;
 use client::Outside;

@@ -1,12 +1,12 @@
 ghost use Rattle.std.specs.Prelude.{◌≡◌};
-ghost use Rattle.local_commands.specs.Plans.{plan_of};
+ghost use Rattle.local_commands.specs.Commands.{plan_of};
 ghost use Rattle.local_commands.specs.Running.{IsAllowedBy};
 ghost use Rattle.local_commands.specs.Stages.{Supplies};
 
 use crate::clock::look_at_clock;
+use crate::command::LocalCommand;
 use crate::drawing::{Ids, draw_ids};
 use crate::intake::take_input;
-use crate::local_command::LocalCommand;
 use crate::local_err::LocalErr;
 use client::Outside;
 use jop_base::Bytes;

@@ -3,10 +3,10 @@ use Rattle.std.specs.Prelude.{ℕ, ◌≡◌, List, Result, Ok, Err}
 use Rattle.client.specs.Outside.{OutsideNow}
 use Rattle.jop_status.specs.Outcomes.{Outcome}
 use Rattle.jop_status.specs.Refusals.{local_status}
-use Rattle.local_commands.specs.Plans.{plan_of}
+use Rattle.local_commands.specs.Commands.{plan_of}
 use Rattle.local_commands.specs.Running.{Runs}
 use Rattle.local_commands.specs.Sparing.{Spares}
-use Rattle.local_commands.specs.declared.local_command.LocalCommand.{LocalCommand}
+use Rattle.local_commands.specs.declared.command.LocalCommand.{LocalCommand}
 use Rattle.local_commands.specs.declared.local_err.LocalErr.{LocalErr}
 
 abbrev pub local_outcome : Result (List ℕ) LocalErr → Outcome

@@ -1,7 +1,7 @@
 ghost use Rattle.std.specs.Prelude.{◌≡◌, Some};
 ghost use Rattle.jop_cli.specs.Run.{Acts, IsFreshOutside};
 ghost use Rattle.jop_words.specs.declared.verb.Verb.TheVariants as verbs;
-ghost use Rattle.local_commands.specs.Plans.{IsWellFormed};
+ghost use Rattle.local_commands.specs.Commands.{IsWellFormed};
 
 use crate::world::World;
 use jop_status::{Piece, Status};

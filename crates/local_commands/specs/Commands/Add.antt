@@ -1,5 +1,5 @@
 -- `add`: a new note in a notebook.
-use Rattle.std.specs.Prelude.{ℕ, ◌≡◌, List, true, Some, Result}
+use Rattle.std.specs.Prelude.{ℕ, ◌≡◌, List, true, false, Some, Result}
 use Rattle.local_changes.specs.Makers.{new_note}
 use Rattle.local_store.specs.declared.tables.Tables.{Tables}
 use Rattle.local_commands.specs.Bodies.{body_intake}
@@ -25,5 +25,6 @@ add_plan book title = record {
   intake = Some body_intake;
   clock = true;
   draws = OneId;
+  bytes = false;
   Makes = λ t input now drawn made. MakesNote book title t input now drawn made;
 }

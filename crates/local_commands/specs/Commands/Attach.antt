@@ -40,5 +40,6 @@ attach_plan name mime = record {
   intake = Some blob_intake;
   clock = true;
   draws = OneId;
+  bytes = true;
   Makes = λ t input now drawn made. MakesResource name mime input now drawn made;
 }

@@ -1,5 +1,5 @@
 -- `edit`: another title and body for a note.
-use Rattle.std.specs.Prelude.{ℕ, ◌≡◌, List, [], true, nat_eq, if◌then◌else◌, Option, Some, None, Result, Ok, Err}
+use Rattle.std.specs.Prelude.{ℕ, ◌≡◌, List, [], true, false, nat_eq, if◌then◌else◌, Option, Some, None, Result, Ok, Err}
 use Rattle.item_kinds.specs.Kinds.{IsUpdated}
 use Rattle.item_text.specs.declared.item.Item.{Item}
 use Rattle.jop_base.specs.Times.{last_time}
@@ -39,5 +39,6 @@ edit_plan id title = record {
   intake = Some body_intake;
   clock = true;
   draws = NoId;
+  bytes = false;
   Makes = λ t input now ids made. MakesEdit id title input now (plain_note id (row_at t id)) made;
 }

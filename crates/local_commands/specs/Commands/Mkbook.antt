@@ -1,5 +1,5 @@
 -- `mkbook`: a new notebook, at the top or in another one.
-use Rattle.std.specs.Prelude.{ℕ, ◌≡◌, List, true, Option, None, Result}
+use Rattle.std.specs.Prelude.{ℕ, ◌≡◌, List, true, false, Option, None, Result}
 use Rattle.local_changes.specs.Makers.{new_book}
 use Rattle.local_store.specs.declared.tables.Tables.{Tables}
 use Rattle.local_commands.specs.Books.{ChecksBook}
@@ -25,5 +25,6 @@ mkbook_plan title parent = record {
   intake = None;
   clock = true;
   draws = OneId;
+  bytes = false;
   Makes = λ t input now drawn made. MakesBook title parent t now drawn made;
 }

@@ -1,5 +1,5 @@
 -- `tag`: a note bears a tag.
-use Rattle.std.specs.Prelude.{ℕ, ◌≡◌, List, [], true, map, if◌then◌else◌, Option, Some, None, Result, Ok, Err}
+use Rattle.std.specs.Prelude.{ℕ, ◌≡◌, List, [], true, false, map, if◌then◌else◌, Option, Some, None, Result, Ok, Err}
 use Rattle.local_changes.specs.Lookup.{is_row_of, note_kind}
 use Rattle.local_changes.specs.Tagging.{tagged}
 use Rattle.local_changes.specs.declared.store_err.StoreErr.{StoreErr}
@@ -44,5 +44,6 @@ tag_plan note title = record {
   intake = None;
   clock = true;
   draws = TwoIds;
+  bytes = false;
   Makes = λ t input now drawn made. MakesTag note title t now drawn made;
 }

@@ -1,10 +1,10 @@
-ghost use Rattle.std.specs.Prelude.{◌≡◌, ◌≤◌};
+ghost use Rattle.std.specs.Prelude.{◌≡◌, ◌≤◌, true};
 ghost use Rattle.item_kinds.specs.Made.{IsLine};
 ghost use Rattle.item_text.specs.Lines.{trimmed};
 ghost use Rattle.jop_base.specs.Times.{last_time};
 ghost use Rattle.local_commands.specs.Commands.Attach.{MakesResource};
 ghost use Rattle.local_commands.specs.Drawing.{AreDrawn};
-ghost use Rattle.local_commands.specs.Stages.{MakesOr};
+ghost use Rattle.local_commands.specs.Stages.{MakesActsOr};
 ghost use Rattle.local_commands.specs.declared.drawing.Drawing.TheVariants.{OneId};
 
 use crate::act::Act;
@@ -46,7 +46,8 @@ pub(crate) fn make_resource(
     requires trimmed { trimmed mime ≡ mime }
     requires drawn { AreDrawn OneId supply.ids }
     requires time { supply.now ≤ last_time }
-    ensures { MakesOr (MakesResource name mime supply.input supply.now supply.ids) result }
+    ensures { MakesActsOr true (MakesResource name mime supply.input supply.now supply.ids)
+        result }
 {
     let id = one_id(supply.ids);
     let len = supply.input.len() as u64;
