@@ -6,8 +6,8 @@ pub mod Local
 pub mod Sync
 pub mod Tidy
 pub mod Upgrade
-use Rattle.std.specs.Prelude.{ℕ, Bool, true, false}
-use Rattle.std.specs.Prelude.{Option, Some, None, option_map}
+use Rattle.std.specs.Prelude.{ℕ, ◌≡◌, List, Bool, true, false}
+use Rattle.std.specs.Prelude.{Option, Some, None, Ok, option_map}
 use Rattle.jop_status.specs.Outcomes.{Outcome}
 use Rattle.jop_base.specs.declared.lock_name.LockKind.{LockKind}
 use Rattle.jop_base.specs.declared.lock_name.LockKind.TheVariants as kinds
@@ -93,3 +93,8 @@ ComesTo (verbs.Local command) before outcome after = DoesLocally command before 
 ComesTo (verbs.Sync target) before outcome after = SyncsAsNamed before outcome after
 ComesTo (verbs.Upgrade target) before outcome after = UpgradesAsNamed before outcome after
 ComesTo verb before outcome after = PrintsConstant (constant_of verb) before outcome after
+
+-- it uses nothing, and this text is what comes of it
+pub record IsConstant (verb : Verb) (text : List ℕ) : Type 0 where
+  pub idle : uses verb ≡ nothing
+  pub comes : (o : OutsideNow) → ComesTo verb o (Ok text) o

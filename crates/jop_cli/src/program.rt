@@ -1,17 +1,16 @@
-ghost use Rattle.std.specs.Prelude.{◌≡◌, [], Some};
+ghost use Rattle.std.specs.Prelude.{◌≡◌, []};
 ghost use Rattle.jop_cli.specs.Run.{Acts, RunsAsPromised, IsFreshOutside};
 ghost use Rattle.jop_cli.specs.Worlds.{outside_of};
 ghost use Rattle.jop_status.specs.Reports.{Reports};
 ghost use Rattle.jop_words.specs.Commands.{meant};
-ghost use Rattle.jop_words.specs.Verbs.{IsFit};
 
-use crate::command::{check, constant, local, sync, tidy, upgrade};
+use crate::command::obey;
 use crate::world::World;
 use client::Around;
 use jop_outside::{Clock, Entropy, Sink, Source};
-use jop_status::{Status, USAGE_LINE, report};
+use jop_status::{Status, report};
 use jop_target::{Diary, Target};
-use jop_words::{Verb, Words, WordsErr, read_words};
+use jop_words::{Words, WordsErr, read_words};
 use keeper::Keeper;
 use law_kept::notes_are_kept_by_tables;
 use local_store::Changes;
@@ -67,22 +66,5 @@ fn answer<W: World>(alloc: Global, words: &Words, world: &mut W) -> Status
         Ok(command) => obey(alloc, world, command.verb),
         Err(WordsErr::Usage) => Status::Usage,
         Err(WordsErr::NoMemory) => Status::NoMemory,
-    }
-}
-
-/// Does what a command says: an arm for each.
-fn obey<W: World>(alloc: Global, world: &mut W, verb: Verb) -> Status
-    requires fit { IsFit verb }
-    requires fresh { IsFreshOutside (W.now world.old) }
-    ensures acts { Acts (Some verb) (W.now world.old) result (W.now world.new) }
-    ensures stays { W.place world.new ≡ W.place world.old }
-{
-    match verb {
-        Verb::Check { target: _, client } => check::obey(alloc, world, &client),
-        Verb::Help => constant::obey(world, USAGE_LINE),
-        Verb::Local(command) => local::obey(alloc, world, command),
-        Verb::Sync { target: _ } => sync::obey(alloc, world),
-        Verb::Tidy => tidy::obey(alloc, world),
-        Verb::Upgrade { target: _ } => upgrade::obey(alloc, world),
     }
 }

@@ -1,9 +1,7 @@
 ghost use Rattle.std.specs.Prelude.{◌≡◌, IfOk, Some};
 ghost use Rattle.jop_words.specs.Commands.{profile_at, profile_in, profile_words};
-ghost use Rattle.jop_words.specs.Verbs.{uses_tables};
 
 use crate::command::{Command, WordsErr, read_words};
-use crate::verb::Verb;
 use crate::words::Words;
 use jop_base::{Text, let_go};
 use std::alloc::{AllocError, Global};
@@ -33,22 +31,13 @@ fn profile_of(alloc: Global, command: Command) -> Result<Profile, AllocError>
     ensures { IfOk result (λ profile. profile ≡ profile_in (Some command)) }
 {
     let Command { profile, verb } = command;
-    let used = uses_tables(&verb);
+    let used = verb.uses_tables();
     let_go(verb);
     if used {
         profile_at(alloc, profile)
     } else {
         Ok(Profile::Memory)
     }
-}
-
-fn uses_tables(verb: &Verb) -> bool
-    ensures { result ≡ uses_tables verb.now }
-{
-    matches!(
-        verb,
-        Verb::Local(_) | Verb::Sync { target: _ } | Verb::Upgrade { target: _ }
-    )
 }
 
 /// The file of a path, or that of the default.

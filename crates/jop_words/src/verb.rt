@@ -1,6 +1,7 @@
 ghost use Rattle.std.specs.Prelude.{◌≡◌, IfOk, IfSome, option_map};
 ghost use Rattle.jop_words.specs.Local.{local_words};
 ghost use Rattle.jop_words.specs.Verbs.{IsFit, check_for, check_words, sync_of, sync_words};
+ghost use Rattle.jop_words.specs.Verbs.{target_in, uses_tables};
 ghost use Rattle.jop_words.specs.Verbs.{upgrade_of, upgrade_words, verb_alone, verb_of};
 ghost use Rattle.jop_words.specs.Words.{word_id, word_target};
 ghost use Rattle.jop_words.specs.declared.verb.Verb.TheVariants as verbs;
@@ -34,6 +35,30 @@ pub enum Verb {
     Upgrade {
         target: TargetName,
     },
+}
+
+impl Verb {
+    /// The target that it names.
+    pub(crate) fn target(self) -> Option<TargetName>
+        ensures { result ≡ target_in self }
+    {
+        match self {
+            Verb::Check { target, client: _ } => Some(target),
+            Verb::Sync { target } => Some(target),
+            Verb::Upgrade { target } => Some(target),
+            _ => None,
+        }
+    }
+
+    /// Whether it uses this machine's own tables.
+    pub(crate) fn uses_tables(&self) -> bool
+        ensures { result ≡ uses_tables self.now }
+    {
+        matches!(
+            self,
+            Verb::Local(_) | Verb::Sync { target: _ } | Verb::Upgrade { target: _ }
+        )
+    }
 }
 
 /// A row for each command: its first word, and who reads the others.
