@@ -182,6 +182,47 @@ calls_of_the_system() {
     /^[a-z]/ { count[$1]++; if (index($0, root) && $1 != "execve") begun = 1; if (begun) print $1, count[$1] }' trace
 }
 
+# sorts_of_calls WORDS..: those of them that are the first of their name at their place, ids aside, each with that place: the file, or
+# the name of one, that it is about. None of memory, and none that can't fail.
+sorts_of_calls() {
+  strace -y -o trace "$program" "$@" >out 2>err
+  awk -F '(' -v root="$root" '
+    /^[a-z]/ {
+      count[$1]++
+      if (index($0, root "/") && $1 != "execve") begun = 1
+      if (!begun || $1 ~ /^(exit|brk|mmap|munmap|mremap|clock_nanosleep|nanosleep)/) next
+      place = match($0, /"\/[^"]*"/) || match($0, /<\/[^>]*>/) ? substr($0, RSTART + 1, RLENGTH - 2) : "-"
+      gsub(/[0-9a-f]{32}/, "ID", place)
+      if (!(($1, place) in seen)) print $1, count[$1], place
+      seen[$1, place] = 1
+    }' trace
+}
+
+# fails_and_is_told CALL NTH PLACE ERROR WORDS..: so ends the program with these words if that call of the system fails: as a fault of
+# the target, of the tables, of the output or of the random source, as its place is, or, where nothing rests on the call, well.
+fails_and_is_told() {
+  local call=$1 nth=$2 place=$3 error=$4 status wanted
+  shift 4
+  strace -o /dev/null -e "inject=$call:error=$error:when=$nth" "$program" "$@" >out 2>err
+  status=$?
+  case $place in
+    "$root"*) wanted='9 target fault' ;;
+    *.sqlite*) wanted='10 keeper fault' ;;
+    */out) wanted='12 output fault' ;;
+    *) wanted='14 random source fault' ;;
+  esac
+  [ "$status" -eq 0 ] || is "$call $nth of $place with $error" "$wanted" "$status $(cat err)"
+  return "$status"
+}
+
+# The calls on which nothing rests: what they are for is done or told by another one, or the next run does it.
+is_harmless() {
+  case $1 in
+    close | flock | fcntl | fchown | geteuid | getpid | mkdir) return 0 ;;
+  esac
+  return 1
+}
+
 # ------------------------------------------------------------------------------------ a program that is killed, or has few rights
 
 # killed_after MICROSECONDS WORD..: whether the program with these words, killed so long after its start, was still running. What it

@@ -8,17 +8,29 @@ ghost use Rattle.target_files.specs.Reading.{IsWithin};
 
 use crate::files::{Reading, read};
 use crate::folders::{flush_folder, make_folder};
-use crate::listing::entries_in;
+use crate::listing::{entries_of, is_at_rest, names_in};
 use crate::lock_file::write_in_place;
-use crate::named::is_file;
-use crate::temporary::{moment_by, replace};
+use crate::moment::stamp_of;
+use crate::named::{is_file, is_link};
+use crate::temporary::{FileClock, Place, clock_by, moment_by, replace};
 use crate::trouble::{Trouble, found};
-use jop_base::{Dir, Id, Path, Seq, Text};
+use crate::turn::{TakesTurns, Turn, turn_at};
+use jop_base::{Dir, Id, MAX_TIME, Path, Seq, Text};
 use jop_target::{Listing, limit_of};
 use std::alloc::{AllocError, Global};
-use std::fs;
+use std::fs::{self, Metadata};
 use std::path::PathBuf;
-use std::rt::Files;
+use std::rt::{Clock, Files};
+use std::thread::sleep;
+use std::time::Duration;
+
+/// How often a folder is read at most that doesn't come to rest, and for how many milliseconds.
+const READINGS: usize = 10_000;
+
+const PATIENCE: u64 = 20_000;
+
+/// How many milliseconds are waited before it is read again.
+const PAUSE: u64 = 2;
 
 /// A folder of the system, and the id of the temporary file that is written there.
 #[derive(Drop)]
@@ -28,26 +40,74 @@ pub(crate) struct Folder<R> {
     pub temp: Id,
 }
 
-impl<R: Files + Alloc + Clone + Drop> Folder<R> {
-    /// The files of one of its folders.
+impl<R: Files + Clock + Alloc + Clone + Drop> Folder<R>
+where
+    R::File: TakesTurns,
+{
+    /// The files of one of its folders, read while it is at rest. A fault if it comes to none.
     pub fn list(&self, alloc: Global, dir: Dir) -> Result<Listing, Trouble>
         ensures { IfOk result (IsListing dir) }
     {
-        let now = self.moment(alloc)?;
-        let name = self.name_of(alloc, dir.as_str())?;
-        let entries = match entries_in(&self.rt, alloc, name.as_str(), dir)? {
-            Some(entries) => entries,
-            None if dir == Dir::Root => return Err(Trouble::Fault),
-            None => Seq::new(alloc),
+        let name = self.folder_name(alloc, dir)?;
+        let temp = self.temp_name(alloc)?;
+        let mut clock = clock_by(&self.rt, temp.as_str())?;
+        let listing = self.list_by(alloc, dir, name.as_str(), &mut clock);
+        fs::remove_file(&self.rt, &temp)?;
+        listing
+    }
+
+    /// Its files, by the clock of the file system.
+    fn list_by(
+        &self,
+        alloc: Global,
+        dir: Dir,
+        name: &str,
+        clock: &mut FileClock<R::File>,
+    ) -> Result<Listing, Trouble>
+        ensures { IfOk result (IsListing dir) }
+    {
+        let _turn = turn_at(&self.rt, name, Turn::Alone)?;
+        let end = stamp_of(&clock.tell()?).saturating_add(PATIENCE);
+        for _ in 0..READINGS {
+            let told = clock.tell()?;
+            if let Some(listing) = self.list_at(alloc, dir, name, &told)? {
+                return Ok(listing);
+            }
+            if end < stamp_of(&told) {
+                break;
+            }
+            sleep(&self.rt, Duration::from_millis(PAUSE));
+        }
+        Err(Trouble::Fault)
+    }
+
+    /// Its files at the moment that the clock told. None where it isn't at rest since then.
+    fn list_at(
+        &self,
+        alloc: Global,
+        dir: Dir,
+        name: &str,
+        told: &Metadata,
+    ) -> Result<Option<Listing>, Trouble>
+        ensures { IfOk result (λ listing. IfSome listing (IsListing dir)) }
+    {
+        let now = stamp_of(told);
+        let Some(names) = names_in(&self.rt, alloc, name)? else {
+            return Ok(Some(none_in(alloc, dir, now)?));
         };
-        Ok(Listing { now, entries })
+        if !is_at_rest(&self.rt, name, told)? {
+            return Ok(None);
+        }
+        let clock = Path::Temp(self.temp);
+        let entries = entries_of(alloc, &names, dir, latest_in(dir, now), &clock)?;
+        Ok(Some(Listing { now, entries }))
     }
 
     /// What a file holds.
     pub fn get(&self, alloc: Global, path: &Path) -> Result<Option<Reading>, Trouble>
         ensures { IfOk result (λ reading. IfSome reading (IsWithin (limit_of path.now))) }
     {
-        let name = self.name_of(alloc, path.text(alloc)?.as_str())?;
+        let name = self.file_name(alloc, path)?;
         read(&self.rt, alloc, name.as_str(), limit_of(path))
     }
 
@@ -65,17 +125,23 @@ impl<R: Files + Alloc + Clone + Drop> Folder<R> {
     fn write(&self, alloc: Global, path: &Path, content: &[u8]) -> Result<u64, Trouble>
         ensures { IfOk result (λ stamp. stamp ≤ MAX_TIME) }
     {
-        let name = self.name_of(alloc, path.text(alloc)?.as_str())?;
+        let name = self.file_name(alloc, path)?;
         if let Path::Lock(_) = path {
             return write_in_place(&self.rt, name.as_str(), content);
         }
         let temp = self.temp_name(alloc)?;
-        replace(&self.rt, temp.as_str(), name.as_str(), content)
+        let folder = self.folder_name(alloc, path.dir())?;
+        let place = Place {
+            temp: temp.as_str(),
+            name: name.as_str(),
+            folder: folder.as_str(),
+        };
+        replace(&self.rt, place, content)
     }
 
     /// Deletes a file, and flushes its folder. None where there is none.
     pub fn delete(&self, alloc: Global, path: &Path) -> Result<Option<()>, Trouble> {
-        let name = self.name_of(alloc, path.text(alloc)?.as_str())?;
+        let name = self.file_name(alloc, path)?;
         if !is_file(&self.rt, name.as_str())? {
             return Ok(None);
         }
@@ -85,11 +151,9 @@ impl<R: Files + Alloc + Clone + Drop> Folder<R> {
         }
     }
 
-    /// Flushes one of its folders. The slash at the end keeps the system from opening anything but a folder.
+    /// Flushes one of its folders.
     fn flush(&self, alloc: Global, dir: Dir) -> Result<(), Trouble> {
-        let mut name = self.name_of(alloc, dir.as_str())?;
-        name.push("")?;
-        flush_folder(&self.rt, name.as_str())
+        flush_folder(&self.rt, self.folder_name(alloc, dir)?.as_str())
     }
 
     /// Makes one of its folders, unless it is there. It makes no root.
@@ -97,7 +161,7 @@ impl<R: Files + Alloc + Clone + Drop> Folder<R> {
         if dir == Dir::Root {
             return Ok(());
         }
-        let name = self.name_of(alloc, dir.as_str())?;
+        let name = self.folder_name(alloc, dir)?;
         if make_folder(&self.rt, name.as_str())? {
             self.flush(alloc, Dir::Root)?;
         }
@@ -121,6 +185,23 @@ impl<R: Files + Alloc + Clone + Drop> Folder<R> {
         Ok(self.name_of(alloc, temp.as_str())?)
     }
 
+    /// The system's name of one of its folders. One below the root is a fault if it is a link, since that leads out of
+    /// the target. The slash at the end keeps the system from opening anything but a folder.
+    fn folder_name(&self, alloc: Global, dir: Dir) -> Result<PathBuf, Trouble> {
+        let mut name = self.name_of(alloc, dir.as_str())?;
+        if dir != Dir::Root && is_link(&self.rt, name.as_str())? {
+            return Err(Trouble::Fault);
+        }
+        name.push("")?;
+        Ok(name)
+    }
+
+    /// The system's name of a file, whose folder is no link.
+    fn file_name(&self, alloc: Global, path: &Path) -> Result<PathBuf, Trouble> {
+        self.folder_name(alloc, path.dir())?;
+        Ok(self.name_of(alloc, path.text(alloc)?.as_str())?)
+    }
+
     /// The system's name of what bears this name on the target.
     fn name_of(&self, alloc: Global, name: &str) -> Result<PathBuf, AllocError>
         ensures { IfOk result (λ whole. path_buf_bytes whole ≡ path_join self.now.root name.now) }
@@ -128,5 +209,31 @@ impl<R: Files + Alloc + Clone + Drop> Folder<R> {
         let mut whole = PathBuf::from_str(alloc, self.root.as_str())?;
         whole.push(name)?;
         Ok(whole)
+    }
+}
+
+/// That a folder which isn't there has no files. A root always is there.
+fn none_in(alloc: Global, dir: Dir, now: u64) -> Result<Listing, Trouble>
+    requires { now ≤ MAX_TIME }
+    ensures { IfOk result (IsListing dir) }
+{
+    if dir == Dir::Root {
+        return Err(Trouble::Fault);
+    }
+    Ok(Listing {
+        now,
+        entries: Seq::new(alloc),
+    })
+}
+
+/// The last time that a file of a folder has in a listing of this moment. An item that was written later is to be newer
+/// to whoever lists it again, and no item may hide the ones that come until its moment has come. A lock has its own time.
+fn latest_in(dir: Dir, now: u64) -> u64
+    requires { now ≤ MAX_TIME }
+    ensures { result ≤ MAX_TIME }
+{
+    match dir {
+        Dir::Root => now,
+        _ => MAX_TIME,
     }
 }

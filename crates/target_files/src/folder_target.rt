@@ -5,10 +5,11 @@ ghost use Rattle.target_files.specs.Outcome.{IsAnswerTo, LeavesBlob, Counts};
 use crate::files::Reading;
 use crate::folder::Folder;
 use crate::trouble::Trouble;
+use crate::turn::TakesTurns;
 use jop_base::{Bytes, Id, Path, Text};
 use jop_target::{Call, Reply, Target};
 use std::alloc::{AllocError, Global};
-use std::rt::Files;
+use std::rt::{Clock, Files};
 
 /// A target over a folder of the system, which other programs see too. It tells no store, since no clause can say what
 /// stands in a folder.
@@ -17,24 +18,35 @@ use std::rt::Files;
 /// be the moment from which others see it: a rename would show it late, with the time of its writing, and whoever
 /// removed it first would be without it for a moment. Any other file is written to `temp/<temp>.tmp` and renamed over
 /// its place, so it is whole or not there, also if the program is killed in the middle; it takes the rights of the file
-/// that it replaces, and not its owner. `temp`, and the folder of a file that is put, are made where they are missing.
-/// The root never is.
+/// that it replaces, and not its owner, nor bits that let it run as its owner. Then its last byte is written once more
+/// where it stands, so that it has the time of a moment at which others see it; an empty one keeps that of its making.
+/// `temp`, and the folder of a file that is put, are made where they are missing. The root never is.
+///
+/// **Listings.** A name that stands from the beginning of a listing to its end is in it. A reading of a folder may miss a
+/// file that is renamed over another one meanwhile, so it counts only if the folder wasn't changed from a moment before
+/// it until its end, by the clock of the file system. If it was, it is read again, for at least 20 seconds; a folder
+/// that comes to no rest then is a fault. Runs of this program don't disturb each other: a listing takes its turn at the
+/// folder alone, and a put shares one while it renames (`flock`). Whoever waits a second for a turn goes on without, and
+/// so does each where the system has none. No file in the root has a time past the moment that a listing tells: what was
+/// written later has that one, and so is newer to whoever lists it again.
 ///
 /// **Links.** A symbolic link is no file, wherever it leads: it isn't listed, a get and a delete find nothing there, a
 /// lock that is put there is a fault, and any other file that is put replaces the link. Nothing is written through one.
 /// The temporary file is made anew (`O_EXCL`), and what bears its name is removed first. A lock is written only if the
 /// file that was opened is the one that bore the name, and has that name alone: what has a second one (a hard link) is
 /// a fault. The standard library can't open a file without following a link, so a link that comes between the look and
-/// the opening is opened, seen to be another file, and closed again. Folders, and the root, may be links.
+/// the opening is opened, seen to be another file, and closed again. A folder below the root that is a link is a fault,
+/// since it leads out of the target, but for one that comes just when it was looked at. The root may be one.
 ///
 /// **If the machine stops.** A put flushes its file (fsync) before the rename, and its folder before its reply; a
 /// delete flushes its folder, and a folder that is made the root. So what was answered `Done` stays done. A file system
-/// that can't flush a folder, and says so, promises no more than it does. The empty file that tells the time isn't
-/// flushed, since nobody reads it.
+/// that can't flush a folder, and says so, promises no more than it does. A run that is killed, or a machine that stops,
+/// between the rename and the last byte leaves a file whose time is before the moment at which others see it. The empty
+/// file that tells the time isn't flushed, since nobody reads it.
 ///
 /// **Times** are those of the file system, in whole milliseconds since 1970, rounded down: 0 before 1970, and at most
-/// `MAX_TIME`. Each call but a put first makes the temporary file, takes its time as `now`, and removes it. The `now`
-/// of a put is the time of its own file: that of its writing, a little before a rename makes it appear.
+/// `MAX_TIME`. Each call but a put first makes the temporary file, takes its time as `now`, and removes it, a listing
+/// when it was read. The `now` of a put is the time of its own file.
 ///
 /// **What isn't there.** A missing file is `Absent`, a missing folder has no files, and `MakeDir` of a folder that is
 /// there is `Done`. A directory, a link, a pipe or a device is no file, whatever its name: no call opens one, a delete
@@ -58,7 +70,10 @@ pub struct FolderTarget<R> {
     pub faults: u64,
 }
 
-impl<R: Files + Alloc + Clone + Drop> FolderTarget<R> {
+impl<R: Files + Clock + Alloc + Clone + Drop> FolderTarget<R>
+where
+    R::File: TakesTurns,
+{
     /// A target over the folder `root`, whose temporary file has the id `temp`: no two targets over one folder may
     /// have the same. The folder isn't looked at yet.
     pub fn new(rt: R, root: Text, temp: Id) -> FolderTarget<R>
@@ -151,7 +166,10 @@ impl<R: Files + Alloc + Clone + Drop> FolderTarget<R> {
     }
 }
 
-impl<R: Files + Alloc + Clone + Drop> Target for FolderTarget<R> {
+impl<R: Files + Clock + Alloc + Clone + Drop> Target for FolderTarget<R>
+where
+    R::File: TakesTurns,
+{
     ghost state = { λ t. record { store = None; faults = t.faults } };
 
     fn call(&mut self, alloc: Global, call: &Call, blob: &mut Bytes) -> Result<Reply, AllocError> {

@@ -15,5 +15,7 @@ mod moment;
 mod named;
 mod temporary;
 mod trouble;
+mod turn;
 
 pub use folder_target::FolderTarget;
+pub use turn::{TakesTurns, Turn};

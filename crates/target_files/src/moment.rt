@@ -22,3 +22,9 @@ fn millis(secs: u64, nanos: u64) -> u64
         .saturating_add(nanos / 1_000_000)
         .min(MAX_TIME)
 }
+
+/// When the bytes, rights or names of a file, or the names in a folder, were last changed, in seconds since 1970, and
+/// nanoseconds. No program can set that.
+pub(crate) fn changed_at(metadata: &Metadata) -> (i64, i64) {
+    (metadata.ctime(), metadata.ctime_nsec())
+}

@@ -1,3 +1,4 @@
+use crate::moment::changed_at;
 use crate::trouble::{Trouble, found};
 use std::fs;
 use std::fs::{Metadata, OpenFile, OpenOptions};
@@ -72,15 +73,18 @@ pub(crate) fn is_unchanged<R: Files>(
     }
 }
 
-/// When a file's bytes, rights or names were last changed, in seconds since 1970, and nanoseconds.
-fn changed_at(metadata: &Metadata) -> (i64, i64) {
-    (metadata.ctime(), metadata.ctime_nsec())
-}
-
 /// Whether a file bears the name, and no link to one.
 pub(crate) fn is_file<R: Files>(rt: &R, name: &str) -> Result<bool, Trouble> {
     match found(fs::symlink_metadata(rt, name))? {
         Some(metadata) => Ok(metadata.is_file()),
+        None => Ok(false),
+    }
+}
+
+/// Whether a link bears the name.
+pub(crate) fn is_link<R: Files>(rt: &R, name: &str) -> Result<bool, Trouble> {
+    match found(fs::symlink_metadata(rt, name))? {
+        Some(metadata) => Ok(metadata.is_symlink()),
         None => Ok(false),
     }
 }

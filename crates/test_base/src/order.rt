@@ -6,6 +6,8 @@ use crate::step::{Name, Step, client};
 use jop_base::{Dir, Text};
 use std::alloc::Global;
 use std::test::Fail;
+use std::thread::sleep;
+use std::time::Duration;
 use std::{fs, io};
 use target_files::FolderTarget;
 
@@ -17,17 +19,25 @@ const AT_ONCE: Reads = Reads {
 };
 
 /// What each call asks of the system, in this order. Its moment is taken first, or, where it puts a file, when that was
-/// written. A file is flushed before it has its name, and then the folder.
+/// written last: a file is flushed before it has its name, then its last byte is written again, and the folder flushed.
 const ORDER: &str = "put an item
+look at /temp
+look past links at /temp/
 make /temp/11111111111111111111111111111111.tmp
 look at /22222222222222222222222222222222.md
 write
 flush
-its time
+open /
+share a turn
 rename to /22222222222222222222222222222222.md
+go back
+write
+its time
 open /
 flush
 get an item
+look at /temp
+look past links at /temp/
 make /temp/11111111111111111111111111111111.tmp
 its time
 remove /temp/11111111111111111111111111111111.tmp
@@ -36,12 +46,23 @@ open /22222222222222222222222222222222.md
 its time
 read
 list the root
+look at /temp
+look past links at /temp/
 make /temp/11111111111111111111111111111111.tmp
+open /
+take a turn alone
+write
 its time
-remove /temp/11111111111111111111111111111111.tmp
+write
+its time
 list /
+list /
+look past links at /
 look at /22222222222222222222222222222222.md
+remove /temp/11111111111111111111111111111111.tmp
 delete an item
+look at /temp
+look past links at /temp/
 make /temp/11111111111111111111111111111111.tmp
 its time
 remove /temp/11111111111111111111111111111111.tmp
@@ -50,15 +71,22 @@ remove /22222222222222222222222222222222.md
 open /
 flush
 put a lock
+look at /locks
+look past links at /locks/
+look at /locks
 look at /locks/1_3_11111111111111111111111111111111.json
 make /locks/1_3_11111111111111111111111111111111.json
 cut
 write
 flush
 its time
+look at /locks
 open /locks/
 flush
 put a lock again
+look at /locks
+look past links at /locks/
+look at /locks
 look at /locks/1_3_11111111111111111111111111111111.json
 open /locks/1_3_11111111111111111111111111111111.json
 its time
@@ -68,15 +96,27 @@ cut
 write
 flush
 its time
+look at /locks
 open /locks/
 flush
 put a blob
+look at /.resource
+look past links at /.resource/
+look at /.resource
+look at /temp
+look past links at /temp/
+look at /.resource
 make /temp/11111111111111111111111111111111.tmp
 look at /.resource/22222222222222222222222222222222
 write
 flush
-its time
+open /.resource/
+share a turn
 rename to /.resource/22222222222222222222222222222222
+go back
+write
+its time
+look at /.resource
 open /.resource/
 flush
 ";
@@ -91,13 +131,15 @@ const STEPS: [(&str, Step); 7] = [
     ("put a blob", Step::PutBlob("blob")),
 ];
 
-/// Takes each step, with its name in the log before what it asks.
+/// Takes each step, with its name in the log before what it asks. The clock of any file system goes on before each, so
+/// that a folder which is listed is at rest.
 fn take_steps<'a>(
     alloc: Global,
     spy: &Spy<'a>,
     target: &mut FolderTarget<Spy<'a>>,
 ) -> Result<(), Fail> {
     for (name, step) in STEPS.as_slice() {
+        sleep(spy.real, Duration::from_millis(20));
         spy.tell(name, "")?;
         ask(alloc, target, *step)?;
     }

@@ -25,6 +25,8 @@ pub(crate) enum Deed {
     MakeLink(&'static str),
     /// Nobody else may read or write it.
     Hide,
+    /// Everybody may run it, as its owner.
+    LetRun,
     RemoveFile,
     RemoveDir,
 }
@@ -35,7 +37,7 @@ pub(crate) enum Sight {
     Content,
     /// Whether something is there.
     Presence,
-    /// Who may read and write it, as `chmod` takes it.
+    /// Who may read, write and run it, and as whom, as `chmod` takes it.
     Rights,
 }
 
@@ -51,6 +53,7 @@ impl Deed {
             Deed::MakeDir => fs::create_dir(rt, path),
             Deed::MakeLink(to) => symlink(rt, to, path),
             Deed::Hide => fs::set_permissions(rt, path, Permissions::from_mode(0o600)),
+            Deed::LetRun => fs::set_permissions(rt, path, Permissions::from_mode(0o4755)),
             Deed::RemoveFile => fs::remove_file(rt, path),
             Deed::RemoveDir => fs::remove_dir(rt, path),
         }
@@ -73,7 +76,7 @@ fn presence(rt: &HostRuntime, path: &str) -> io::Result<String> {
 }
 
 fn rights(rt: &HostRuntime, path: &str) -> io::Result<String> {
-    let rights = fs::metadata(rt, path)?.mode() & 0o777;
+    let rights = fs::metadata(rt, path)?.mode() & 0o7777;
     Ok(format!(in rt.alloc(); "{rights:o}")?)
 }
 

@@ -178,3 +178,43 @@ const PRIVATE: Scene = Scene {
 fn a_file_takes_the_rights_of_the_one_that_it_replaces(rt: HostRuntime) -> Result<(), Fail> {
     PRIVATE.play(&rt)
 }
+
+/// The bit that lets a program run as its owner isn't taken.
+const OWNERS: Scene = Scene {
+    moves: &[
+        Move::Do(Deed::Write("theirs"), NOTE),
+        Move::Do(Deed::LetRun, NOTE),
+        Move::Ask(Step::Put(Name::Note, "hi")),
+        Move::See(Sight::Rights, NOTE),
+    ],
+    said: "done\n755\nfaults 0\n",
+};
+
+#[test]
+fn no_file_that_is_put_runs_as_its_owner(rt: HostRuntime) -> Result<(), Fail> {
+    OWNERS.play(&rt)
+}
+
+/// The folder of locks is a link to another folder of the target, and so is the one of temporary files at last.
+const LINKED_FOLDERS: Scene = Scene {
+    moves: &[
+        Move::Do(Deed::MakeDir, "/theirs"),
+        Move::Do(Deed::MakeLink("theirs"), "/locks"),
+        Move::Ask(Step::List(Dir::Locks)),
+        Move::Ask(Step::MakeDir(Dir::Locks)),
+        Move::Ask(Step::Put(Name::Lock, "{}")),
+        Move::Ask(Step::Get(Name::Lock)),
+        Move::Ask(Step::Delete(Name::Lock)),
+        Move::Ask(Step::Put(Name::Note, "hi")),
+        Move::Do(Deed::RemoveDir, "/temp"),
+        Move::Do(Deed::MakeLink("theirs"), "/temp"),
+        Move::Ask(Step::Get(Name::Note)),
+        Move::Do(Deed::RemoveDir, "/theirs"),
+    ],
+    said: "failed\nfailed\nfailed\nfailed\nfailed\ndone\nfailed\nfaults 6\n",
+};
+
+#[test]
+fn a_folder_that_is_a_link_is_a_fault(rt: HostRuntime) -> Result<(), Fail> {
+    LINKED_FOLDERS.play(&rt)
+}

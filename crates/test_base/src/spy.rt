@@ -2,7 +2,9 @@ use std::alloc::{Allocator, Global};
 use std::fs::{self, File, FileTimes, Metadata, OpenFile, OpenOptions, Permissions};
 use std::io;
 use std::io::{ErrorKind, Read, Seek, SeekFrom, Write};
-use std::rt::Files;
+use std::rt::{Clock, Files};
+use std::time::Duration;
+use target_files::{TakesTurns, Turn};
 
 /// How the files of a spy are read: so many bytes at once, so many in all. Then the file ends, or reading it fails.
 #[derive(Clone, Copy)]
@@ -40,6 +42,20 @@ impl Alloc for Spy<'_> {
     }
 }
 
+impl Clock for Spy<'_> {
+    fn monotonic(&self) -> io::Result<Duration> {
+        self.real.monotonic()
+    }
+
+    fn since_1970(&self) -> io::Result<Duration> {
+        self.real.since_1970()
+    }
+
+    fn sleep(&self, duration: Duration) {
+        self.real.sleep(duration)
+    }
+}
+
 /// An open file of a spy.
 #[derive(Drop)]
 pub(crate) struct SpyFile<'a> {
@@ -69,6 +85,7 @@ impl<'a> Files for Spy<'a> {
     }
 
     fn metadata(&self, path: &str) -> io::Result<Metadata> {
+        self.tell("look past links at ", path)?;
         self.real.metadata(path)
     }
 
@@ -129,6 +146,17 @@ impl OpenFile for SpyFile<'_> {
     }
 }
 
+impl TakesTurns for SpyFile<'_> {
+    fn take_turn(&self, turn: Turn) -> io::Result<bool> {
+        let word = match turn {
+            Turn::Alone => "take a turn alone",
+            Turn::Shared => "share a turn",
+        };
+        self.spy.tell(word, "")?;
+        self.file.take_turn(turn)
+    }
+}
+
 impl Read for SpyFile<'_> {
     fn read(&mut self, into: &mut [u8]) -> io::Result<usize> {
         self.spy.tell("read", "")?;
@@ -160,6 +188,7 @@ impl Write for SpyFile<'_> {
 
 impl Seek for SpyFile<'_> {
     fn seek(&mut self, to: SeekFrom) -> io::Result<u64> {
+        self.spy.tell("go back", "")?;
         self.file.seek(to)
     }
 }
