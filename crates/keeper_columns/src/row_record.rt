@@ -5,7 +5,7 @@ ghost use Rattle.item_text.specs.Valid.{IsItem};
 ghost use Rattle.local_store.specs.declared.row.Row.{Row};
 ghost use Rattle.local_store.specs.Rows.{item_of};
 ghost use Rattle.local_store.specs.Sound.{IsSoundRow};
-ghost use Rattle.keeper_columns.specs.Columns.{beside, text_beside};
+ghost use Rattle.keeper_columns.specs.Columns.{text_beside};
 ghost use Rattle.keeper_columns.specs.Holding.{HoldsRow, is_sealed_content};
 
 use crate::flag::{flag, read_flag};
@@ -24,7 +24,7 @@ pub struct RowRecord {
     pub id: Text,
     /// 1 if the item is sealed, and else 0.
     pub sealed: i64,
-    /// The text of the item, or nothing if the base is that text.
+    /// The text of the item. Of records that an earlier program wrote it may be empty: then the base is that text.
     pub content: Bytes,
     pub base: Option<Bytes>,
     /// 1 if the row is to be uploaded, and else 0.
@@ -48,16 +48,6 @@ fn content_of(item: Item, sealed: bool) -> Content
         Content::Sealed(item)
     } else {
         Content::Plain(item)
-    }
-}
-
-/// A text as it stands beside a base: as nothing, if the base is that text.
-fn beside(alloc: Global, text: Bytes, base: &Option<Bytes>) -> Bytes
-    ensures { result ≡ beside text base.now }
-{
-    match base {
-        Some(base) if *base == text => Bytes::new(alloc),
-        _ => text,
     }
 }
 
@@ -89,14 +79,12 @@ impl RowRecord {
     pub fn of(alloc: Global, row: &Row) -> Result<RowRecord, AllocError>
         requires { IsSoundRow row.now }
         ensures holds { IfOk result (λ made. HoldsRow made row.now) }
-        ensures text { IfOk result (λ made.
-            made.content ≡ beside (written (item_of row.now.content)) row.now.base) }
+        ensures text { IfOk result (λ made. made.content ≡ written (item_of row.now.content)) }
     {
-        let text = item_text(alloc, row.content.item())?;
         Ok(RowRecord {
             id: Text::of(alloc, row.id.as_str())?,
             sealed: flag(is_sealed_content(&row.content)),
-            content: beside(alloc, text, &row.base),
+            content: item_text(alloc, row.content.item())?,
             base: row.base.copy(alloc)?,
             pending: flag(row.pending),
         })

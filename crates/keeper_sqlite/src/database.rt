@@ -80,15 +80,6 @@ pub(crate) fn begin<S: Alter>(database: &mut Connection<S>) -> Result<Transactio
     Ok(database.transaction())
 }
 
-/// Runs statements without values.
-pub(crate) fn run_all<S: Alter>(
-    together: &mut Transaction<'_, S>,
-    statements: &str,
-) -> Result<(), Trouble> {
-    together.execute_batch(statements)?;
-    Ok(())
-}
-
 /// Makes the writes since `begin`.
 pub(crate) fn commit<S: Alter>(together: Transaction<'_, S>) -> Result<(), Trouble> {
     together.commit()?;

@@ -6,14 +6,20 @@
 #![tactic(auto)]
 
 mod columns;
+mod copy;
 mod database;
 mod database_file;
+mod first_page;
+mod held_file;
+mod layout;
+mod mark;
 mod opening;
 mod reading;
 mod sqlite_keeper;
 mod sqlite_records;
 mod statements;
 mod trouble;
+mod waiting;
 mod work;
 mod writing;
 

@@ -4,17 +4,29 @@ ghost use Rattle.std.specs.Prelude.{All, IfOk, ⊤};
 ghost use Rattle.local_store.specs.Sound.{IsSound};
 ghost use Rattle.keeper_records.specs.Writes.{IsSoundWrite};
 
-use crate::columns::number_at;
-use crate::database::{Database, Queries, Statements, begin, commit, run_all};
-use crate::statements::{COUNT_TABLES, TABLES};
+use crate::copy::{Look, look_at};
+use crate::database::{Database, Statements, begin, commit};
+use crate::first_page::{PAGE_LEN, lists_tables};
+use crate::held_file::{HeldFile, make};
+use crate::layout::{Layout, layout_of};
+use crate::mark::{Mark, mark_of};
+use crate::statements::TABLES;
 use crate::trouble::Trouble;
+use crate::waiting::{Tried, patiently};
 use crate::work::{Work, done_on};
 use crate::writing::make_all;
 use jop_base::{Copied, Seq};
 use keeper_records::Write;
 use local_store::Tables;
-use sqlite::{Alter, Connection, Row};
+use sqlite::{Alter, Connection};
 use std::alloc::{AllocError, Global};
+use std::thread;
+use std::time::Duration;
+
+/// A log that is shorter than its header and a frame with the smallest page holds nothing that the file doesn't.
+const LEAST_LOG: usize = 32 + 24 + 512;
+
+// ---- new tables
 
 /// What the keys of a database hold that has these tables.
 fn key_writes(alloc: Global, tables: &Tables) -> Result<Seq<Write>, AllocError>
@@ -36,43 +48,31 @@ fn first_writes(alloc: Global) -> Result<Seq<Write>, AllocError>
     key_writes(alloc, &tables)
 }
 
-/// The first writes, if there are no keys yet.
-fn missing_writes(alloc: Global, has_keys: bool) -> Result<Seq<Write>, AllocError>
-    ensures { IfOk result (λ writes. All IsSoundWrite writes) }
-{
-    if has_keys {
-        return Ok(Seq::new(alloc));
+fn make_tables<D: Statements>(together: &mut D) -> Result<(), Trouble> {
+    for table in TABLES {
+        together.run(table, &[])?;
     }
-    first_writes(alloc)
+    Ok(())
 }
 
-/// Makes the keys of a new database, if there are none yet.
-fn make_keys<D: Statements>(
-    alloc: Global,
-    together: &mut D,
-    has_keys: bool,
-) -> Result<(), Trouble> {
-    let missing = missing_writes(alloc, has_keys)?;
-    make_all(alloc, together, missing.as_slice())
+fn make_keys<D: Statements>(alloc: Global, together: &mut D) -> Result<(), Trouble> {
+    let writes = first_writes(alloc)?;
+    make_all(alloc, together, writes.as_slice())
 }
 
-fn counts(row: &Row) -> Result<(i64, bool), Trouble> {
-    Ok((number_at(row, 0)?, number_at(row, 1)? > 0))
+/// Makes the tables, all together.
+fn make_new<S: Alter>(alloc: Global, database: &mut Connection<S>) -> Result<(), Trouble> {
+    let mut together = begin(database)?;
+    make_tables(&mut together)?;
+    make_keys(alloc, &mut together)?;
+    commit(together)
 }
 
-/// How many of the tables are there, and whether that of the keys is.
-fn count_tables<D: Queries>(database: &mut D) -> Result<(i64, bool), Trouble> {
-    match database.first(COUNT_TABLES, &[])? {
-        Some(row) => counts(&row),
-        None => Err(Trouble::Fault),
-    }
-}
-
-/// Makes the tables that are missing.
+/// Makes the tables, unless another run has made them meanwhile.
 #[derive(Drop)]
-struct Missing;
+struct NewTables;
 
-impl Work for Missing {
+impl Work for NewTables {
     type Answer = ();
 
     ghost is_fit = { λ _. ⊤ };
@@ -80,20 +80,142 @@ impl Work for Missing {
     ghost answers = { λ _. ⊤ };
 
     fn done<S: Alter>(&self, alloc: Global, database: &mut Connection<S>) -> Result<(), Trouble> {
-        let (count, has_keys) = count_tables(database)?;
-        if count == 5 {
-            return Ok(());
+        match layout_of(database)? {
+            Layout::Blank => make_new(alloc, database),
+            Layout::Tables => Ok(()),
+            Layout::Foreign => Err(Trouble::Fault),
         }
-        let mut together = begin(database)?;
-        run_all(&mut together, TABLES)?;
-        make_keys(alloc, &mut together, has_keys)?;
-        commit(together)
     }
 }
 
-/// Opens the file, or makes it, and makes the tables that are missing.
-pub(crate) fn open(rt: &HostRuntime, alloc: Global, path: &str) -> Result<Database, Trouble> {
+// ---- the tables that are there
+
+/// Whether the tables stand in the database, and nothing else.
+#[derive(Drop)]
+struct HasTables;
+
+impl Work for HasTables {
+    type Answer = bool;
+
+    ghost is_fit = { λ _. ⊤ };
+
+    ghost answers = { λ _. ⊤ };
+
+    fn done<S: Alter>(
+        &self,
+        _alloc: Global,
+        database: &mut Connection<S>,
+    ) -> Result<bool, Trouble> {
+        Ok(layout_of(database)? == Layout::Tables)
+    }
+}
+
+// ---- whose the file is
+
+/// Whether the first page of a file says that it is this program's and holds the tables alone, and its log holds
+/// nothing.
+fn is_own(alloc: Global, file: &HeldFile, log: &[u8]) -> Result<bool, Trouble> {
+    if file.len()? < PAGE_LEN as u64 || log.len() >= LEAST_LOG {
+        return Ok(false);
+    }
+    let page = file.first_page(alloc)?;
+    Ok(mark_of(&page) == Mark::Own && lists_tables(&page))
+}
+
+/// Looks at a file, or rather at a copy of it, and refuses that of another program, or of a later layout. The tables
+/// of this program are marked, if their log is empty. Answers whether they are there.
+fn take(alloc: Global, file: &mut HeldFile, log: Vec<u8>) -> Result<bool, Trouble> {
+    let is_settled = log.len() < LEAST_LOG;
+    let Look { layout, mark } = look_at(alloc, file.bytes(alloc)?, log)?;
+    if mark == Mark::Foreign || layout == Layout::Foreign {
+        return Err(Trouble::Fault);
+    }
+    if layout == Layout::Tables && mark == Mark::Unmarked && is_settled {
+        file.mark()?;
+    }
+    Ok(layout == Layout::Tables)
+}
+
+/// Whether the tables stand in the file of this path. A fault if it is another program's, or of a later layout: then
+/// nothing is written, and no log is made.
+fn holds_tables(rt: &HostRuntime, alloc: Global, path: &str) -> Result<bool, Trouble> {
+    let mut file = HeldFile::open(rt, path)?;
+    let log = file.log(rt)?;
+    if is_own(alloc, &file, log.as_slice())? {
+        return Ok(true);
+    }
+    take(alloc, &mut file, log)
+}
+
+// ---- opening
+
+/// Makes the tables in a file that is new, and marks it.
+fn make_file(rt: &HostRuntime, alloc: Global, path: &str) -> Result<(), Trouble> {
     let mut database = Connection::open(rt, path)?;
-    done_on(alloc, &mut database, &Missing)?;
+    done_on(alloc, &mut database, &NewTables)?;
+    database.close()?;
+    holds_tables(rt, alloc, path)?;
+    Ok(())
+}
+
+/// Opens a file with the tables.
+fn open_file(rt: &HostRuntime, alloc: Global, path: &str) -> Result<Database, Trouble> {
+    let mut database = Connection::open(rt, path)?;
+    if !done_on(alloc, &mut database, &HasTables)? {
+        return Err(Trouble::Fault);
+    }
     Ok(database)
+}
+
+/// Whether the database opens no file of this path, whatever stands there.
+fn is_refused(path: &str) -> bool {
+    path == ":memory:" || path.starts_with("file:")
+}
+
+/// Opens the file, or makes it.
+fn open_once(rt: &HostRuntime, alloc: Global, path: &str) -> Result<Database, Trouble> {
+    if is_refused(path) {
+        return Err(Trouble::Fault);
+    }
+    make(rt, path)?;
+    if !holds_tables(rt, alloc, path)? {
+        make_file(rt, alloc, path)?;
+    }
+    open_file(rt, alloc, path)
+}
+
+/// The opening of a file, which another run may have open.
+#[derive(Drop)]
+struct Opening<'a> {
+    rt: &'a HostRuntime,
+    alloc: Global,
+    path: &'a str,
+    /// How long it has waited, in milliseconds.
+    paused: u64,
+}
+
+impl Tried for Opening<'_> {
+    type Answer = Database;
+
+    ghost paused = { λ opening. opening.paused };
+
+    fn attempt(&mut self) -> Result<Database, Trouble> {
+        open_once(self.rt, self.alloc, self.path)
+    }
+
+    fn pause(&mut self, millis: u64) {
+        thread::sleep(self.rt, Duration::from_millis(millis));
+        self.paused += millis;
+    }
+}
+
+/// Opens the file, or makes it, and waits up to five seconds for another run or program that has it open.
+pub(crate) fn open(rt: &HostRuntime, alloc: Global, path: &str) -> Result<Database, Trouble> {
+    let mut opening = Opening {
+        rt,
+        alloc,
+        path,
+        paused: 0,
+    };
+    patiently(&mut opening)
 }

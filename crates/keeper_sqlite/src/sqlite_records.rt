@@ -13,10 +13,11 @@ use std::rt::HostRuntime;
 
 /// A store of records in an SQLite file. It tells nothing, since no clause can say what stands in a file.
 ///
-/// The file is opened at the first call, and made if it isn't there; the tables that are missing are made then. Every
-/// refusal of the database but want of memory raises the count, also that of the opening: a file that is no database,
-/// one that another program has open, a full disk, a record that can't be read back. After a failed opening the next
-/// call opens the file again.
+/// The file is opened at the first call, and made, with its tables, if it isn't there or is empty. Every refusal of the
+/// database but want of memory raises the count, also that of the opening: a file that is no database, or another
+/// program's, or of a later layout, to which nothing is written; one that another program has open for longer than
+/// five seconds; a full disk; a record that can't be read back. After a failed opening the next call opens the file
+/// again.
 ///
 /// A write is one transaction, which is on the disk when it is answered. A program that is killed leaves the changes
 /// that were answered, and perhaps the one that it was making.
@@ -46,7 +47,7 @@ impl SqliteRecords {
         match answer {
             Ok(value) => Ok(value),
             Err(Trouble::NoMemory) => Err(KeeperErr::NoMemory),
-            Err(Trouble::Fault) => {
+            Err(Trouble::Fault | Trouble::Busy) => {
                 self.faults.rise();
                 Err(KeeperErr::Fault)
             }

@@ -1,20 +1,23 @@
 //! All that is asked of the database: its tables, and one statement for each kind of read and of write. A backslash at
 //! the end of a line joins it to the next, so that the database keeps the text of a table on one line.
 
-/// The tables.
-pub(crate) const TABLES: &str = "\
-CREATE TABLE IF NOT EXISTS meta (key TEXT PRIMARY KEY, value BLOB NOT NULL) STRICT;
-CREATE TABLE IF NOT EXISTS rows (id TEXT PRIMARY KEY, sealed INTEGER NOT NULL, content BLOB NOT NULL, \
-base BLOB, pending INTEGER NOT NULL) STRICT;
-CREATE TABLE IF NOT EXISTS deletions (id TEXT PRIMARY KEY, resource INTEGER NOT NULL) STRICT;
-CREATE TABLE IF NOT EXISTS conflicts (number INTEGER PRIMARY KEY, note TEXT NOT NULL, \
-content BLOB NOT NULL) STRICT;
-CREATE TABLE IF NOT EXISTS blobs (id TEXT PRIMARY KEY, bytes BLOB NOT NULL) STRICT";
+/// The tables, as the database keeps their texts.
+pub(crate) const TABLES: [&str; 5] = [
+    "CREATE TABLE meta (key TEXT PRIMARY KEY, value BLOB NOT NULL) STRICT",
+    "CREATE TABLE rows (id TEXT PRIMARY KEY, sealed INTEGER NOT NULL, content BLOB NOT NULL, \
+base BLOB, pending INTEGER NOT NULL) STRICT",
+    "CREATE TABLE deletions (id TEXT PRIMARY KEY, resource INTEGER NOT NULL) STRICT",
+    "CREATE TABLE conflicts (number INTEGER PRIMARY KEY, note TEXT NOT NULL, \
+content BLOB NOT NULL) STRICT",
+    "CREATE TABLE blobs (id TEXT PRIMARY KEY, bytes BLOB NOT NULL) STRICT",
+];
 
-/// How many of the tables are there, and whether `meta` is.
-pub(crate) const COUNT_TABLES: &str = "\
-SELECT count(*), coalesce(sum(name = 'meta'), 0) FROM sqlite_schema \
-WHERE type = 'table' AND name IN ('meta', 'rows', 'deletions', 'conflicts', 'blobs')";
+/// How many things stand in the database, and how many of them are tables with one of these texts. What it makes for
+/// itself isn't counted: its name begins with `sqlite_`. At first this program asked for the tables where they are
+/// missing.
+pub(crate) const COUNT_THINGS: &str = "\
+SELECT count(*), coalesce(sum(replace(sql, 'IF NOT EXISTS ', '') IN (?1, ?2, ?3, ?4, ?5)), 0) \
+FROM sqlite_schema WHERE substr(name, 1, 7) <> 'sqlite_'";
 
 pub(crate) const META: &str = "SELECT value FROM meta WHERE key = ?1";
 
@@ -39,6 +42,11 @@ pub(crate) const SET_DELETION: &str =
     "INSERT OR REPLACE INTO deletions (id, resource) VALUES (?1, ?2)";
 
 pub(crate) const DROP_DELETION: &str = "DELETE FROM deletions WHERE id = ?1";
+
+/// Nothing asks for the bytes of a resource that has no row, and no deletion that is still to be made on the target.
+pub(crate) const DROP_BYTES: &str = "\
+DELETE FROM blobs WHERE id = ?1 AND NOT EXISTS (SELECT 1 FROM rows WHERE id = ?1) \
+AND NOT EXISTS (SELECT 1 FROM deletions WHERE id = ?1)";
 
 pub(crate) const ADD_CONFLICT: &str =
     "INSERT INTO conflicts (number, note, content) VALUES (?1, ?2, ?3)";

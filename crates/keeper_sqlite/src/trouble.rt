@@ -1,16 +1,21 @@
 ghost use Rattle.std.specs.Prelude.{◌≡◌};
-ghost use Rattle.keeper_sqlite.specs.Faults.{of_record, trouble_of_error};
+ghost use Rattle.std.specs.IoError.{error_kind};
+ghost use Rattle.keeper_sqlite.specs.Faults.{of_record, trouble_of_error, trouble_of_kind};
 ghost use Rattle.keeper_sqlite.specs.declared.trouble.Trouble.TheVariants.{NoMemory};
 
 use keeper_columns::RecordErr;
 use sqlite::{Error, ErrorCode};
 use std::alloc::{AllocError, AllocFailed};
+use std::io;
+use std::io::ErrorKind;
 
 /// Why the database gave no answer.
 #[derive(Clone, Copy, Debug, PartialEq, Eq)]
 pub(crate) enum Trouble {
     /// It refused, or holds a record that can't be read back.
     Fault,
+    /// Another run or program has the file open.
+    Busy,
     NoMemory,
 }
 
@@ -20,6 +25,18 @@ impl From<Error> for Trouble {
     fn from(error: Error) -> Trouble {
         match error {
             Error::SqliteFailure(ErrorCode::OutOfMemory) => Trouble::NoMemory,
+            Error::SqliteFailure(ErrorCode::DatabaseBusy) => Trouble::Busy,
+            _ => Trouble::Fault,
+        }
+    }
+}
+
+impl From<io::Error> for Trouble {
+    ghost from_gives = { λ error trouble. trouble ≡ trouble_of_kind (error_kind error) };
+
+    fn from(error: io::Error) -> Trouble {
+        match error.kind() {
+            ErrorKind::OutOfMemory => Trouble::NoMemory,
             _ => Trouble::Fault,
         }
     }

@@ -7,8 +7,8 @@ ghost use Rattle.sync_info.specs.Info.{IsInfo};
 
 use crate::database::{Statements, begin, commit};
 use crate::statements::{
-    ADD_CONFLICT, DROP_CONFLICT, DROP_DELETION, DROP_ROW, SET_BLOB, SET_CLIENT, SET_CONTEXT,
-    SET_DELETION, SET_INFO, SET_NEXT, SET_ROW,
+    ADD_CONFLICT, DROP_BYTES, DROP_CONFLICT, DROP_DELETION, DROP_ROW, SET_BLOB, SET_CLIENT,
+    SET_CONTEXT, SET_DELETION, SET_INFO, SET_NEXT, SET_ROW,
 };
 use crate::trouble::Trouble;
 use crate::work::Work;
@@ -23,6 +23,12 @@ use sync_info::{Info, write_info};
 /// Runs a statement on a key.
 fn run_on_key<D: Statements>(together: &mut D, statement: &str, key: &str) -> Result<(), Trouble> {
     together.run(statement, params![key])
+}
+
+/// Drops what the statement drops of an id, and with the last of that the bytes of its resource.
+fn drop_of<D: Statements>(together: &mut D, statement: &str, id: &Id) -> Result<(), Trouble> {
+    run_on_key(together, statement, id.as_str())?;
+    run_on_key(together, DROP_BYTES, id.as_str())
 }
 
 /// Runs a statement on bytes.
@@ -125,9 +131,9 @@ fn make<D: Statements>(alloc: Global, together: &mut D, write: &Write) -> Result
 {
     match write {
         Write::SetRow(row) => set_row(alloc, together, row),
-        Write::DropRow(id) => run_on_key(together, DROP_ROW, id.as_str()),
+        Write::DropRow(id) => drop_of(together, DROP_ROW, id),
         Write::SetDeletion(deletion) => set_deletion(alloc, together, deletion),
-        Write::DropDeletion(id) => run_on_key(together, DROP_DELETION, id.as_str()),
+        Write::DropDeletion(id) => drop_of(together, DROP_DELETION, id),
         Write::AddConflict(note) => add_conflict(alloc, together, note),
         Write::DropConflict(number) => drop_conflict(together, *number),
         Write::SetNext(number) => set_next(alloc, together, *number),
