@@ -182,43 +182,55 @@ calls_of_the_system() {
     /^[a-z]/ { count[$1]++; if (index($0, root) && $1 != "execve") begun = 1; if (begun) print $1, count[$1] }' trace
 }
 
-# sorts_of_calls WORDS..: those of them that are the first of their name at their place, ids aside, each with that place: the file, or
-# the name of one, that it is about. None of memory, and none that can't fail.
+# What a line of a trace is about: the file that it names, or else the one that it uses.
+place_in='function place_in(line) {
+  return match(line, /"\/[^"]*"/) || match(line, /<\/[^>]*>/) ? substr(line, RSTART + 1, RLENGTH - 2) : "-" }'
+
+# sorts_of_calls WORDS..: those of them that are the first of their name at their place, ids aside, each with its number among those of
+# its name. None of memory, and none that can't fail.
 sorts_of_calls() {
   strace -y -o trace "$program" "$@" >out 2>err
-  awk -F '(' -v root="$root" '
+  awk -F '(' -v root="$root" "$place_in"'
     /^[a-z]/ {
       count[$1]++
       if (index($0, root "/") && $1 != "execve") begun = 1
       if (!begun || $1 ~ /^(exit|brk|mmap|munmap|mremap|clock_nanosleep|nanosleep)/) next
-      place = match($0, /"\/[^"]*"/) || match($0, /<\/[^>]*>/) ? substr($0, RSTART + 1, RLENGTH - 2) : "-"
+      place = place_in($0)
       gsub(/[0-9a-f]{32}/, "ID", place)
-      if (!(($1, place) in seen)) print $1, count[$1], place
+      if (!(($1, place) in seen)) print $1, count[$1]
       seen[$1, place] = 1
     }' trace
 }
 
-# fails_and_is_told CALL NTH PLACE ERROR WORDS..: so ends the program with these words if that call of the system fails: as a fault of
-# the target, of the tables, of the output or of the random source, as its place is, or, where nothing rests on the call, well.
+# fails_and_is_told CALL NTH ERROR WORDS..: so ends the program with these words if that call of the system fails: as a fault of the
+# target, of the tables, of the output or of the random source, as the place is where it was; or well, where nothing rests on it, and
+# where the run made fewer calls of that name. What it was stands in `hit` then.
 fails_and_is_told() {
-  local call=$1 nth=$2 place=$3 error=$4 status wanted
-  shift 4
-  strace -o /dev/null -e "inject=$call:error=$error:when=$nth" "$program" "$@" >out 2>err
+  local call=$1 nth=$2 error=$3 status place wanted
+  shift 3
+  strace -y -o hits -e "inject=$call:error=$error:when=$nth" "$program" "$@" >out 2>err
   status=$?
+  place=$(awk "$place_in"'/INJECTED/ { print place_in($0) }' hits)
+  hit="$call $nth of $place with $error"
   case $place in
     "$root"*) wanted='9 target fault' ;;
     *.sqlite*) wanted='10 keeper fault' ;;
     */out) wanted='12 output fault' ;;
     *) wanted='14 random source fault' ;;
   esac
-  [ "$status" -eq 0 ] || is "$call $nth of $place with $error" "$wanted" "$status $(cat err)"
+  if [ "$status" -eq 0 ]; then
+    [ -z "$place" ] || is_harmless "$call" "$place" || fail "$hit is told by nobody"
+  else
+    is "$hit" "$wanted" "$status $(cat err)"
+  fi
   return "$status"
 }
 
-# The calls on which nothing rests: what they are for is done or told by another one, or the next run does it.
+# is_harmless CALL PLACE: whether nothing rests on it. What it is for is done or told by another call, or the next run does it, as what
+# the database does when it closes its file.
 is_harmless() {
-  case $1 in
-    close | flock | fcntl | fchown | geteuid | getpid | mkdir) return 0 ;;
+  case $1:$2 in
+    close:* | flock:* | fcntl:* | mkdir:* | *:*.sqlite*) return 0 ;;
   esac
   return 1
 }

@@ -5,7 +5,7 @@ use Rattle.jop_outside.specs.declared.failed.Failed.{Failed}
 use Rattle.dav_link.specs.Links.{LinkNow, ReadsAlone, TakesBytes, IsAtEnd}
 use Rattle.dav_link.specs.Receiving.{HasReadBytes, HasKept, HasEnough, LinkHasEnded, FailsReading}
 use Rattle.dav_link.specs.declared.error.LinkErr.{LinkErr}
-use Rattle.dav_link.specs.declared.error.LinkErr.TheVariants.{Fault, NoMemory}
+use Rattle.dav_link.specs.declared.error.LinkErr.TheVariants.{Fault, NoMemory, TooLong}
 
 length-taken : (n : ℕ) (s : List ℕ) → n ≤ length s → length (take n s) ≡ n
 length-taken n s h = simp length-take (omega arith)
@@ -89,6 +89,7 @@ fails_later a b c before mid bytes NoMemory h k = record {
   read = HasReadBytes-append a b c bytes k.bytes h.read k.read;
   stays = k.stays ∙ h.stays;
 }
+fails_later a b c before mid bytes TooLong h k = absurd k
 
 -- ---- one read
 

@@ -4,17 +4,27 @@ use Rattle.std.proofs.lemmas.Bool.{false≢true}
 use Rattle.dav_link.specs.Links.{LinkNow}
 use Rattle.dav_link.specs.Receiving.{HasKept, ReadsMore, FailsReading}
 use Rattle.dav_link.specs.declared.error.LinkErr.{LinkErr}
-use Rattle.dav_link.specs.Awaiting.{MessageNow, IsReadAsItComes, HasHeld, HasEndedEarly, Awaits, MissesNothing}
+use Rattle.dav_link.specs.declared.error.LinkErr.TheVariants.{Fault, NoMemory, TooLong}
+use Rattle.dav_link.specs.Awaiting.{MessageNow, IsReadAsItComes, HasHeld, HasEndedEarly, Awaits, FailsAwaiting, MissesNothing}
 use Rattle.dav_link.proofs.LinkLaws.{kept_more, fails_later}
 
 -- ---- the head
 
-pub read_fails : (old mid new : LinkNow) (before kept after bytes : List ℕ) (count : ℕ)
+-- what fails when more is read fails what is waited for
+awaits_reading : (m : MessageNow) (old new : LinkNow) (before after : List ℕ) (error : LinkErr)
+    → FailsReading error old new → FailsAwaiting m error old before new after
+awaits_reading m old new before after Fault h = h
+awaits_reading m old new before after NoMemory h = h
+awaits_reading m old new before after TooLong h = absurd h
+
+pub read_fails : (m : MessageNow) (old mid new : LinkNow) (before kept after bytes : List ℕ) (count : ℕ)
     (r : Result Bool LinkErr) (error : LinkErr) → HasKept old before mid kept bytes
-    → ReadsMore mid kept count r new after → r ≡ Err error → FailsReading error old new
-read_fails old mid new before kept after bytes count r error held reads is =
+    → ReadsMore mid kept count r new after → r ≡ Err error
+    → FailsAwaiting m error old before new after
+read_fails m old mid new before kept after bytes count r error held reads is =
     let A : Result Bool LinkErr → Type 0 = λ x. ReadsMore mid kept count x new after in
-    fails_later old mid new before kept bytes error held (subst A is reads)
+    awaits_reading m old new before after error
+    (fails_later old mid new before kept bytes error held (subst A is reads))
 
 -- ---- the body
 
@@ -56,6 +66,19 @@ body_comes m old new before after missing false laws is reads = record {
 
 -- ---- the head and then the body
 
+fails_waiting_later : (m : MessageNow) (old mid new : LinkNow) (before kept after bytes : List ℕ)
+    (error : LinkErr) → HasKept old before mid kept bytes → FailsAwaiting m error mid kept new after
+    → FailsAwaiting m error old before new after
+fails_waiting_later m old mid new before kept after bytes Fault held h =
+    fails_later old mid new before kept bytes Fault held h
+fails_waiting_later m old mid new before kept after bytes NoMemory held h =
+    fails_later old mid new before kept bytes NoMemory held h
+fails_waiting_later m old mid new before kept after bytes TooLong held h = record {
+  bytes = bytes ++ h.bytes;
+  kept = kept_more old mid new before kept after bytes h.bytes held h.kept;
+  holds = h.holds;
+}
+
 -- what was kept first makes no difference to what waiting on comes to
 pub awaits_later : (m : MessageNow) (P : List ℕ → Type 0) (old mid new : LinkNow)
     (before kept after bytes : List ℕ) (r : Result Bool LinkErr)
@@ -73,15 +96,15 @@ awaits_later m P old mid new before kept after bytes (Ok false) held early = rec
   ended = early.ended;
 }
 awaits_later m P old mid new before kept after bytes (Err error) held fails =
-    fails_later old mid new before kept bytes error held fails
+    fails_waiting_later m old mid new before kept after bytes error held fails
 
 pub awaits_fails : (m : MessageNow) (P : List ℕ → Type 0) (old mid new : LinkNow)
     (before kept after bytes : List ℕ) (r : Result Bool LinkErr) (error : LinkErr)
     → HasKept old before mid kept bytes → Awaits m P mid kept r new after → r ≡ Err error
-    → FailsReading error old new
+    → FailsAwaiting m error old before new after
 awaits_fails m P old mid new before kept after bytes r error held awaits is =
     let A : Result Bool LinkErr → Type 0 = λ x. Awaits m P mid kept x new after in
-    fails_later old mid new before kept bytes error held (subst A is awaits)
+    fails_waiting_later m old mid new before kept after bytes error held (subst A is awaits)
 
 -- ---- by the answer
 

@@ -2,14 +2,16 @@
 -- have come.
 use Rattle.std.specs.Prelude.{ℕ, ◌-◌, ◌<◌, ◌⊎◌, List, ◌++◌, length, Bool, true, false, Result, Ok, Err}
 use Rattle.dav_link.specs.Links.{LinkNow, IsAtEnd}
-use Rattle.dav_link.specs.Receiving.{HasKept, FailsReading}
+use Rattle.dav_link.specs.Receiving.{HasKept, HasBroken, HasStarved}
 use Rattle.dav_link.specs.declared.error.LinkErr.{LinkErr}
+use Rattle.dav_link.specs.declared.error.LinkErr.TheVariants.{Fault, NoMemory, TooLong}
 
 -- how a message is read in the bytes that came so far: by its head so many are missing, or they are too
--- few to say what it is
+-- few to say what it is; and how many missing ones are waited for
 pub record MessageNow : Type 1 where
   pub misses : List ℕ → ℕ → Type 0
   pub more : List ℕ → Type 0
+  pub limit : ℕ
 
 -- what is asked of the reading of every message
 pub record IsReadAsItComes (m : MessageNow) : Type 0 where
@@ -57,12 +59,22 @@ pub record HasEndedEarly (m : MessageNow) (old : LinkNow) (before : List ℕ) (n
   pub more : m.more after
   pub ended : IsAtEnd new.left
 
+-- the head tells that more bytes are missing than are waited for
+abbrev pub MissesTooMany : MessageNow → List ℕ → Type 0
+MissesTooMany m bytes = (missing : ℕ) × m.misses bytes missing × (m.limit < missing)
+
+-- why waiting gave nothing
+abbrev pub FailsAwaiting : MessageNow → LinkErr → LinkNow → List ℕ → LinkNow → List ℕ → Type 0
+FailsAwaiting m Fault old before new after = HasBroken old new
+FailsAwaiting m NoMemory old before new after = HasStarved old new
+FailsAwaiting m TooLong old before new after = HasHeld (MissesTooMany m) old before new after
+
 -- what waiting until P holds comes to
 abbrev pub Awaits : MessageNow → (List ℕ → Type 0) → LinkNow → List ℕ → Result Bool LinkErr
     → LinkNow → List ℕ → Type 0
 Awaits m P old before (Ok true) new after = HasHeld P old before new after
 Awaits m P old before (Ok false) new after = HasEndedEarly m old before new after
-Awaits m P old before (Err error) new after = FailsReading error old new
+Awaits m P old before (Err error) new after = FailsAwaiting m error old before new after
 
 -- what waiting for the head comes to
 abbrev pub AwaitsHead : MessageNow → LinkNow → List ℕ → Result Bool LinkErr → LinkNow → List ℕ → Type 0

@@ -3,7 +3,7 @@ use Rattle.std.specs.Prelude.{ℕ, ◌≡◌, ◌≤◌, ◌<◌, List, ◌++◌
 use Rattle.jop_outside.specs.Outside.{HasRisen}
 use Rattle.dav_link.specs.Links.{LinkNow, ReadsAlone, TakesBytes, IsAtEnd}
 use Rattle.dav_link.specs.declared.error.LinkErr.{LinkErr}
-use Rattle.dav_link.specs.declared.error.LinkErr.TheVariants.{Fault, NoMemory}
+use Rattle.dav_link.specs.declared.error.LinkErr.TheVariants.{Fault, NoMemory, TooLong}
 
 -- these bytes were read, and nothing else was done
 pub record HasReadBytes (old : LinkNow) (bytes : List ℕ) (new : LinkNow) : Type 0 where
@@ -33,6 +33,7 @@ pub record HasStarved (old new : LinkNow) : Type 0 where
 abbrev pub FailsReading : LinkErr → LinkNow → LinkNow → Type 0
 FailsReading Fault old new = HasBroken old new
 FailsReading NoMemory old new = HasStarved old new
+FailsReading TooLong old new = ⊥
 
 -- at least so many bytes more are kept
 pub record HasEnough (old : LinkNow) (before : List ℕ) (count : ℕ) (new : LinkNow)

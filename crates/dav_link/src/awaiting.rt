@@ -53,7 +53,7 @@ fn await_body<L: Link, M: Message>(
         None => Ok(true),
         Some(missing) => {
             if missing > message.limit() {
-                return Err(LinkErr::NoMemory);
+                return Err(LinkErr::TooLong);
             }
             let came = read_on(link, kept, missing)?;
             Ok(came)
@@ -62,8 +62,8 @@ fn await_body<L: Link, M: Message>(
 }
 
 /// Reads until the bytes that are kept begin with a whole message, or with one that is refused: false if
-/// the link ended before. `Fault` if the link failed. `NoMemory` if the bytes couldn't be kept, or if more
-/// are missing than the message's limit.
+/// the link ended before. `Fault` if the link failed, `NoMemory` if the bytes couldn't be kept, `TooLong` if
+/// the head tells that more are missing than the message's limit.
 pub fn await_message<L: Link, M: Message>(
     alloc: Global,
     link: &mut L,

@@ -6,6 +6,8 @@ use std::alloc::AllocError;
 pub enum LinkErr {
     Fault,
     NoMemory,
+    /// More bytes were announced than are waited for.
+    TooLong,
 }
 
 impl From<AllocError> for LinkErr {

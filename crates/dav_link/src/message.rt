@@ -1,4 +1,4 @@
-ghost use Rattle.std.specs.Prelude.{ℕ, IfNone, IfOk, IfSome, IsTrue, ◌↔◌};
+ghost use Rattle.std.specs.Prelude.{ℕ, ◌≡◌, IfNone, IfOk, IfSome, IsTrue, ◌↔◌};
 ghost use Rattle.dav_link.specs.Awaiting.{MessageNow, IsReadAsItComes};
 
 use std::alloc::{AllocError, Global};
@@ -19,8 +19,9 @@ pub trait Message {
     fn is_more(&self, alloc: Global, bytes: &[u8]) -> Result<bool, AllocError>
         ensures { IfOk result (λ is. IsTrue is ↔ (reads self.now).more bytes.now) };
 
-    /// The most bytes that are waited for once the head tells. More are want of memory.
-    fn limit(&self) -> u64;
+    /// The most bytes that are waited for once the head tells.
+    fn limit(&self) -> u64
+        ensures { result ≡ (reads self.now).limit };
 
     ghost laws: { (m : Self) → IsReadAsItComes (reads m) };
 }

@@ -42,7 +42,7 @@ impl From<LinkErr> for ServeErr {
     fn from(error: LinkErr) -> ServeErr {
         match error {
             LinkErr::Fault => ServeErr::LinkFault,
-            LinkErr::NoMemory => ServeErr::NoMemory,
+            LinkErr::NoMemory | LinkErr::TooLong => ServeErr::NoMemory,
         }
     }
 }

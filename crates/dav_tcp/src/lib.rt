@@ -3,9 +3,11 @@
 #![tactic(auto)]
 
 mod pace;
+mod steady_clock;
 mod stream;
 mod stream_link;
 mod tcp_link;
 
+pub use steady_clock::SteadyClock;
 pub use stream_link::StreamLink;
 pub use tcp_link::TcpLink;

@@ -1,4 +1,6 @@
-ghost use Rattle.std.specs.Prelude.{◌≡◌, ◌≤◌, IfOk, length};
+ghost use Rattle.std.specs.Prelude.{◌≡◌, ◌*◌, ◌≤◌, IfOk, length};
+ghost use Rattle.std.specs.Duration.{as_nanos};
+ghost use Rattle.dav_tcp.specs.Limits.{wait_millis};
 
 use std::io;
 use std::io::{ErrorKind, Read, Write};
@@ -8,11 +10,18 @@ use std::time::Duration;
 /// How many seconds one read or one write may wait for the peer.
 const WAIT_SECONDS: u64 = 20;
 
+/// How long one read or one write is given to wait for the peer.
+fn wait() -> Duration
+    ensures { as_nanos result ≡ wait_millis * 1_000_000 }
+{
+    Duration::from_secs(WAIT_SECONDS)
+}
+
 /// Has a stream send each message at once, and bounds how long a read or a write waits.
 pub(crate) fn prepare<S: OpenStream>(stream: &S) -> io::Result<()> {
     let _ = stream.set_nodelay(true);
-    stream.set_read_timeout(Some(Duration::from_secs(WAIT_SECONDS)))?;
-    stream.set_write_timeout(Some(Duration::from_secs(WAIT_SECONDS)))
+    stream.set_read_timeout(Some(wait()))?;
+    stream.set_write_timeout(Some(wait()))
 }
 
 /// Reads, and again each time that a signal interrupts it.

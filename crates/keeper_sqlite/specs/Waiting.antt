@@ -2,5 +2,5 @@
 use Rattle.std.specs.Prelude.{ℕ}
 
 -- in milliseconds
-abbrev pub longest_wait : ℕ
-longest_wait = 5000
+abbrev pub longest_pause : ℕ
+longest_pause = 5000

@@ -1,7 +1,7 @@
 //! Waiting for a file that is in use.
 
 ghost use Rattle.std.specs.Prelude.{◌≡◌, ◌≤◌, ◌+◌, ◌^◌, ◌<◌, ℕ, Err};
-ghost use Rattle.keeper_sqlite.specs.Waiting.{longest_wait};
+ghost use Rattle.keeper_sqlite.specs.Waiting.{longest_pause};
 
 use crate::trouble::Trouble;
 
@@ -30,8 +30,8 @@ pub(crate) trait Tried {
 /// Tries it, and again after a pause each time that it is busy. `Busy` after five seconds.
 pub(crate) fn patiently<T: Tried>(tried: &mut T) -> Result<T::Answer, Trouble>
     requires { T.paused tried.old ≡ 0 }
-    ensures busy { result ≡ Err Trouble.Busy → T.paused tried.new ≡ longest_wait }
-    ensures within { T.paused tried.new ≤ longest_wait }
+    ensures busy { result ≡ Err Trouble.Busy → T.paused tried.new ≡ longest_pause }
+    ensures within { T.paused tried.new ≤ longest_pause }
 {
     'tries: for _ in 0..PAUSES {
         match tried.attempt() {

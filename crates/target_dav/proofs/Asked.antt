@@ -14,7 +14,7 @@ use Rattle.dav_wire.specs.ResponseReading.{ResponseReadsAs}
 use Rattle.dav_wire.specs.declared.response_reader.ReadResponse.TheVariants.{Whole}
 use Rattle.dav_wire.proofs.FitLemmas.{reply_fits}
 use Rattle.dav_link.specs.declared.error.LinkErr.{LinkErr}
-use Rattle.dav_link.specs.declared.error.LinkErr.TheVariants.{Fault, NoMemory}
+use Rattle.dav_link.specs.declared.error.LinkErr.TheVariants.{Fault, NoMemory, TooLong}
 use Rattle.target_dav.specs.Responses.{HasNoResponse, HasResponse, Receives}
 use Rattle.target_dav.specs.Exchanges.{LinkClientNow, Moved, HasReply, LinkHasFailed, HasNone, HasNoRoom, IsBegun, HasSent, Tried, Exchanged, blob_after, is_ready}
 use Rattle.target_dav.specs.declared.receiving.Received.{Received}
@@ -106,6 +106,15 @@ replied host call blob old mid new received after sent response left ready = rec
   ready = ready ∙ ap (λ (b : Bool). is_ready received.reply b) response.alone;
 }
 
+untold : (text : List ℕ) (call : Call) (old mid new : LinkClientNow) → HasSent text old mid
+    → HasNoResponse call mid.link new.link → HasNone text call old new
+untold text call old mid new sent none = record {
+  bytes = none.bytes;
+  moved = Moved-read text old mid new none.bytes sent none.read;
+  stays = none.stays ∙ sent.stays;
+  none = none.none;
+}
+
 pub none_came : (text : List ℕ) (call : Call) (old mid new : LinkClientNow) → HasSent text old mid
     → HasBroken mid.link new.link ⊎ HasNoResponse call mid.link new.link
     → LinkHasFailed text old new ⊎ HasNone text call old new
@@ -117,12 +126,7 @@ none_came text call old mid new sent (inl broken) = inl (record {
   moved = Moved-read text old mid new broken.bytes sent broken.read;
   rose = let rose = broken.rose in let same = sent.stays in omega arith;
 })
-none_came text call old mid new sent (inr none) = inr (record {
-  bytes = none.bytes;
-  moved = Moved-read text old mid new none.bytes sent none.read;
-  stays = none.stays ∙ sent.stays;
-  none = none.none;
-})
+none_came text call old mid new sent (inr none) = inr (untold text call old mid new sent none)
 
 pub no_room : (text : List ℕ) (old mid new : LinkClientNow) → HasSent text old mid
     → HasStarved mid.link new.link → new.ready ≡ mid.ready → HasNoRoom text old new
@@ -142,6 +146,8 @@ asks_failure host call blob old mid new Fault sent received ready = (
   refl,
   none_came (request_text host call blob) call old mid new sent received,
 )
+asks_failure host call blob old mid new TooLong sent received ready =
+    (ready ∙ sent.ready, refl, untold (request_text host call blob) call old mid new sent received)
 asks_failure host call blob old mid new NoMemory sent received ready =
     (refl, inr (no_room (request_text host call blob) old mid new sent received ready))
 

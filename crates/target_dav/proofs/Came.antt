@@ -1,11 +1,11 @@
 -- How the response to a call comes.
 use Rattle.std.proofs.Common.{◌≡◌, ◌∙◌, sym, ap, subst, inl, inr, ℕ, List, [], ◌++◌, length, Bool, nat_eq, Result, Err}
 use Rattle.std.specs.Prelude.{IsTrue, ◌↔◌}
-use Rattle.dav_link.specs.Awaiting.{AwaitsMessage, HasHeld, HasEndedEarly}
+use Rattle.dav_link.specs.Awaiting.{AwaitsMessage, FailsAwaiting, HasHeld, HasEndedEarly}
 use Rattle.dav_link.specs.Links.{LinkNow}
-use Rattle.dav_link.specs.Receiving.{HasReadBytes, HasKept, HasStarved, FailsReading}
+use Rattle.dav_link.specs.Receiving.{HasReadBytes, HasKept, HasStarved}
 use Rattle.dav_link.specs.declared.error.LinkErr.{LinkErr}
-use Rattle.dav_link.specs.declared.error.LinkErr.TheVariants.{Fault, NoMemory}
+use Rattle.dav_link.specs.declared.error.LinkErr.TheVariants.{Fault, NoMemory, TooLong}
 use Rattle.dav_wire.specs.ResponseReading.{ResponseReadsAs}
 use Rattle.dav_wire.specs.declared.response_reader.ReadResponse.{ReadResponse}
 use Rattle.dav_wire.specs.declared.response_reader.ReadResponse.TheVariants.{Whole, More, Bad}
@@ -45,22 +45,26 @@ ended_early call old new before after none early =
       bytes = after;
       read = all.read;
       stays = all.stays;
-      none = inr (early.more, early.ended);
+      none = inr (inl (early.more, early.ended));
     }
 
-receives_failure : (call : Call) (old new : LinkNow) (error : LinkErr)
-    → FailsReading error old new → Receives call old (Err error) new
-receives_failure call old new Fault h = inl h
-receives_failure call old new NoMemory h = h
+receives_failure : (call : Call) (old new : LinkNow) (before after : List ℕ) (error : LinkErr)
+    → before ≡ [] → FailsAwaiting (response_now call) error old before new after
+    → Receives call old (Err error) new
+receives_failure call old new before after Fault none h = inl h
+receives_failure call old new before after NoMemory none h = h
+receives_failure call old new before after TooLong none h =
+    let all = all_kept old new before after h.bytes none h.kept in
+    record { bytes = after; read = all.read; stays = all.stays; none = inr (inr h.holds) }
 
 pub receives_none : (call : Call) (old new : LinkNow) (before after : List ℕ)
-    (r : Result Bool LinkErr) (error : LinkErr)
+    (r : Result Bool LinkErr) (error : LinkErr) → before ≡ []
     → AwaitsMessage (response_now call) old before r new after → r ≡ Err error
     → Receives call old (Err error) new
-receives_none call old new before after r error awaits is =
+receives_none call old new before after r error none awaits is =
     let A : Result Bool LinkErr → Type 0 =
     λ x. AwaitsMessage (response_now call) old before x new after in
-    receives_failure call old new error (subst A is awaits)
+    receives_failure call old new before after error none (subst A is awaits)
 
 pub came_bad : (call : Call) (P : List ℕ → Type 0) (old new : LinkNow) (before after : List ℕ)
     → before ≡ [] → HasHeld P old before new after → ResponseReadsAs call after Bad

@@ -9,7 +9,7 @@ use Rattle.jop_target.specs.declared.reply.Reply.TheVariants.{GotBlob, Failed, T
 use Rattle.jop_outside.specs.declared.failed.Failed.{Failed as LinkFailed}
 use Rattle.dav_link.specs.Links.{LinkNow, OpensAlone, TakesBytes}
 use Rattle.dav_link.specs.declared.error.LinkErr.{LinkErr}
-use Rattle.dav_link.specs.declared.error.LinkErr.TheVariants.{Fault, NoMemory}
+use Rattle.dav_link.specs.declared.error.LinkErr.TheVariants.{Fault, NoMemory, TooLong}
 use Rattle.dav_wire.specs.Requests.{request_text}
 use Rattle.dav_wire.specs.ResponseReading.{ResponseReadsAs}
 use Rattle.dav_wire.specs.declared.response_reader.ReadResponse.TheVariants.{Whole}
@@ -86,9 +86,9 @@ pub record HasNoRoom (text : List ℕ) (old new : LinkClientNow) : Type 0 where
   pub ready : new.ready ≡ false
 
 -- What a call comes to: `Failed` because the link failed, or ended before a whole response, or
--- because what came is no response to the call; any other reply because its response came. After a
--- failure the next call opens the link anew. Out of memory nothing was done, or the request was
--- written and the next call opens the link anew.
+-- because what came is no response to the call, or announces a longer one than is waited for; any other
+-- reply because its response came. After a failure the next call opens the link anew. Out of memory nothing
+-- was done, or the request was written and the next call opens the link anew.
 abbrev pub Exchanged : List ℕ → Call → List ℕ → LinkClientNow → Result Reply AllocError → LinkClientNow
     → List ℕ → Type 0
 Exchanged host call blob old (Ok Failed) new after =
@@ -131,6 +131,8 @@ Tried host call blob old (Err Fault) new after =
     (new.ready ≡ false) × (after ≡ blob)
     × (LinkHasFailed (request_text host call blob) old new
     ⊎ HasNone (request_text host call blob) call old new)
+Tried host call blob old (Err TooLong) new after =
+    (new.ready ≡ false) × (after ≡ blob) × HasNone (request_text host call blob) call old new
 Tried host call blob old (Err NoMemory) new after =
     (after ≡ blob) × ((new ≡ old) ⊎ HasNoRoom (request_text host call blob) old new)
 

@@ -17,14 +17,16 @@ use std::alloc::{AllocError, Global};
 /// `Date` of the response, in milliseconds since 1970.
 ///
 /// **Faults.** The count rises, and the answer is `Failed`, exactly if the link failed, if it ended before a whole
-/// response, or if what came is no response to this call. The call may have landed all the same.
+/// response, if what came is no response to this call, or if it announces a longer body than is waited for. The call
+/// may have landed all the same.
 ///
 /// **The link** is opened before the first call, and anew before a call that comes after `Failed`, after `TooLarge`
 /// (which is told by the head alone), after want of memory, and after a response behind which more bytes came than
 /// were asked for. No request is sent twice.
 ///
-/// **Memory.** A response is kept until it is whole. One that announces more than 256 MiB for a listing of the root,
-/// 64 MiB for a blob or 16 MiB for any other call is answered as want of memory, before any of it is kept.
+/// **Memory.** A response is kept until it is whole. Once its head came at most 256 MiB more are waited for of a
+/// listing of the root, 64 MiB of a blob and 16 MiB of any other body. A file that is announced to be longer than its
+/// limit is `TooLarge`, and where more would have to be waited for it is a fault.
 #[derive(Drop)]
 pub struct DavTarget<L> {
     pub link: L,
@@ -135,7 +137,7 @@ impl<L: Link> Target for DavTarget<L> {
         match self.ask(alloc, call, blob) {
             Ok(reply) => Ok(reply),
             Err(LinkErr::NoMemory) => Err(AllocError),
-            Err(LinkErr::Fault) => {
+            Err(LinkErr::Fault | LinkErr::TooLong) => {
                 self.faults.rise();
                 Ok(Reply::Failed)
             }

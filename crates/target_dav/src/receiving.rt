@@ -18,7 +18,7 @@ pub(crate) struct Received {
 }
 
 /// Reads the response to a call. `Fault` if the link failed, if it ended before a whole response, or if what came is no
-/// response to this call.
+/// response to this call. `TooLong` if it announces a longer body than is waited for.
 pub(crate) fn receive<L: Link>(
     alloc: Global,
     link: &mut L,

@@ -1,7 +1,7 @@
 ghost use Rattle.std.specs.Prelude.{◌≡◌, ◌↔◌, IsTrue};
 ghost use Rattle.dav_wire.specs.declared.response_reader.ReadResponse.TheVariants.{More};
 
-use crate::budget::body_limit;
+use crate::budget::response_limit;
 use dav_link::Message;
 use dav_wire::{ReadResponse, read_response, response_missing};
 use jop_target::Call;
@@ -35,7 +35,7 @@ impl Message for ResponseTo<'_> {
     }
 
     fn limit(&self) -> u64 {
-        body_limit(self.call)
+        response_limit(self.call)
     }
 
     ghost laws = { λ r. record {

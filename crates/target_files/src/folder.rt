@@ -226,8 +226,9 @@ fn none_in(alloc: Global, dir: Dir, now: u64) -> Result<Listing, Trouble>
     })
 }
 
-/// The last time that a file of a folder has in a listing of this moment. An item that was written later is to be newer
-/// to whoever lists it again, and no item may hide the ones that come until its moment has come. A lock has its own time.
+/// The last time that a file of a folder has in a listing of this moment. An item that was written later is to be
+/// newer to whoever lists it again, and no item may hide the ones that come until its moment has come. A lock has its
+/// own time.
 fn latest_in(dir: Dir, now: u64) -> u64
     requires { now ≤ MAX_TIME }
     ensures { result ≤ MAX_TIME }

@@ -22,13 +22,13 @@ use std::rt::{Clock, Files};
 /// where it stands, so that it has the time of a moment at which others see it; an empty one keeps that of its making.
 /// `temp`, and the folder of a file that is put, are made where they are missing. The root never is.
 ///
-/// **Listings.** A name that stands from the beginning of a listing to its end is in it. A reading of a folder may miss a
-/// file that is renamed over another one meanwhile, so it counts only if the folder wasn't changed from a moment before
-/// it until its end, by the clock of the file system. If it was, it is read again, for at least 20 seconds; a folder
-/// that comes to no rest then is a fault. Runs of this program don't disturb each other: a listing takes its turn at the
-/// folder alone, and a put shares one while it renames (`flock`). Whoever waits a second for a turn goes on without, and
-/// so does each where the system has none. No file in the root has a time past the moment that a listing tells: what was
-/// written later has that one, and so is newer to whoever lists it again.
+/// **Listings.** A name that stands from the beginning of a listing to its end is in it. A reading of a folder may
+/// miss a file that is renamed over another one meanwhile, so it counts only if the folder wasn't changed from a
+/// moment before it until its end, by the clock of the file system. If it was, it is read again, for at least 20
+/// seconds; a folder that comes to no rest then is a fault. Runs of this program don't disturb each other: a listing
+/// takes its turn at the folder alone, and a put shares one while it renames (`flock`). Whoever waits a second for a
+/// turn goes on without, and so does each where the system has none. No file in the root has a time past the moment
+/// that a listing tells: what was written later has that one, and so is newer to whoever lists it again.
 ///
 /// **Links.** A symbolic link is no file, wherever it leads: it isn't listed, a get and a delete find nothing there, a
 /// lock that is put there is a fault, and any other file that is put replaces the link. Nothing is written through one.
@@ -39,10 +39,10 @@ use std::rt::{Clock, Files};
 /// since it leads out of the target, but for one that comes just when it was looked at. The root may be one.
 ///
 /// **If the machine stops.** A put flushes its file (fsync) before the rename, and its folder before its reply; a
-/// delete flushes its folder, and a folder that is made the root. So what was answered `Done` stays done. A file system
-/// that can't flush a folder, and says so, promises no more than it does. A run that is killed, or a machine that stops,
-/// between the rename and the last byte leaves a file whose time is before the moment at which others see it. The empty
-/// file that tells the time isn't flushed, since nobody reads it.
+/// delete flushes its folder, and a folder that is made the root. So what was answered `Done` stays done. A file
+/// system that can't flush a folder, and says so, promises no more than it does. A run that is killed, or a machine
+/// that stops, between the rename and the last byte leaves a file whose time is before the moment at which others see
+/// it. The empty file that tells the time isn't flushed, since nobody reads it.
 ///
 /// **Times** are those of the file system, in whole milliseconds since 1970, rounded down: 0 before 1970, and at most
 /// `MAX_TIME`. Each call but a put first makes the temporary file, takes its time as `now`, and removes it, a listing

@@ -39,8 +39,8 @@ pub(crate) fn is_at_rest<R: Files>(rt: &R, name: &str, told: &Metadata) -> Resul
     Ok(changed_at(&fs::metadata(rt, name)?) < changed_at(told))
 }
 
-/// The files that bear names of a folder, in the order of their paths' texts, with their times, or this one where that is
-/// earlier; without the one that tells the time. A fault where the system names one twice.
+/// The files that bear names of a folder, in the order of their paths' texts, with their times, or this one where
+/// that is earlier; without the one that tells the time. A fault where the system names one twice.
 pub(crate) fn entries_of<R: Files, A: Allocator>(
     alloc: Global,
     names: &[DirEntry<R, A>],
@@ -65,8 +65,8 @@ pub(crate) fn entries_of<R: Files, A: Allocator>(
     }
 }
 
-/// The file that bears a name of the folder. None where the name is none of a target's or the clock's, where there is no
-/// such file any more, and where a link or a directory bears the name.
+/// The file that bears a name of the folder. None where the name is none of a target's or the clock's, where there is
+/// no such file any more, and where a link or a directory bears the name.
 fn read_entry<R: Files, A: Allocator>(
     dir: Dir,
     name: &DirEntry<R, A>,

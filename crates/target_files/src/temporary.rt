@@ -96,7 +96,8 @@ where
 }
 
 /// Writes the last byte of a file once more in its place. So its time is that of a moment at which others see it, by
-/// the clock of the file system, and what it holds is the same all the time. An empty file keeps the time of its making.
+/// the clock of the file system, and what it holds is the same all the time. An empty file keeps the time of its
+/// making.
 fn rewrite_last<F: Seek + Write>(file: &mut F, content: &[u8]) -> Result<(), Trouble> {
     let Some(last) = content.last() else {
         return Ok(());

@@ -48,7 +48,7 @@ const TWICE_ABSENT: &[u8] =
 HTTP/1.1 404 Not Found\r\nDate: Thu, 01 Jan 1970 00:00:01 GMT\r\nContent-Length: 0\r\n\r\n";
 
 /// Calls, what a link has for each, what it is answered, and how often the target has failed then.
-const RESPONSES: [(Step, &[u8], &str, u64); 12] = [
+const RESPONSES: [(Step, &[u8], &str, u64); 15] = [
     (Step::List(Dir::Locks), LOCKS, "listed at 1000", 0),
     (Step::Get, b"", "failed", 1),
     (
@@ -106,6 +106,25 @@ const RESPONSES: [(Step, &[u8], &str, u64); 12] = [
         "got blob of 2 bytes at 1000",
         0,
     ),
+    // Longer than is waited for.
+    (
+        Step::GetBlob,
+        b"HTTP/1.1 200 OK\r\nDate: Thu, 01 Jan 1970 00:00:01 GMT\r\nContent-Length: 67108865\r\n\r\nab",
+        "too large, 67108865 bytes",
+        0,
+    ),
+    (
+        Step::List(Dir::Root),
+        b"HTTP/1.1 207 Multi-Status\r\nDate: Thu, 01 Jan 1970 00:00:01 GMT\r\nContent-Length: 268435459\r\n\r\nab",
+        "failed",
+        1,
+    ),
+    (
+        Step::Get,
+        b"HTTP/1.1 404 Not Found\r\nDate: Thu, 01 Jan 1970 00:00:01 GMT\r\nContent-Length: 16777219\r\n\r\nab",
+        "failed",
+        1,
+    ),
 ];
 
 /// Whether a call is answered so over a link that has these bytes, with so many faults.
@@ -132,7 +151,7 @@ fn count_told(alloc: Global) -> Result<usize, Fail> {
 
 #[test]
 fn responses_are_told_or_failed(rt: HostRuntime) -> Result<(), Fail> {
-    assert_eq!(rt; count_told(rt.alloc())?, 12);
+    assert_eq!(rt; count_told(rt.alloc())?, 15);
     Ok(())
 }
 

@@ -1,5 +1,5 @@
-//! Tests of WebDAV: of its messages and their parts, of the client and the server, and of addresses,
-//! over their public calls alone.
+//! Tests of WebDAV: of its messages and their parts, of the client and the server, of addresses and of
+//! links of TCP, over their public calls alone.
 #![tactic(auto)]
 
 #[cfg(test)]
@@ -18,3 +18,5 @@ mod parts;
 mod server;
 #[cfg(test)]
 mod steps;
+#[cfg(test)]
+mod tcp;

@@ -2,7 +2,7 @@ ghost use Rattle.std.specs.Prelude.{List, ℕ};
 ghost use Rattle.jop_target.specs.Replies.{IsCallable};
 
 use anyhow::Context;
-use dav_tcp::TcpLink;
+use dav_tcp::{SteadyClock, TcpLink};
 use jop_base::{Bytes, Copied, Id, Path, Text};
 use jop_target::{Call, Reply, Target};
 use std::alloc::{AllocError, Global};
@@ -17,7 +17,8 @@ const FIRST: &[u8] = b"00000000000000000000000000000001";
 /// Puts so many files over one connection, and prints how many milliseconds that took; then gets them.
 pub fn measure(rt: &HostRuntime, address: &str, count: u64) -> anyhow::Result<()> {
     let alloc = rt.alloc();
-    let link = TcpLink::new(rt.clone()?, Text::of(alloc, address)?);
+    let clock = SteadyClock::new(rt.clone()?);
+    let link = TcpLink::new(rt.clone()?, clock, Text::of(alloc, address)?);
     let mut target = DavTarget::new(link, Text::of(alloc, address)?);
     measure_on(rt, &mut target, count)
 }

@@ -27,7 +27,7 @@ returns-in_err-await_message g c =
     let p = err_from_is_err_and c.from_residual.result c.from_residual.ensures.1 in
     rw (p.1, p.2) (receives_none c.args.call.now (g.L.Link.state c.args.link.now)
     (g.L.Link.state c.await_message.new.link) c.new-kept.result c.await_message.new.kept
-    c.await_message.result _ c.await_message.ensures c.in_err-await_message.was)
+    c.await_message.result _ c.new-kept.ensures c.await_message.ensures c.in_err-await_message.was)
 
 pub returns-in_err-reply : goal.returns-in_err-reply
 returns-in_err-reply g c =
