@@ -4,6 +4,7 @@ ghost use Rattle.jop_base.specs.Paths.{path_text};
 ghost use Rattle.jop_base.specs.declared.time.TheConstants.{MAX_TIME};
 ghost use Rattle.jop_target.specs.Replies.{IsListing};
 ghost use Rattle.jop_target.specs.Store.{limit_of};
+ghost use Rattle.target_files.specs.Listed.{IsUpToMoment, latest_in};
 ghost use Rattle.target_files.specs.Reading.{IsWithin};
 
 use crate::files::{Reading, read};
@@ -46,7 +47,8 @@ where
 {
     /// The files of one of its folders, read while it is at rest. A fault if it comes to none.
     pub fn list(&self, alloc: Global, dir: Dir) -> Result<Listing, Trouble>
-        ensures { IfOk result (IsListing dir) }
+        ensures fits { IfOk result (IsListing dir) }
+        ensures timely { IfOk result (IsUpToMoment dir) }
     {
         let name = self.folder_name(alloc, dir)?;
         let temp = self.temp_name(alloc)?;
@@ -64,7 +66,8 @@ where
         name: &str,
         clock: &mut FileClock<R::File>,
     ) -> Result<Listing, Trouble>
-        ensures { IfOk result (IsListing dir) }
+        ensures fits { IfOk result (IsListing dir) }
+        ensures timely { IfOk result (IsUpToMoment dir) }
     {
         let _turn = turn_at(&self.rt, name, Turn::Alone)?;
         let end = stamp_of(&clock.tell()?).saturating_add(PATIENCE);
@@ -89,7 +92,8 @@ where
         name: &str,
         told: &Metadata,
     ) -> Result<Option<Listing>, Trouble>
-        ensures { IfOk result (λ listing. IfSome listing (IsListing dir)) }
+        ensures fits { IfOk result (λ listing. IfSome listing (IsListing dir)) }
+        ensures timely { IfOk result (λ listing. IfSome listing (IsUpToMoment dir)) }
     {
         let now = stamp_of(told);
         let Some(names) = names_in(&self.rt, alloc, name)? else {
@@ -215,7 +219,8 @@ where
 /// That a folder which isn't there has no files. A root always is there.
 fn none_in(alloc: Global, dir: Dir, now: u64) -> Result<Listing, Trouble>
     requires { now ≤ MAX_TIME }
-    ensures { IfOk result (IsListing dir) }
+    ensures fits { IfOk result (IsListing dir) }
+    ensures timely { IfOk result (IsUpToMoment dir) }
 {
     if dir == Dir::Root {
         return Err(Trouble::Fault);
@@ -230,8 +235,7 @@ fn none_in(alloc: Global, dir: Dir, now: u64) -> Result<Listing, Trouble>
 /// newer to whoever lists it again, and no item may hide the ones that come until its moment has come. A lock has its
 /// own time.
 fn latest_in(dir: Dir, now: u64) -> u64
-    requires { now ≤ MAX_TIME }
-    ensures { result ≤ MAX_TIME }
+    ensures { result ≡ latest_in dir now }
 {
     match dir {
         Dir::Root => now,

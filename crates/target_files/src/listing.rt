@@ -1,6 +1,5 @@
-ghost use Rattle.std.specs.Prelude.{◌≤◌, ◌↔◌, IfOk, IfSome, IsTrue, IsPermutation, IsSorted};
+ghost use Rattle.std.specs.Prelude.{◌↔◌, IfOk, IfSome, IsTrue, IsPermutation, IsSorted};
 ghost use Rattle.jop_base.specs.Order.{path_cmp};
-ghost use Rattle.jop_base.specs.declared.time.TheConstants.{MAX_TIME};
 ghost use Rattle.jop_target.specs.Replies.{IsRising};
 ghost use Rattle.target_files.specs.Listed.{IsEntryOf, AreEntriesOf};
 
@@ -48,8 +47,7 @@ pub(crate) fn entries_of<R: Files, A: Allocator>(
     latest: u64,
     clock: &Path,
 ) -> Result<Seq<Entry>, Trouble>
-    requires { latest ≤ MAX_TIME }
-    ensures { IfOk result (λ entries. AreEntriesOf dir entries × IsRising entries) }
+    ensures { IfOk result (λ entries. AreEntriesOf dir latest entries × IsRising entries) }
 {
     let mut entries = Vec::new(alloc);
     for name in names {
@@ -73,8 +71,7 @@ fn read_entry<R: Files, A: Allocator>(
     latest: u64,
     clock: &Path,
 ) -> Result<Option<Entry>, Trouble>
-    requires { latest ≤ MAX_TIME }
-    ensures { IfOk result (λ entry. IfSome entry (λ e. IsEntryOf dir e × (e.stamp ≤ latest))) }
+    ensures { IfOk result (λ entry. IfSome entry (IsEntryOf dir latest)) }
 {
     let Some(path) = Path::read(dir, name.file_name().as_bytes()) else {
         return Ok(None);
