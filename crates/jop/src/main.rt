@@ -6,7 +6,7 @@ mod words;
 
 use crate::words::read_args;
 use jop_host::{ReaderSource, SystemClock, SystemEntropy, WriterSink};
-use jop_start::{StartErr, Streams, run_named};
+use jop_start::{StartErr, Streams, SystemOpener, run_named};
 use std::process::ExitCode;
 
 fn main(rt: HostRuntime) -> ExitCode {
@@ -16,7 +16,7 @@ fn main(rt: HostRuntime) -> ExitCode {
     })
 }
 
-/// Runs once, with the streams, the clock and the random source of the system.
+/// Runs once, with the files, the streams, the clock and the random source of the system.
 fn start(rt: &HostRuntime) -> Result<u8, StartErr> {
     let words = read_args(rt)?;
     let mut streams = Streams {
@@ -27,7 +27,12 @@ fn start(rt: &HostRuntime) -> Result<u8, StartErr> {
         clock: SystemClock::new(*rt),
         entropy: SystemEntropy::new(*rt),
     };
-    run_named(rt, &words, &mut streams)
+    run_named(
+        rt.alloc(),
+        &words,
+        &mut SystemOpener::new(*rt),
+        &mut streams,
+    )
 }
 
 /// Says why nothing was run, and gives the exit status for it.

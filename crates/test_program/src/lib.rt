@@ -1,10 +1,13 @@
 //! Worked cases, played through [`jop_cli::run`] over all that is outside it: runs of one command, days
 //! of two clients over tables in memory and over records, and, through [`jop_start::run_named`], over
-//! files of tables and a folder. Beside them leases, and histories of all clients.
+//! files of tables and a folder, and what a run asks to be opened. Beside them leases, and histories of
+//! all clients.
 #![tactic(auto)]
 
 #[cfg(test)]
 mod alone;
+#[cfg(test)]
+mod asked;
 #[cfg(test)]
 mod checks;
 #[cfg(test)]

@@ -50,7 +50,7 @@ pub(crate) fn new_entropy(alloc: Global) -> Result<MemEntropy, AllocError> {
 }
 
 /// Words that are given as one line, with a space between each two.
-fn words_of(alloc: Global, line: &str) -> Result<Words, AllocError> {
+pub(crate) fn words_of(alloc: Global, line: &str) -> Result<Words, AllocError> {
     let mut list = Seq::new(alloc);
     for word in line.split(' ') {
         if !word.is_empty() {

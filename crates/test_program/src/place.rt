@@ -2,7 +2,7 @@ use crate::due::{Due, cut, read_due};
 use crate::machine::{entropy_from, source_of};
 use jop_base::{Seq, Text};
 use jop_outside::{MemClock, MemEntropy, MemSink, MemSource};
-use jop_start::{Streams, run_named};
+use jop_start::{Opener, Streams, SystemOpener, run_named};
 use jop_words::Words;
 use std::alloc::{AllocError, Global};
 use std::path::PathBuf;
@@ -10,7 +10,7 @@ use std::test::Fail;
 use std::{env, fs, process};
 
 /// What is outside a command, but for its files.
-type Around = Streams<MemSource, MemSink, MemSink, MemClock, MemEntropy>;
+pub(crate) type Around = Streams<MemSource, MemSink, MemSink, MemClock, MemEntropy>;
 
 /// A folder of this process, in which a target and the tables of its clients stand.
 #[derive(Drop)]
@@ -91,14 +91,8 @@ impl Place {
     }
 
     fn meets(&self, words: &Words, around: &mut Around, due: &Due) -> bool {
-        match run_named(&self.rt, words, around) {
-            Ok(exit) => due.is_met(
-                exit,
-                around.out.written.as_slice(),
-                around.err.written.as_slice(),
-            ),
-            Err(_) => false,
-        }
+        let mut opener = SystemOpener::new(self.rt);
+        is_met(self.rt.alloc(), words, &mut opener, around, due)
     }
 
     /// Whether a command comes out as it is to. Its first random byte is this one.
@@ -124,8 +118,26 @@ impl Place {
     }
 }
 
+/// Whether a command comes out as it is to, on what is opened so.
+pub(crate) fn is_met<P: Opener>(
+    alloc: Global,
+    words: &Words,
+    opener: &mut P,
+    around: &mut Around,
+    due: &Due,
+) -> bool {
+    match run_named(alloc, words, opener, around) {
+        Ok(exit) => due.is_met(
+            exit,
+            around.out.written.as_slice(),
+            around.err.written.as_slice(),
+        ),
+        Err(_) => false,
+    }
+}
+
 /// An input of these bytes, a clock, and random bytes from this one on.
-fn around(alloc: Global, input: &str, first: u8) -> Result<Around, AllocError> {
+pub(crate) fn around(alloc: Global, input: &str, first: u8) -> Result<Around, AllocError> {
     let input = source_of(alloc, input.as_bytes())?;
     let entropy = entropy_from(alloc, first)?;
     Ok(Streams {

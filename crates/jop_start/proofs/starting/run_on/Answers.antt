@@ -1,5 +1,6 @@
-use Rattle.std.proofs.Common.{ap, refl, subst}
+use Rattle.std.proofs.Common.{ap, subst}
 use Rattle.jop_outside.specs.Outside.{SinkNow}
+use Rattle.jop_start.proofs.Started.{begins_as}
 use Rattle.jop_start.specs.Starting.{StreamsNow}
 use Rattle.jop_status.specs.Reports.{Reports}
 use Rattle.jop_start.proofs.starting.run_on.Goals as goal
@@ -9,18 +10,13 @@ returns g c =
     let is = c.streams.view_is in
     record {
       runs = record {
-        first = _;
-        fresh = record { unwritten = c.new-diary.ensures; unchanged = c.new-made.ensures };
-        begins = record {
-          input = ap (λ (s : StreamsNow). s.input) is;
-          out = ap (λ (s : StreamsNow). s.out) is;
-          clock = ap (λ (s : StreamsNow). s.clock) is;
-          entropy = ap (λ (s : StreamsNow). s.entropy) is;
-        };
         status = c.run-status.result;
-        last = _;
-        ends = record { input = refl; out = refl; clock = refl; entropy = refl };
-        does = c.run-status.ensures.does;
+        trail = _;
+        made = _;
+        does = begins_as _ _ _ (record {
+          keeper = g.K.Keeper.state c.args.keeper.now;
+          target = g.T.Target.state c.args.target.now;
+        }) _ _ _ _ is c.new-diary.ensures c.new-made.ensures c.run-status.ensures.does;
         reports = subst (λ (err : SinkNow). Reports err c.run-status.result
             (g.E.Sink.state c.run-status.new.err)) (ap (λ (s : StreamsNow). s.err) is)
             c.run-status.ensures.err;
