@@ -43,6 +43,6 @@ complete -c jop -n '__jop_at 0' -a tidy -d 'read an item text, and print its can
 complete -c jop -n '__jop_at 0' -a upgrade -d 'bring a target to version 3'
 complete -c jop -n '__jop_at 1 attach' -F
 complete -c jop -n '__jop_at 1 conflicts' -l clear -d 'take out one of them'
-complete -c jop -n '__jop_at 2 edit' -l title -d 'another title'
+complete -c jop -n '__jop_at 2 edit' -l title -d 'another title, beside the text'
 complete -c jop -n '__jop_at 2 mkbook' -l in -d 'in this notebook'
 complete -c jop -n '__jop_at 1 check sync upgrade' -a '(__jop_targets)'
