@@ -1,5 +1,5 @@
--- A run that obeys, behind what its client did before and beside what the others do, is part of a
--- history in which all obey.
+-- A run that obeys, behind what its client did before and beside what the others do with an item, is part of a
+-- history in which all do with it what they may.
 use Rattle.std.proofs.Common.{◌≡◌, ◌∙◌, refl, sym, ap, subst, cond, inl, inr, ℕ, List, [], ◌∷◌, ◌++◌, Bool, true, false, Option, Some, None}
 use Rattle.std.specs.Prelude.{All, bytes_eq, option_to_list}
 use Rattle.std.proofs.lemmas.List.Elements.{All-head, All-tail}
@@ -14,7 +14,11 @@ use Rattle.law_licences.specs.Deeds.{Deed, Begins, Asks, Makes, MakesUntold, End
 use Rattle.law_licences.specs.Licences.{Each, MayDo, ObeysData}
 use Rattle.law_licences.specs.Views.{View, seen, at_rest, view_from}
 use Rattle.law_kept.proofs.Clients.{same_or_not}
-use Rattle.law_kept.specs.FairTables.{new_view, ClientObeys, AllObeyData}
+use Rattle.law_kept.proofs.Keeping.{item_obeyed}
+use Rattle.law_kept.specs.Fair.{AllObey, DoesAsItMay}
+use Rattle.law_kept.specs.FairTables.{new_view, ClientObeys}
+use Rattle.law_kept.specs.Telling.{steps_of}
+use Rattle.law_licences.specs.Items.{item_of_file}
 use Rattle.law_kept.specs.Trails.{IsStop, IsUnstopped, AreStops, EndsInRun, OthersObey}
 
 -- ---- deeds
@@ -118,12 +122,12 @@ client_obeys tale client t trail made ends obeys =
     ∙ ap (λ (ds : List Deed). first ++ ds) (deeds_in-append client ends.run ends.later)) in
     subst (λ (ds : List Deed). ObeysData new_view ds) (sym parts) all
 
-pub all_obey_data : (tale : Tale) (client : List ℕ) (t : Tables) (trail : List Event)
-    (made : List Change) → EndsInRun tale client t trail made → OthersObey tale client
-    → ObeysData (at_rest t) (deeds_of trail made) → AllObeyData tale
-all_obey_data tale client t trail made ends others obeys other = elim (same_or_not other client) [
+pub all_obey : (id : List ℕ) (tale : Tale) (client : List ℕ) (t : Tables) (trail : List Event)
+    (made : List Change) → EndsInRun tale client t trail made → OthersObey id tale client
+    → ObeysData (at_rest t) (deeds_of trail made) → AllObey (item_of_file id) (steps_of id tale)
+all_obey id tale client t trail made ends others obeys other = elim (same_or_not other client) [
   | inl same ↦
-      subst (λ (c : List ℕ). ClientObeys tale c) (sym same)
-      (client_obeys tale client t trail made ends obeys)
+      subst (λ (c : List ℕ). DoesAsItMay (item_of_file id) (steps_of id tale) c) (sym same)
+      (item_obeyed id client tale (client_obeys tale client t trail made ends obeys))
   | inr differ ↦ others other differ
 ]

@@ -28,6 +28,7 @@ use Rattle.law_licences.specs.Views.{at_rest, view_from}
 use Rattle.law_kept.proofs.Clients.{same_or_not}
 use Rattle.law_kept.proofs.TaleTold.{told_fair}
 use Rattle.law_kept.specs.Stories.{first_client, second_client}
+use Rattle.law_kept.proofs.Keeping.{item_obeyed}
 use Rattle.law_licences.specs.Stories.{it}
 use Rattle.law_kept.specs.ToldStories.{a_text, first_text, second_text, tells, tells_change, a_told_conflict}
 use Rattle.law_kept.specs.FairTables.{new_view, AllObeyData, IsServed}
@@ -206,8 +207,8 @@ run_ends = record {
   over = tt;
 }
 
-pub others_obey : OthersObey a_told_conflict second_client
-others_obey other differ = all_obey_told other
+pub others_obey : OthersObey it a_told_conflict second_client
+others_obey other differ = item_obeyed it other a_told_conflict (all_obey_told other)
 
 -- ---- its changes are told and allowed
 

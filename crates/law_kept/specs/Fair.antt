@@ -15,9 +15,13 @@ StandsAsRead reads (Some version) = version.item ≡ reads version.bytes
 abbrev pub file_bytes : Option Version → Option (List ℕ)
 file_bytes file = option_map (λ version. version.bytes) file
 
--- each client does what it may, by its own calls and changes
+-- a client does what it may, by its own calls and changes
+abbrev pub DoesAsItMay : (List ℕ → Option Item) → List FileStep → List ℕ → Type 0
+DoesAsItMay reads ss client = obeys reads new_own (acts_by client ss) ≡ true
+
+-- each client does
 abbrev pub AllObey : (List ℕ → Option Item) → List FileStep → Type 0
-AllObey reads ss = (client : List ℕ) → obeys reads new_own (acts_by client ss) ≡ true
+AllObey reads ss = (client : List ℕ) → DoesAsItMay reads ss client
 
 -- The store tells the truth, each client does what it may, and no other client's put lands between a check and the put
 -- that follows it. `reads` says which item bytes are.

@@ -8,7 +8,10 @@ use Rattle.local_store.specs.declared.tables.Tables.{Tables}
 use Rattle.law_licences.specs.Deeds.{Deed, Stops, deeds_in, deeds_of}
 use Rattle.law_licences.specs.Licences.{ObeysData}
 use Rattle.law_licences.specs.Views.{at_rest, view_from}
-use Rattle.law_kept.specs.FairTables.{new_view, ClientObeys, IsServed, KeepsItem}
+use Rattle.law_licences.specs.Items.{item_of_file}
+use Rattle.law_kept.specs.Fair.{DoesAsItMay}
+use Rattle.law_kept.specs.FairTables.{new_view, IsServed, KeepsItem}
+use Rattle.law_kept.specs.Telling.{steps_of}
 
 abbrev pub IsStop : Happening → Type 0
 IsStop Stopped = Unit {0}
@@ -39,15 +42,18 @@ pub record EndsInRun (tale : Tale) (client : List ℕ) (t : Tables) (trail : Lis
   pub whole : All (IsUnstopped client) run
   pub over : AreStops (deeds_in client later)
 
-abbrev pub OthersObey : Tale → List ℕ → Type 0
-OthersObey tale client = (other : List ℕ) → ¬ (other ≡ client) → ClientObeys tale other
+-- Each other client does with the item what it may, by its own calls and changes. What it does besides, and whether the
+-- text that it puts is plain or sealed, is its own matter.
+abbrev pub OthersObey : List ℕ → Tale → List ℕ → Type 0
+OthersObey id tale client =
+    (other : List ℕ) → ¬ (other ≡ client) → DoesAsItMay (item_of_file id) (steps_of id tale) other
 
 -- Whatever history this run is a client's last part of: if the store tells the truth, no other put
--- lands between a check and a put, and all others obey, then no saved note is lost.
+-- lands between a check and a put, and all others do with a note what they may, then no saved text of it is lost.
 abbrev pub KeepsNotes : List ℕ → Tables → List Event → List Change → Type 0
 KeepsNotes client t trail made =
     (id : List ℕ) (tale : Tale) → IsServed id tale → EndsInRun tale client t trail made
-    → OthersObey tale client → KeepsItem id tale
+    → OthersObey id tale client → KeepsItem id tale
 
 -- so it is of each run that obeys from the tables with which it began
 abbrev pub ObeyingRunsKeepNotes : Type 0

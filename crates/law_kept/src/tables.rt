@@ -28,7 +28,8 @@ pub fn notes_are_kept_by_tables()
     ensures kept { (id : List ℕ) (tale : Tale) → IsServed id tale → AllObeyData tale
         → KeepsItem id tale }
 
-    // The same, as one client's run promises it that obeys from the tables with which it began.
+    // The same, as one client's run promises it that obeys from the tables with which it began: of the others it asks
+    // what they do with that note alone.
     ensures joined { ObeyingRunsKeepNotes }
 {}
 
@@ -46,5 +47,5 @@ pub fn clients_can_cross_by_tables()
     ensures told { IsToldWell a_told_conflict }
     ensures run { ObeysData (at_rest new_tables) (deeds_of a_trail a_list) }
     ensures ends { EndsInRun a_told_conflict second_client new_tables a_trail a_list }
-    ensures others { OthersObey a_told_conflict second_client }
+    ensures others { OthersObey it a_told_conflict second_client }
 {}
