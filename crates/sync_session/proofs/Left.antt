@@ -293,6 +293,7 @@ has_left client lease worked old held late new reply taken works same ends = rec
   held = held;
   had = taken.had;
   begun = taken.same;
+  goes = taken.goes;
   late = late;
   works = works;
   left = same;

@@ -1,6 +1,6 @@
 -- What is told of a client, put together.
-use Rattle.std.specs.Prelude.{ℕ, ◌≡◌, List, [], ◌∷◌, ◌++◌, Bool, length, Option, option_map}
-use Rattle.std.proofs.Common.{sym, ◌∙◌, ap, subst, append-nil, append_assoc}
+use Rattle.std.specs.Prelude.{ℕ, ◌≡◌, List, [], ◌∷◌, ◌++◌, Bool, length, map, Option, option_map}
+use Rattle.std.proofs.Common.{refl, sym, ◌∙◌, ap, subst, append-nil, append_assoc}
 use Rattle.client.specs.Sites.{SiteNow, IsSameSite}
 use Rattle.jop_target.specs.declared.call.Call.{Call}
 use Rattle.jop_target.specs.declared.event.Event.{Event}
@@ -12,6 +12,7 @@ use Rattle.law_licences.specs.Deeds.{Deed, Begins, Asks, Makes, MakesUntold, End
 use Rattle.law_licences.specs.Licences.{AreWork, Each, IsInside, MayDo, MayMerge, MergesInfo}
 use Rattle.law_licences.specs.Views.{Shown, View, seen, view_from}
 use Rattle.keeper.specs.Keepers.{KeeperNow}
+use Rattle.keeper.specs.declared.blob.Blob.{Blob}
 use Rattle.local_store.specs.declared.change.Change.{Change}
 use Rattle.session_opening.proofs.Merging.{merges_of}
 use Rattle.session_opening.specs.Opening.{MergesBetween}
@@ -19,7 +20,8 @@ use Rattle.session.proofs.Leased.{kept-same}
 use Rattle.session.proofs.Joins.{count_is, kept_after-append, trail_is}
 use Rattle.session.proofs.LockDeeds.{AreCalls-locks, AreLocks, AreWork-calls, changes_in-calls, obeys-locks, told_locks, view_from-locks}
 use Rattle.session.specs.Doing.{Went}
-use Rattle.session.specs.Saving.{kept_after_saves}
+use Rattle.session.proofs.Saves.{blobs_got-append, blobs_got-locks}
+use Rattle.session.specs.Saving.{Told, blobs_got, kept_after_saves, tale_of}
 use Rattle.session.specs.Work.{MayBeShown, WorkNow, view_of}
 use Rattle.sync_session.proofs.Merging.{merges_own}
 use Rattle.sync_session.specs.Telling.{TellsWork}
@@ -48,9 +50,11 @@ tells_went sort a b shown fits w merges = record {
   tells = record {
     deeds = w.deeds;
     saves = w.saves;
+    owed = w.owed;
     trail = w.trail;
     made = w.made;
     kept = w.kept;
+    got = w.got;
     told = deeds_of-events_of (length a.site.made) w.deeds w.work;
     obeys = w.obeys shown fits;
     merges = merges_of sort a b merges w shown;
@@ -60,9 +64,30 @@ tells_went sort a b shown fits w merges = record {
 
 -- ---- one behind the other
 
-pub tells_on : (v : View) (a b c : SiteNow) (h : TellsWork v a b)
-    → TellsWork (view_from v h.tells.deeds) b c → TellsWork v a c
-tells_on v a b c h k =
+-- bytes that were got and saved before, or behind, deeds that got none
+got_behind : (ds es : List Deed) (xs ys : List Blob) (owed : List Told) → blobs_got ds ≡ [] → xs ≡ []
+    → blobs_got es ≡ map tale_of ys ++ owed → blobs_got (ds ++ es) ≡ map tale_of (xs ++ ys) ++ owed
+got_behind ds es xs ys owed none unsaved got =
+    blobs_got-append ds es
+    ∙ (ap (λ (x : List Told). x ++ blobs_got es) none
+    ∙ (got ∙ ap (λ (x : List Blob). map tale_of (x ++ ys) ++ owed) (sym unsaved)))
+
+got_before : (ds es : List Deed) (xs ys : List Blob) (owed : List Told)
+    → blobs_got ds ≡ map tale_of xs ++ owed → blobs_got es ≡ [] → ys ≡ []
+    → blobs_got (ds ++ es) ≡ map tale_of (xs ++ ys) ++ owed
+got_before ds es xs ys owed got none unsaved =
+    blobs_got-append ds es
+    ∙ (ap (λ (x : List Told). blobs_got ds ++ x) none
+    ∙ (append-nil (blobs_got ds)
+    ∙ (got ∙ ap (λ (x : List Blob). map tale_of x ++ owed)
+    (sym (ap (λ (x : List Blob). xs ++ x) unsaved ∙ append-nil xs)))))
+
+tells_on : (v : View) (a b c : SiteNow) (h : TellsWork v a b)
+    (k : TellsWork (view_from v h.tells.deeds) b c) (owed : List Told)
+    → blobs_got (h.tells.deeds ++ k.tells.deeds)
+    ≡ map tale_of (h.tells.saves ++ k.tells.saves) ++ owed
+    → TellsWork v a c
+tells_on v a b c h k owed got =
     let n = length a.made in
     let m = length b.made in
     let ds = h.tells.deeds in
@@ -76,6 +101,8 @@ tells_on v a b c h k =
       tells = record {
         deeds = ds ++ es;
         saves = h.tells.saves ++ k.tells.saves;
+        owed = owed;
+        got = got;
         trail = trail_is a.line.trail b.line.trail c.line.trail n m ds es h.tells.trail
             k.tells.trail both;
         made =
@@ -114,6 +141,8 @@ nothing_put v (Stops ∷ ds) client h = absurd h
 pub record TellsLocks (client : List ℕ) (v : View) (a b : SiteNow) : Type 0 where
   pub work : TellsWork v a b
   pub same : view_from v work.tells.deeds ≡ v
+  pub unsaved : work.tells.saves ≡ []
+  pub ungot : blobs_got work.tells.deeds ≡ []
 
 pub tells_locks : (client : List ℕ) (v : View) (a b : SiteNow) → IsInside v.stage
     → IsSameSite a b → LeaseGoesOn client a.line b.line → TellsLocks client v a b
@@ -127,6 +156,8 @@ tells_locks client v a b inside same goes =
         tells = record {
           deeds = told.deeds;
           saves = [];
+          owed = [];
+          got = blobs_got-locks client told.deeds told.locks;
           trail = goes.line.trail ∙ ap (λ (es : List Event). a.line.trail ++ es) (sym told.told);
           made =
               same.made ∙ (sym (append-nil a.made)
@@ -141,20 +172,29 @@ tells_locks client v a b inside same goes =
         work = AreWork-calls told.deeds calls;
       };
       same = view_from-locks client v told.deeds told.locks;
+      unsaved = refl;
+      ungot = blobs_got-locks client told.deeds told.locks;
     }
 
 -- behind work of the session
 pub tells_left : (client : List ℕ) (v : View) (a b c : SiteNow) → IsInside v.stage
     → TellsWork v a b → IsSameSite b c → LeaseGoesOn client b.line c.line → TellsWork v a c
 tells_left client v a b c inside h same goes =
-    tells_on v a b c h
-    (tells_locks client (view_from v h.tells.deeds) b c
-    (inside-work v h.tells.deeds inside h.work) same goes).work
+    let locks = tells_locks client (view_from v h.tells.deeds) b c
+    (inside-work v h.tells.deeds inside h.work) same goes in
+    let l = locks.work.tells in
+    tells_on v a b c h locks.work h.tells.owed
+    (got_before h.tells.deeds l.deeds h.tells.saves l.saves h.tells.owed h.tells.got locks.ungot
+    locks.unsaved)
 
 -- or before it
 pub tells_had : (client : List ℕ) (v : View) (a b c : SiteNow) → IsInside v.stage
     → IsSameSite a b → LeaseGoesOn client a.line b.line → TellsWork v b c → TellsWork v a c
 tells_had client v a b c inside same goes k =
     let locks = tells_locks client v a b inside same goes in
-    tells_on v a b c locks.work
-    (subst (λ (w : View). TellsWork w b c) (sym locks.same) k)
+    let l = locks.work.tells in
+    let m : TellsWork (view_from v l.deeds) b c =
+    subst (λ (w : View). TellsWork w b c) (sym locks.same) k in
+    tells_on v a b c locks.work m m.tells.owed
+    (got_behind l.deeds m.tells.deeds l.saves m.tells.saves m.tells.owed locks.ungot locks.unsaved
+    m.tells.got)

@@ -19,7 +19,8 @@ use Rattle.law_licences.specs.Licences.{AreWork, Each, MayDo, MayMerge}
 use Rattle.law_licences.specs.Views.{View, at_rest}
 use Rattle.local_store.specs.declared.change.Change.{Change}
 use Rattle.session.proofs.Leased.{kept-same}
-use Rattle.session.specs.Saving.{kept_after_saves}
+use Rattle.session.proofs.Saves.{blobs_got-append}
+use Rattle.session.specs.Saving.{blobs_got, kept_after_saves}
 use Rattle.session.specs.Steps.{IsStep}
 use Rattle.sync_run.proofs.Starved.{none_failed_begun, none_failed_unbegun}
 use Rattle.sync_run.proofs.Whole.{before_end, as_marked}
@@ -39,13 +40,15 @@ use Rattle.sync_session.specs.declared.sync_err.SyncErr.TheVariants.{Busy, Lease
 -- nothing was done
 pub tells_nothing : (v : View) (d e : SiteNow) → e.line.trail ≡ d.line.trail → e.made ≡ d.made
     → e.keeper.kept ≡ d.keeper.kept → Tells v d e
-unfolding events_of changes_in deeds_of Each
+unfolding events_of changes_in deeds_of Each blobs_got
 tells_nothing v d e trail made kept = record {
   deeds = [];
   saves = [];
+  owed = [];
   trail = trail ∙ sym (append-nil d.line.trail);
   made = made ∙ sym (append-nil d.made);
   kept = kept ∙ kept-same d.keeper.kept [] refl;
+  got = refl;
   told = refl;
   obeys = tt;
   merges = tt;
@@ -54,15 +57,17 @@ tells_nothing v d e trail made kept = record {
 -- the session has begun, and goes on
 pub tells_begun : (old now : SiteNow) → TellsWork (begun_view old.tables) (begun_at old) now
     → Tells (at_rest old.tables) old now
-unfolding events_of changes_in deeds_of Each
+unfolding events_of changes_in deeds_of Each blobs_got
 tells_begun old now h = record {
   deeds = Begins ∷ h.tells.deeds;
   saves = h.tells.saves;
+  owed = h.tells.owed;
   trail =
       h.tells.trail
       ∙ append_assoc old.line.trail (Began ∷ []) (events_of (length old.made) h.tells.deeds);
   made = h.tells.made;
   kept = h.tells.kept;
+  got = h.tells.got;
   told = ap (λ (ds : List Deed). Begins ∷ ds) h.tells.told;
   obeys = (tt, h.tells.obeys);
   merges = (tt, h.tells.merges);
@@ -86,7 +91,7 @@ deeds_ended n (Stops ∷ ds) work = absurd work
 -- and has ended
 pub tells_ended : (old mid : SiteNow) → TellsWork (begun_view old.tables) (begun_at old) mid
     → Tells (at_rest old.tables) old (ended_at mid)
-unfolding events_of changes_in deeds_of Each
+unfolding events_of changes_in deeds_of Each blobs_got
 tells_ended old mid h =
     let n = length old.made in
     let ds = h.tells.deeds in
@@ -98,6 +103,8 @@ tells_ended old mid h =
     record {
       deeds = Begins ∷ (ds ++ Ends ∷ []);
       saves = h.tells.saves;
+      owed = h.tells.owed;
+      got = blobs_got-append ds (Ends ∷ []) ∙ (append-nil (blobs_got ds) ∙ h.tells.got);
       trail =
           ap (λ (es : List Event). es ++ Ended ∷ [])
           (h.tells.trail ∙ append_assoc old.line.trail (Began ∷ []) (events_of n ds))

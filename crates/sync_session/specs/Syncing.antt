@@ -14,7 +14,7 @@ use Rattle.jop_target.specs.declared.event.Event.{Event}
 use Rattle.jop_target.specs.declared.event.Event.TheVariants.{Began, Called, Ended}
 use Rattle.jop_target.specs.declared.reply.Reply.{Reply}
 use Rattle.jop_target.specs.declared.reply.Reply.TheVariants.{Failed}
-use Rattle.lease.specs.Calls.{Fails, GoesOn}
+use Rattle.lease.specs.Calls.{Fails, GoesOn, LeaseGoesOn}
 use Rattle.lease.specs.Discipline.{ends_released, phase_of}
 use Rattle.lease.specs.Locks.{own_name}
 use Rattle.lease.specs.Outcomes.{HasAcquired, HasMissed, IsBlocked}
@@ -45,13 +45,15 @@ use Rattle.sync_session.specs.declared.sync_err.SyncErr.TheVariants.{Busy, Lease
 
 -- ---- why
 
--- The lease was had, the work under it came to this, and then its lock was deleted, which is the last call.
+-- The lease was had by its own calls alone, the work under it came to this, and then its lock was deleted, which is the
+-- last call.
 pub record HasLeftSync (client : List ℕ) (worked : Result (Unit {0}) SyncErr) (old new : SiteNow)
     : Type 0 where
   pub lease : Lease
   pub held : SiteNow
   pub had : HasAcquired Sync client held.line.trail lease
   pub begun : IsSameSite old held
+  pub goes : LeaseGoesOn client old.line held.line
   pub late : WorkNow
   pub works : SyncWorks (work held lease new_report) worked late
   pub left : IsSameSite late.site new
