@@ -33,7 +33,7 @@ got_last trail reply ends = (
 
 -- what an upgrade has read for which it was refused is what was heard last
 heard_last : (keeper : KeeperNow) (why : Refusal) (trail : List Event) →
-    RefusesUpgrade why trail → WasRefused keeper why (session_calls trail)
+    RefusesUpgrade why trail → WasRefused keeper why Exclusive (session_calls trail)
 heard_last keeper (TargetNewer version) trail h =
     let got = h.got in (
       h.newer,

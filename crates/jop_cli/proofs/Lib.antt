@@ -1,8 +1,10 @@
 mod Checked
 mod Constants
+pub mod Whole
 mod Heard
 mod Licensed
 mod Local
+pub mod Opened
 mod OwnLicences
 mod Owned
 mod Runs

@@ -1,5 +1,5 @@
 -- Why a sync's session ended so.
-use Rattle.std.proofs.Common.{◌≡◌, ◌∙◌, sym, ap, subst, inl, inr, ℕ, List, [], ◌∷◌, ◌++◌, append_assoc}
+use Rattle.std.proofs.Common.{◌≡◌, ◌∙◌, refl, sym, ap, subst, inl, inr, ℕ, List, [], ◌∷◌, ◌++◌, append_assoc}
 use Rattle.std.proofs.Common.{Option, Result, Err}
 use Rattle.std.proofs.lemmas.List.{append_cancel_right}
 use Rattle.conflicts.specs.Reports.{new_report}
@@ -8,6 +8,7 @@ use Rattle.conflicts.specs.declared.refusal.Refusal.TheVariants.{TargetOlder, Ta
 use Rattle.conflicts.specs.declared.report.SyncReport.{SyncReport}
 use Rattle.client.specs.Sites.{SiteNow, IsSameSite}
 use Rattle.download.specs.Reading.{RefusesDownload}
+use Rattle.jop_base.specs.declared.lock_name.LockKind.{LockKind}
 use Rattle.jop_base.specs.declared.lock_name.LockKind.TheVariants.{Sync}
 use Rattle.jop_target.specs.declared.event.Event.TheVariants.{Began, Ended}
 use Rattle.lease.specs.Phase.{Held}
@@ -29,7 +30,8 @@ use Rattle.sync_session.specs.Working.{RefusesOpened, RefusesSync, Sends, is_syn
 use Rattle.sync_session.specs.declared.sync_err.SyncErr.{SyncErr}
 use Rattle.sync_session.specs.declared.sync_err.SyncErr.TheVariants.{Refused}
 use Rattle.jop_cli.proofs.Heard.{found, found_bad}
-use Rattle.jop_cli.specs.Causes.{HasLeftHaving, WasRefused}
+use Rattle.jop_cli.proofs.Opened.{just_opened}
+use Rattle.jop_cli.specs.Causes.{HasJustOpened, HasLeftHaving, WasRefused}
 
 -- ---- the trail
 
@@ -52,9 +54,9 @@ same_lease : (client : List ℕ) (had late : Lease) → had ≡ lease_of client 
 same_lease client had late is same = same ∙ ap (λ (l : Lease). record l { stamp = late.stamp }) is
 
 -- the session left its lease behind calls that had come to this
-pub left_as : (Had : List Heard → Type 0) (client : List ℕ) (worked : Result (Unit {0}) SyncErr)
+pub left_as : (Had : LockKind → List Heard → Type 0) (client : List ℕ) (worked : Result (Unit {0}) SyncErr)
     (old new : SiteNow) (h : HasLeftSync client worked old new) → IsReady h.late.site h.late.lease →
-    IsSameBut h.lease h.late.lease → Had (session_calls h.late.site.line.trail) →
+    IsSameBut h.lease h.late.lease → Had Sync (session_calls h.late.site.line.trail) →
     HasLeftHaving Had Sync client new.line.trail
 left_as Had client worked old new h ready same had = record {
   before = h.late.site.line.trail;
@@ -73,7 +75,7 @@ left_as Had client worked old new h ready same had = record {
 abbrev Shows : KeeperNow → Refusal → Part → Type 0
 Shows keeper why P =
     (v : View) (ds : List Deed) → P v ds → IsOfKept keeper.kept (view_from v ds).tables →
-    WasRefused keeper why (view_from v ds).calls
+    WasRefused keeper why Sync (view_from v ds).calls
 
 shows_behind : (keeper : KeeperNow) (why : Refusal) (P Q : Part) → Shows keeper why Q →
     Shows keeper why (Then P Q)
@@ -81,7 +83,7 @@ shows_behind keeper why P Q shows v ds h told =
     let w = view_from v h.first in
     let same : view_from v ds ≡ view_from w h.second =
     ap (λ (x : List Deed). view_from v x) h.both ∙ view_from-append v h.first h.second in
-    subst (λ (u : View). WasRefused keeper why u.calls) (sym same)
+    subst (λ (u : View). WasRefused keeper why Sync u.calls) (sym same)
     (shows w h.second h.behind (subst (λ (u : View). IsOfKept keeper.kept u.tables) same told))
 
 -- for its target
@@ -93,39 +95,56 @@ by_target keeper why v ds h told = absurd h
 
 -- for its keys
 by_keys : (keeper : KeeperNow) (why : Refusal) (t : Tables) (calls : List Heard) →
-    RefusesKeys why t → IsOfKept keeper.kept t → WasRefused keeper why calls
-by_keys keeper (NoKey key) t calls h told =
-    record { tables = t; told = told; needs = h.0; active = h.1 }
-by_keys keeper why t calls h told = absurd h
+    RefusesKeys why t → IsOfKept keeper.kept t → HasJustOpened t.info calls →
+    WasRefused keeper why Sync calls
+by_keys keeper (NoKey key) t calls h told opened =
+    (refl, record { tables = t; told = told; opened = opened; needs = h.0; active = h.1 })
+by_keys keeper why t calls h told opened = absurd h
 
 -- for what it listed
 by_listing : (keeper : KeeperNow) (why : Refusal) → Shows keeper why (RefusesDownload why)
 unfolding view_from
-by_listing keeper (FailSafe count) v ds h told = record {
-  listing = h.listing;
-  last = (v.calls, ap (λ (x : List Deed). (view_from v x).calls) h.listed);
-  tables = v.tables;
-  told = subst (λ (t : Tables). IsOfKept keeper.kept t)
-      (ap (λ (x : List Deed). (view_from v x).tables) h.listed) told;
-  rows = h.rows;
-}
+by_listing keeper (FailSafe count) v ds h told = (
+  refl,
+  record {
+    listing = h.listing;
+    last = (v.calls, ap (λ (x : List Deed). (view_from v x).calls) h.listed);
+    tables = v.tables;
+    told = subst (λ (t : Tables). IsOfKept keeper.kept t)
+        (ap (λ (x : List Deed). (view_from v x).tables) h.listed) told;
+    rows = h.rows;
+  },
+)
 by_listing keeper why v ds h told = absurd h
 
-by_opened : (keeper : KeeperNow) (kept : Option Kept) (why : Refusal) →
-    Shows keeper why (RefusesOpened kept why)
+-- behind an opening
+by_opened : (keeper : KeeperNow) (kept : Option Kept) (why : Refusal) (v : View) (ds : List Deed) →
+    HasJustOpened v.tables.info v.calls → RefusesOpened kept why v ds →
+    IsOfKept keeper.kept (view_from v ds).tables →
+    WasRefused keeper why Sync (view_from v ds).calls
 unfolding view_from
-by_opened keeper kept why v ds (inl h) told =
-    by_keys keeper why v.tables (view_from v ds).calls h.0
+by_opened keeper kept why v ds opened (inl h) told =
+    subst (λ (x : List Deed). WasRefused keeper why Sync (view_from v x).calls) (sym h.1)
+    (by_keys keeper why v.tables v.calls h.0
     (subst (λ (t : Tables). IsOfKept keeper.kept t)
-    (ap (λ (x : List Deed). (view_from v x).tables) h.1) told)
-by_opened keeper kept why v ds (inr h) told =
+    (ap (λ (x : List Deed). (view_from v x).tables) h.1) told) opened)
+by_opened keeper kept why v ds opened (inr h) told =
     shows_behind keeper why (Sends kept) (RefusesDownload why) (by_listing keeper why) v ds h told
+
+by_opening : (keeper : KeeperNow) (kept : Option Kept) (why : Refusal) →
+    Shows keeper why (Then Opens (RefusesOpened kept why))
+by_opening keeper kept why v ds h told =
+    let w = view_from v h.first in
+    let same : view_from v ds ≡ view_from w h.second =
+    ap (λ (x : List Deed). view_from v x) h.both ∙ view_from-append v h.first h.second in
+    subst (λ (u : View). WasRefused keeper why Sync u.calls) (sym same)
+    (by_opened keeper kept why w h.second (just_opened v h.first h.before) h.behind
+    (subst (λ (u : View). IsOfKept keeper.kept u.tables) same told))
 
 by_any : (keeper : KeeperNow) (kept : Option Kept) (why : Refusal) →
     Shows keeper why (RefusesSync kept why)
 by_any keeper kept why v ds (inl h) told = by_target keeper why v ds h told
-by_any keeper kept why v ds (inr h) told =
-    shows_behind keeper why Opens (RefusesOpened kept why) (by_opened keeper kept why) v ds h told
+by_any keeper kept why v ds (inr h) told = by_opening keeper kept why v ds h told
 
 -- the tables of a session that is left are those that are kept, if that is told
 told_still : (late new : SiteNow) → IsSameSite late new → IsOfKept late.keeper.kept late.tables →
@@ -141,6 +160,6 @@ refused client old new why h =
     let kept = h.held.keeper.kept in
     left_as (WasRefused new.keeper why) client (Err (Refused why)) old new h does.ready
     does.went.same
-    (behind (λ t cs u us. IsOfKept new.keeper.kept u → WasRefused new.keeper why us)
+    (behind (λ t cs u us. IsOfKept new.keeper.kept u → WasRefused new.keeper why Sync us)
     (RefusesSync kept why) is_sync (work h.held h.lease new_report) h.late
     (by_any new.keeper kept why) does (told_still h.late.site new h.left does.told.tidy.told))

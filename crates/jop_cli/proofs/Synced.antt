@@ -28,6 +28,7 @@ use Rattle.jop_target.specs.declared.event.Event.{Event}
 use Rattle.jop_target.specs.declared.event.Event.TheVariants.{Began, Ended}
 use Rattle.jop_words.specs.declared.target_name.TargetName.{TargetName}
 use Rattle.jop_words.specs.declared.verb.Verb.TheVariants.{Sync}
+use Rattle.law_licences.specs.Views.{Heard}
 use Rattle.keeper.specs.Keepers.{KeeperNow}
 use Rattle.lease.specs.Calls.{EndsFailed}
 use Rattle.lease.specs.Outcomes.{HasMissed, IsBlocked}
@@ -123,7 +124,8 @@ explained_refusal target client before named after t late error h later uncalled
 
       -- the lease was left behind calls that had come to this
       left_behind : (e : SyncErr) (h : IsWholeSync client old (Err e) new)
-          (Had : List _ → Type 0) → HasLeftHaving Had kinds.Sync client h.last.line.trail →
+          (Had : LockKind → List Heard → Type 0) →
+          HasLeftHaving Had kinds.Sync client h.last.line.trail →
           HasEnded (Some (Sync target)) after.keeper after.line.trail (HasLeftHaving Had)
       left_behind e h Had left =
           ended target client named after h.whole.middle

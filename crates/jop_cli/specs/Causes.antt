@@ -10,16 +10,17 @@ use Rattle.jop_outside.specs.Outside.{HasRisen, SourceNow}
 use Rattle.jop_outside.specs.Reading.{WasTooLarge}
 use Rattle.jop_base.specs.declared.dir.Dir.TheVariants.{Root}
 use Rattle.jop_base.specs.declared.lock_name.LockKind.{LockKind}
+use Rattle.jop_base.specs.declared.lock_name.LockKind.TheVariants.{Sync}
 use Rattle.jop_base.specs.declared.path.Path.TheVariants.{Info as InfoFile, Lock as LockFile, OldVersion}
 use Rattle.jop_target.specs.Replies.{TargetNow}
 use Rattle.jop_target.specs.Runs.{has_failed}
 use Rattle.jop_target.specs.declared.call.Call.{Call}
-use Rattle.jop_target.specs.declared.call.Call.TheVariants.{Delete, Get, List as ListDir}
+use Rattle.jop_target.specs.declared.call.Call.TheVariants.{Delete, Get, Put, List as ListDir}
 use Rattle.jop_target.specs.declared.event.Event.{Event}
 use Rattle.jop_target.specs.declared.event.Event.TheVariants.{Began, Called, Ended}
 use Rattle.jop_target.specs.declared.reply.Listing.{Listing}
 use Rattle.jop_target.specs.declared.reply.Reply.{Reply}
-use Rattle.jop_target.specs.declared.reply.Reply.TheVariants.{Absent, Listed}
+use Rattle.jop_target.specs.declared.reply.Reply.TheVariants.{Absent, Done, Listed}
 use Rattle.lease.specs.Locks.{own_name}
 use Rattle.lease.specs.Outcomes.{HasMissed, IsBlocked}
 use Rattle.lease.specs.Phase.{Held, Phase}
@@ -35,6 +36,8 @@ use Rattle.local_commands.specs.declared.local_err.LocalErr.TheVariants.{NotFoun
 use Rattle.keeper.specs.Keepers.{IsOfKept, KeeperNow}
 use Rattle.local_store.specs.declared.tables.Tables.{Tables}
 use Rattle.session_opening.specs.Opening.{IsOldVersion}
+use Rattle.sync_info.specs.Json.{info_text}
+use Rattle.sync_info.specs.Merge.{merged}
 use Rattle.sync_info.specs.declared.info.Info.{Info}
 use Rattle.sync_session.specs.Keys.{IsActiveKey, needs_key}
 use Rattle.target_upgrade.specs.Reading.{GivesInfo, IsBadReply}
@@ -136,37 +139,56 @@ pub record HasListedNone (keeper : KeeperNow) (count : ℕ) (calls : List Heard)
   pub told : IsOfKept keeper.kept tables
   pub rows : emptied_by (shown_to tables listing) ≡ Some count
 
--- Something waits that is to be sealed with this key, which isn't known. The tables are those that are
--- kept, if that is told.
-pub record WantsKey (keeper : KeeperNow) (key : Option (List ℕ)) : Type 0 where
+-- the info was got last, or it was got and then put as this one, and nothing was called since
+abbrev pub AreOpening : Info → Reply → List Heard → Type 0
+AreOpening info reply calls =
+    IsHeardLast (Get InfoFile) reply calls
+    ⊎ ((now : ℕ) × (earlier : List Heard) × IsHeardLast (Get InfoFile) reply earlier
+    × (calls ≡ record { call = Put InfoFile (info_text info); reply = Some (Done now) } ∷ earlier))
+
+-- A session was opened, and nothing was called since. This info is the client's own and the one that was got, as one.
+pub record HasJustOpened (info : Info) (calls : List Heard) : Type 0 where
+  pub own : Info
+  pub remote : Info
+  pub merge : info ≡ merged own remote
+  pub reply : Reply
+  pub gives : GivesInfo remote reply
+  pub last : AreOpening info reply calls
+
+-- The session was just opened, and something waits that is to be sealed with this key, which isn't
+-- known. The tables are those that are kept, if that is told.
+pub record WantsKey (keeper : KeeperNow) (key : Option (List ℕ)) (calls : List Heard) : Type 0 where
   pub tables : Tables
   pub told : IsOfKept keeper.kept tables
+  pub opened : HasJustOpened tables.info calls
   pub needs : needs_key tables ≡ true
   pub active : IsActiveKey tables.info.active.value key
 
--- A row for each refusal of a session: what its calls had come to, and the tables that are kept.
-abbrev pub WasRefused : KeeperNow → Refusal → List Heard → Type 0
-WasRefused keeper (TargetOlder version) calls =
+-- A row for each refusal of a session under a lease of this kind: what its calls had come to, and the tables that are
+-- kept.
+abbrev pub WasRefused : KeeperNow → Refusal → LockKind → List Heard → Type 0
+WasRefused keeper (TargetOlder version) kind calls =
     (version < SUPPORTED) × HasFoundVersion version calls
-WasRefused keeper (TargetNewer version) calls =
+WasRefused keeper (TargetNewer version) kind calls =
     (SUPPORTED < version) × HasFoundVersion version calls
-WasRefused keeper BadInfo calls = HasGotBad calls
-WasRefused keeper (FailSafe count) calls = HasListedNone keeper count calls
-WasRefused keeper (NoKey key) calls = WantsKey keeper key
+WasRefused keeper BadInfo kind calls = HasGotBad calls
+WasRefused keeper (FailSafe count) kind calls = (kind ≡ Sync) × HasListedNone keeper count calls
+WasRefused keeper (NoKey key) kind calls = (kind ≡ Sync) × WantsKey keeper key calls
 
 -- It held its lease, and its calls but those about locks, the last one first, had come to this; then
 -- its lock was deleted, which is the last call.
-pub record HasLeftHaving (Had : List Heard → Type 0) (kind : LockKind) (client : List ℕ)
-    (trail : List Event) : Type 0 where
+pub record HasLeftHaving (Had : LockKind → List Heard → Type 0) (kind : LockKind)
+    (client : List ℕ) (trail : List Event) : Type 0 where
   pub before : List Event
   pub stamp : ℕ
   pub held : StandsIn client before (Held kind stamp)
-  pub had : Had (session_calls before)
+  pub had : Had kind (session_calls before)
   pub reply : Reply
   pub ends : trail ≡ before ++ Called (Delete (LockFile (own_name kind client))) reply ∷ []
 
 -- the session left its lease once its calls had come to this
-abbrev pub HasLeftBehind : Option Verb → KeeperNow → List Event → (List Heard → Type 0) → Type 0
+abbrev pub HasLeftBehind : Option Verb → KeeperNow → List Event
+    → (LockKind → List Heard → Type 0) → Type 0
 HasLeftBehind verb keeper trail Had = HasEnded verb keeper trail (HasLeftHaving Had)
 
 -- ---- each status

@@ -6,8 +6,10 @@
 #![tactic(auto)]
 
 mod command;
+mod laws;
 mod program;
 mod report;
 mod world;
 
+pub use laws::headline;
 pub use program::run;
