@@ -2,7 +2,7 @@
 use Rattle.std.specs.Prelude.{ℕ, List, [], ◌∷◌, ◌++◌, codes, Bool, true, false, Some, None}
 use Rattle.std.specs.Fmt.{decimal}
 use Rattle.conflicts.specs.declared.refusal.Refusal.TheVariants as refusals
-use Rattle.jop_base.specs.LockNames.{file_name}
+use Rattle.jop_base.specs.LockNames.{Name, file_name}
 use Rattle.item_text.specs.declared.bad_item.BadWhy.{BadWhy}
 use Rattle.item_text.specs.declared.bad_item.BadWhy.TheVariants.{NotText, NoColon, NoType, TypeValue}
 use Rattle.target_upgrade.specs.Steps.{SUPPORTED}
@@ -24,6 +24,14 @@ line_of text = text ++ 10 ∷ []
 abbrev pub usage_line : List ℕ
 usage_line = codes "usage: jop [--profile PATH] COMMAND" ++ 10 ∷ []
 
+-- the name of the lock that is in the way, and its stamp
+abbrev pub busy_text : Name → ℕ → List ℕ
+busy_text name stamp = codes "busy " ++ (file_name name ++ (codes " " ++ decimal stamp))
+
+-- a number between two words
+abbrev pub within_text : List ℕ → ℕ → List ℕ → List ℕ
+within_text word number behind = word ++ (decimal number ++ behind)
+
 -- why a text is no item's, in words
 abbrev pub why_text : BadWhy → List ℕ
 why_text NotText = codes "not text"
@@ -36,11 +44,14 @@ abbrev pub version_text : ℕ → List ℕ → List ℕ
 version_text version stands =
     codes "target version " ++ (decimal version ++ (stands ++ decimal SUPPORTED))
 
+-- the line of a text that is no item's, and why
+abbrev pub bad_item_text : ℕ → List ℕ → List ℕ
+bad_item_text line why = codes "bad item line " ++ (decimal line ++ (codes " " ++ why))
+
 abbrev pub row_of : Status → StatusRow
 row_of statuses.Ok = row 0 []
 row_of statuses.Usage = row 2 usage_line
-row_of (statuses.Busy lock now) =
-    row 3 (line_of (codes "busy " ++ (file_name lock.name ++ (codes " " ++ decimal lock.stamp))))
+row_of (statuses.Busy lock now) = row 3 (line_of (busy_text lock.name lock.stamp))
 row_of (statuses.LeaseLost seen) = row 4 (line_of (codes "lease lost"))
 row_of (statuses.Refused (refusals.TargetOlder version)) =
     row 5 (line_of (version_text version (codes " is older than ")))
@@ -48,7 +59,7 @@ row_of (statuses.Refused (refusals.TargetNewer version)) =
     row 6 (line_of (version_text version (codes " is newer than ")))
 row_of (statuses.Refused refusals.BadInfo) = row 7 (line_of (codes "info.json is not readable"))
 row_of (statuses.Refused (refusals.FailSafe count)) =
-    row 8 (line_of (codes "no items on the target, " ++ (decimal count ++ codes " kept here")))
+    row 8 (line_of (within_text (codes "no items on the target, ") count (codes " kept here")))
 row_of statuses.TargetFault = row 9 (line_of (codes "target fault"))
 row_of statuses.KeeperFault = row 10 (line_of (codes "keeper fault"))
 row_of statuses.SourceFault = row 11 (line_of (codes "input fault"))
@@ -61,8 +72,7 @@ row_of (statuses.TimeEnd id) = row 17 (line_of (codes "time end " ++ id))
 row_of (statuses.TooLarge length) = row 18 (line_of (codes "too large " ++ decimal length))
 row_of (statuses.Refused (refusals.NoKey None)) = row 20 (line_of (codes "no key"))
 row_of (statuses.Refused (refusals.NoKey (Some id))) = row 20 (line_of (codes "no key " ++ id))
-row_of (statuses.BadItem bad) =
-    row 21 (line_of (codes "bad item line " ++ (decimal bad.line ++ (codes " " ++ why_text bad.why))))
+row_of (statuses.BadItem bad) = row 21 (line_of (bad_item_text bad.line (why_text bad.why)))
 row_of statuses.NoMemory = row 22 (line_of (codes "no memory"))
 row_of (statuses.NoConflict number) =
     row 23 (line_of (codes "no conflict " ++ decimal number))

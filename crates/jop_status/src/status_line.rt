@@ -1,8 +1,14 @@
-ghost use Rattle.std.specs.Prelude.{◌≡◌, ◌++◌, codes};
+ghost use Rattle.std.specs.Prelude.{◌≡◌, ◌++◌};
 ghost use Rattle.std.specs.Fmt.{decimal};
-ghost use Rattle.jop_base.specs.LockNames.{file_name};
 ghost use Rattle.jop_outside.specs.Writing.{WritesAll};
-ghost use Rattle.jop_status.specs.Statuses.{line_of, version_text, why_text};
+ghost use Rattle.jop_status.specs.Statuses.{
+  bad_item_text,
+  busy_text,
+  line_of,
+  version_text,
+  why_text,
+  within_text,
+};
 
 use crate::piece::{Piece, write_pieces};
 use item_text::BadWhy;
@@ -12,8 +18,8 @@ use target_upgrade::SUPPORTED;
 
 /// Writes the name of the lock that is in the way, and its stamp.
 pub(crate) fn write_busy<E: Sink>(err: &mut E, name: LockName, stamp: u64) -> Result<(), Failed>
-    ensures { let text = codes "busy " ++ (file_name name ++ (codes " " ++ decimal stamp)) in
-        WritesAll (E.state err.old) (line_of text) result (E.state err.new) }
+    ensures { WritesAll (E.state err.old) (line_of (busy_text name stamp)) result
+        (E.state err.new) }
 {
     write_pieces(
         err,
@@ -58,8 +64,8 @@ pub(crate) fn write_within<'w, E: Sink>(
     number: u64,
     behind: &'w str,
 ) -> Result<(), Failed>
-    ensures { let text = word.now ++ (decimal number ++ behind.now) in
-        WritesAll (E.state err.old) (line_of text) result (E.state err.new) }
+    ensures { WritesAll (E.state err.old) (line_of (within_text word.now number behind.now)) result
+        (E.state err.new) }
 {
     write_pieces(
         err,
@@ -91,8 +97,8 @@ pub(crate) fn write_number<E: Sink>(err: &mut E, word: &str, number: u64) -> Res
 }
 
 pub(crate) fn write_bad_item<E: Sink>(err: &mut E, line: u64, why: &str) -> Result<(), Failed>
-    ensures { let text = codes "bad item line " ++ (decimal line ++ (codes " " ++ why.now)) in
-        WritesAll (E.state err.old) (line_of text) result (E.state err.new) }
+    ensures { WritesAll (E.state err.old) (line_of (bad_item_text line why.now)) result
+        (E.state err.new) }
 {
     write_pieces(
         err,
