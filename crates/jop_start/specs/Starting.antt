@@ -54,8 +54,8 @@ abbrev pub outside_with : StreamsNow → OpenNow → List Event → List Change 
 outside_with s held trail made =
     outside_of trail held.target held.keeper made s.input s.out s.clock s.entropy
 
--- With nothing written down yet, it was done what the words mean. It ended with a status: that is reported, and its exit
--- status is this one.
+-- With nothing written down yet, it was done what the words mean. It ended with a status: that is
+-- reported, and its exit status is this one.
 pub record IsRunOn (verb : Option Verb) (before after : StreamsNow) (exit : ℕ)
     (first last : OpenNow) : Type 0 where
   pub status : Status
@@ -66,8 +66,8 @@ pub record IsRunOn (verb : Option Verb) (before after : StreamsNow) (exit : ℕ)
   pub reports : Reports before.err status after.err
   pub exit_is : exit ≡ (row_of status).exit
 
--- The file of tables and the target that the words name were opened, once, and what was done with them until they were closed
--- is what the words mean, and nothing else.
+-- The file of tables and the target that the words name were opened, once, and what was done with
+-- them until they were closed is what the words mean, and nothing else.
 abbrev pub IsStartedRun : (Profile → TargetKind → OpenNow → OpenNow → Type 0) → List (List ℕ) →
     StreamsNow → StreamsNow → ℕ → Type 0
 IsStartedRun opens words before after exit =

@@ -1,9 +1,10 @@
-//! The start of a run: the file of tables and the target that its words name are opened, the run is on these, and they are
-//! closed.
+//! The start of a run: the file of tables and the target that its words name are opened, the run is on
+//! these, and they are closed.
 //!
-//! What stands in a file or on a server, no contract can say. What is proved is that a run is one of [`jop_cli::run`] on
-//! what an opener opened for its very words, whatever opener that is, that nothing else is done with it, and that a start
-//! that is refused does nothing. Begin with [`run_named`] and [`Opener`].
+//! What stands in a file or on a server, no contract can say. What is proved is that a run is one of
+//! [`jop_cli::run`] on what an opener opened for its very words, whatever opener that is, that nothing
+//! else is done with it, and that a start that is refused does nothing. Begin with [`run_named`] and
+//! [`Opener`].
 #![tactic(auto)]
 
 mod opener;
