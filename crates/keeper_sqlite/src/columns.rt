@@ -1,8 +1,8 @@
 //! The columns of a row of an answer.
 
-use crate::trouble::Trouble;
 use jop_base::{Bytes, Text};
 use keeper_columns::{DeletionRecord, NoteRecord, RowRecord};
+use keeper_file::Trouble;
 use sqlite::Row;
 use std::alloc::Global;
 

@@ -1,7 +1,7 @@
 //! A database as this crate asks it. What stands in a file, no clause can say: so no call here says more than whether
 //! it was refused, and no proof above carries the clauses of the database itself.
 
-use crate::trouble::Trouble;
+use keeper_file::Trouble;
 use sqlite::types::ValueRef;
 use sqlite::{Alter, Connection, Error, File, FileStore, Row, Rows, Transaction};
 

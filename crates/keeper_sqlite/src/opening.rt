@@ -4,27 +4,18 @@ ghost use Rattle.std.specs.Prelude.{All, IfOk, ⊤};
 ghost use Rattle.local_store.specs.Sound.{IsSound};
 ghost use Rattle.keeper_records.specs.Writes.{IsSoundWrite};
 
-use crate::copy::{Look, look_at};
 use crate::database::{Database, Statements, begin, commit};
-use crate::first_page::{PAGE_LEN, lists_tables};
-use crate::held_file::{HeldFile, make};
-use crate::layout::{Layout, layout_of};
-use crate::mark::{Mark, mark_of};
-use crate::statements::TABLES;
-use crate::trouble::Trouble;
 use crate::waiting::{Tried, patiently};
 use crate::work::{Work, done_on};
 use crate::writing::make_all;
 use jop_base::{Copied, Seq};
+use keeper_file::{Layout, TABLES, Trouble, holds_tables, layout_of, make_file};
 use keeper_records::Write;
 use local_store::Tables;
 use sqlite::{Alter, Connection};
 use std::alloc::{AllocError, Global};
 use std::thread;
 use std::time::Duration;
-
-/// A log that is shorter than its header and a frame with the smallest page holds nothing that the file doesn't.
-const LEAST_LOG: usize = 32 + 24 + 512;
 
 // ---- new tables
 
@@ -110,47 +101,10 @@ impl Work for HasTables {
     }
 }
 
-// ---- whose the file is
-
-/// Whether the first page of a file says that it is this program's and holds the tables alone, and its log holds
-/// nothing.
-fn is_own(alloc: Global, file: &HeldFile, log: &[u8]) -> Result<bool, Trouble> {
-    if file.len()? < PAGE_LEN as u64 || log.len() >= LEAST_LOG {
-        return Ok(false);
-    }
-    let page = file.first_page(alloc)?;
-    Ok(mark_of(&page) == Mark::Own && lists_tables(&page))
-}
-
-/// Looks at a file, or rather at a copy of it, and refuses that of another program, or of a later layout. The tables
-/// of this program are marked, if their log is empty. Answers whether they are there.
-fn take(alloc: Global, file: &mut HeldFile, log: Vec<u8>) -> Result<bool, Trouble> {
-    let is_settled = log.len() < LEAST_LOG;
-    let Look { layout, mark } = look_at(alloc, file.bytes(alloc)?, log)?;
-    if mark == Mark::Foreign || layout == Layout::Foreign {
-        return Err(Trouble::Fault);
-    }
-    if layout == Layout::Tables && mark == Mark::Unmarked && is_settled {
-        file.mark()?;
-    }
-    Ok(layout == Layout::Tables)
-}
-
-/// Whether the tables stand in the file of this path. A fault if it is another program's, or of a later layout: then
-/// nothing is written, and no log is made.
-fn holds_tables(rt: &HostRuntime, alloc: Global, path: &str) -> Result<bool, Trouble> {
-    let mut file = HeldFile::open(rt, path)?;
-    let log = file.log(rt)?;
-    if is_own(alloc, &file, log.as_slice())? {
-        return Ok(true);
-    }
-    take(alloc, &mut file, log)
-}
-
 // ---- opening
 
 /// Makes the tables in a file that is new, and marks it.
-fn make_file(rt: &HostRuntime, alloc: Global, path: &str) -> Result<(), Trouble> {
+fn fill_file(rt: &HostRuntime, alloc: Global, path: &str) -> Result<(), Trouble> {
     let mut database = Connection::open(rt, path)?;
     done_on(alloc, &mut database, &NewTables)?;
     database.close()?;
@@ -177,9 +131,9 @@ fn open_once(rt: &HostRuntime, alloc: Global, path: &str) -> Result<Database, Tr
     if is_refused(path) {
         return Err(Trouble::Fault);
     }
-    make(rt, path)?;
+    make_file(rt, path)?;
     if !holds_tables(rt, alloc, path)? {
-        make_file(rt, alloc, path)?;
+        fill_file(rt, alloc, path)?;
     }
     open_file(rt, alloc, path)
 }

@@ -2,10 +2,10 @@ ghost use Rattle.std.specs.Prelude.{◌≡◌, ◌≤◌, None};
 ghost use Rattle.keeper_sqlite.specs.Faults.{IsCounted};
 
 use crate::database_file::DatabaseFile;
-use crate::trouble::Trouble;
 use jop_base::{Bytes, Id, Seq, Text};
 use jop_outside::Faults;
 use keeper::KeeperErr;
+use keeper_file::Trouble;
 use keeper_records::{RecordStore, Write};
 use local_store::{Row, Tables};
 use std::alloc::Global;

@@ -3,7 +3,7 @@
 ghost use Rattle.std.specs.Prelude.{◌≡◌, ◌≤◌, ◌+◌, ◌^◌, ◌<◌, ℕ, Err};
 ghost use Rattle.keeper_sqlite.specs.Waiting.{longest_pause};
 
-use crate::trouble::Trouble;
+use keeper_file::Trouble;
 
 /// How long a pause is, in milliseconds, and how many there are.
 const PAUSE: u64 = 50;

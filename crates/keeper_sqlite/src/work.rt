@@ -1,7 +1,7 @@
 ghost use Rattle.std.specs.Prelude.{IfOk};
 
 use crate::database::Database;
-use crate::trouble::Trouble;
+use keeper_file::Trouble;
 use sqlite::{Alter, Connection};
 use std::alloc::Global;
 

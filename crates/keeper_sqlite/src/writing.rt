@@ -10,10 +10,10 @@ use crate::statements::{
     ADD_CONFLICT, DROP_BYTES, DROP_CONFLICT, DROP_DELETION, DROP_ROW, SET_BLOB, SET_CLIENT,
     SET_CONTEXT, SET_DELETION, SET_INFO, SET_NEXT, SET_ROW,
 };
-use crate::trouble::Trouble;
 use crate::work::Work;
 use jop_base::{Bytes, Context, Id};
 use keeper_columns::{DeletionRecord, NoteRecord, RowRecord, ids_text, number_text};
+use keeper_file::Trouble;
 use keeper_records::Write;
 use local_store::{ConflictNote, Deletion, Row};
 use sqlite::{Alter, Connection, params};

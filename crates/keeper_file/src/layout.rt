@@ -2,15 +2,13 @@
 
 ghost use Rattle.std.specs.Prelude.{pos, ◌≡◌, ◌↔◌};
 
-use crate::columns::number_at;
-use crate::database::Queries;
-use crate::statements::{COUNT_THINGS, TABLES};
+use crate::tables::{COUNT_THINGS, TABLES};
 use crate::trouble::Trouble;
-use sqlite::params;
+use sqlite::{Alter, Connection, params};
 
 /// What stands in a database, but for what it makes for itself.
 #[derive(Clone, Copy, Debug, PartialEq, Eq)]
-pub(crate) enum Layout {
+pub enum Layout {
     /// Nothing: it is new.
     Blank,
     /// The tables, and nothing else.
@@ -33,14 +31,12 @@ fn layout_with(things: i64, tables: i64) -> Layout
     Layout::Foreign
 }
 
-pub(crate) fn layout_of<D: Queries>(database: &mut D) -> Result<Layout, Trouble> {
+/// What stands in an open database, by its own list of what it holds.
+pub fn layout_of<S: Alter>(database: &mut Connection<S>) -> Result<Layout, Trouble> {
     let [meta, rows, deletions, conflicts, blobs] = TABLES;
-    let counted = database.first(
+    let counted = database.query_row(
         COUNT_THINGS,
         params![meta, rows, deletions, conflicts, blobs],
     )?;
-    match counted {
-        Some(row) => Ok(layout_with(number_at(&row, 0)?, number_at(&row, 1)?)),
-        None => Err(Trouble::Fault),
-    }
+    Ok(layout_with(counted.get(0)?, counted.get(1)?))
 }

@@ -2,7 +2,7 @@
 
 ghost use Rattle.std.specs.Prelude.{◌≡◌, ◌<◌, length};
 
-use crate::statements::TABLES;
+use crate::tables::TABLES;
 use sqlite_format::cell::payload_of;
 use sqlite_format::{Node, Tree};
 use sqlite_record::fields::Fields;

@@ -38,10 +38,6 @@ fn open(alloc: Global, log: Memory, db: Memory) -> Result<Copied, Trouble>
     }
 }
 
-fn layout(copy: &mut Copied) -> Result<Layout, Trouble> {
-    layout_of(copy)
-}
-
 /// The file, into which the log was copied.
 fn close(copy: Copied) -> Result<Memory, Trouble> {
     match copy.close_files() {
@@ -61,7 +57,7 @@ fn mark_in(db: &[u8]) -> Mark {
 /// Looks at a file and its log.
 pub(crate) fn look_at(alloc: Global, db: Vec<u8>, log: Vec<u8>) -> Result<Look, Trouble> {
     let mut copy = open(alloc, memory_of(alloc, log)?, memory_of(alloc, db)?)?;
-    let layout = layout(&mut copy)?;
+    let layout = layout_of(&mut copy)?;
     let db = close(copy)?;
     let mark = mark_in(db.bytes());
     Ok(Look { layout, mark })

@@ -2,7 +2,7 @@
 
 ghost use Rattle.std.specs.Prelude.{◌≡◌, ◌≢◌, ◌↔◌, ◌<◌, ◌≤◌, length};
 ghost use Rattle.sqlite_format.specs.Bytes.{SameOutside, u32_at};
-ghost use Rattle.keeper_sqlite.specs.Marks.{application_in, layout_in};
+ghost use Rattle.keeper_file.specs.Marks.{application_in, layout_in};
 
 use sqlite_format::bytes::{get_u32, put_u32};
 

@@ -24,7 +24,7 @@ const LOCKS_START: u64 = 1 << 30;
 const LOCKS_LEN: u64 = 512;
 
 /// Makes the file, empty, if nothing bears its name. What is there keeps its rights.
-pub(crate) fn make(rt: &HostRuntime, path: &str) -> Result<(), Trouble> {
+pub fn make_file(rt: &HostRuntime, path: &str) -> Result<(), Trouble> {
     let made = OpenOptions::new()
         .write(true)
         .create_new(true)

@@ -1,7 +1,7 @@
 ghost use Rattle.std.specs.Prelude.{◌≡◌};
 ghost use Rattle.std.specs.IoError.{error_kind};
-ghost use Rattle.keeper_sqlite.specs.Faults.{of_record, trouble_of_error, trouble_of_kind};
-ghost use Rattle.keeper_sqlite.specs.declared.trouble.Trouble.TheVariants.{NoMemory};
+ghost use Rattle.keeper_file.specs.Troubles.{of_record, trouble_of_error, trouble_of_kind};
+ghost use Rattle.keeper_file.specs.declared.trouble.Trouble.TheVariants.{NoMemory};
 
 use keeper_columns::RecordErr;
 use sqlite::{Error, ErrorCode};
@@ -11,7 +11,7 @@ use std::io::ErrorKind;
 
 /// Why the database gave no answer.
 #[derive(Clone, Copy, Debug, PartialEq, Eq)]
-pub(crate) enum Trouble {
+pub enum Trouble {
     /// It refused, or holds a record that can't be read back.
     Fault,
     /// Another run or program has the file open.
