@@ -18,7 +18,6 @@ mod site;
 
 pub use around::Around;
 pub use client::Client;
-pub use committing::commit;
 pub use drawing::draw_id;
 pub use known::{Known, known_client};
 pub use outside::Outside;

@@ -3,7 +3,7 @@ ghost use Rattle.std.specs.Prelude.{refl, ◌≡◌};
 
 use crate::applying::apply_last;
 use crate::client::Client;
-use crate::committing::commit;
+use crate::committing::commit_in;
 use jop_base::{Bytes, Id};
 use jop_target::{Call, Diary, Event, Line, Reply, Target, TargetLine};
 use keeper::{Keeper, KeeperErr};
@@ -99,9 +99,10 @@ impl<'a, T: Target, K: Keeper> Client for Site<'a, T, K> {
     }
 
     fn commit(&mut self, alloc: Global, change: Change) -> Result<(), KeeperErr> {
-        commit(
+        commit_in(
             alloc,
             &mut *self.keeper,
+            &*self.tables,
             &mut *self.diary,
             &mut *self.made,
             change,

@@ -28,6 +28,21 @@ pub trait Keeper: Drop {
         ensures err { OnErr result ((state self.new).kept ≡ (state self.old).kept) }
         ensures cause { HasKeeperCause (state self.old).faults result (state self.new).faults };
 
+    /// Makes a change to the tables that are kept, which it is given: what a change needs of them isn't read again.
+    fn commit_in(
+        &mut self,
+        alloc: Global,
+        tables: &Tables,
+        change: &Change,
+    ) -> Result<(), KeeperErr>
+        requires sound { IsSound tables.now }
+        requires told { IsOfKept (state self.old).kept tables.now }
+        requires allowed { IsAllowed change.now }
+        ensures ok { OnOk result
+            ((state self.new).kept ≡ option_map (changed change.now) (state self.old).kept) }
+        ensures err { OnErr result ((state self.new).kept ≡ (state self.old).kept) }
+        ensures cause { HasKeeperCause (state self.old).faults result (state self.new).faults };
+
     /// The bytes of the resource of this id that were saved last. None if there are none.
     fn load_blob(&mut self, alloc: Global, id: &Id) -> Result<Option<Bytes>, KeeperErr>
         ensures told { IfOk result (λ bytes. IsBlobOfKept (state self.old).kept id.now bytes) }
@@ -54,6 +69,15 @@ impl Keeper for Box<dyn Keeper> {
         (**self).commit(alloc, change)
     }
 
+    fn commit_in(
+        &mut self,
+        alloc: Global,
+        tables: &Tables,
+        change: &Change,
+    ) -> Result<(), KeeperErr> {
+        (**self).commit_in(alloc, tables, change)
+    }
+
     fn load_blob(&mut self, alloc: Global, id: &Id) -> Result<Option<Bytes>, KeeperErr> {
         (**self).load_blob(alloc, id)
     }
@@ -72,6 +96,15 @@ impl<K: Keeper> Keeper for &mut K {
 
     fn commit(&mut self, alloc: Global, change: &Change) -> Result<(), KeeperErr> {
         (**self).commit(alloc, change)
+    }
+
+    fn commit_in(
+        &mut self,
+        alloc: Global,
+        tables: &Tables,
+        change: &Change,
+    ) -> Result<(), KeeperErr> {
+        (**self).commit_in(alloc, tables, change)
     }
 
     fn load_blob(&mut self, alloc: Global, id: &Id) -> Result<Option<Bytes>, KeeperErr> {

@@ -47,6 +47,10 @@ deletion_writes id row =
     if is_synced row then SetDeletion (record { id = id; resource = is_resource_row row }) ∷ []
     else []
 
+-- a row goes
+abbrev pub removal_writes : List ℕ → Option Row → List Write
+removal_writes id row = deletion_writes id row ++ DropRow id ∷ []
+
 abbrev pub upload_writes : List ℕ → List ℕ → Option Row → List Write
 upload_writes id bytes None = []
 upload_writes id bytes (Some r) = SetRow (synced_row id r.content bytes) ∷ []
@@ -77,7 +81,7 @@ open_writes id item (Some r) =
 abbrev pub writes_of : Change → Option Row → ℕ → List Write
 writes_of (Named client) row next = SetClient client ∷ []
 writes_of (Saved id item) row next = SetRow (saved_row id item row) ∷ []
-writes_of (Removed id) row next = deletion_writes id row ++ DropRow id ∷ []
+writes_of (Removed id) row next = removal_writes id row
 writes_of (Uploaded id bytes) row next = upload_writes id bytes row
 writes_of (Dropped id) row next = DropDeletion id ∷ []
 writes_of (Taken id bytes content) row next = SetRow (synced_row id content bytes) ∷ []

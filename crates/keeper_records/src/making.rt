@@ -1,12 +1,13 @@
 //! The writes that make a change.
 
 ghost use Rattle.std.specs.Prelude.{◌≡◌, ◌≢◌, ◌++◌, ◌∷◌, [], ℕ, All, Option, IfOk, OnOk, None, Some, true};
+ghost use Rattle.std.specs.Option.{option_copied};
 ghost use Rattle.local_store.specs.declared.row.Row.{Row};
 ghost use Rattle.item_text.specs.Valid.{IsItem};
 ghost use Rattle.local_store.specs.Rows.{item_of};
 ghost use Rattle.local_store.specs.Sound.{IsAllowed};
 ghost use Rattle.local_store.specs.Tables.{base_of, is_resource_row, is_synced};
-ghost use Rattle.keeper_records.specs.Making.{row_needed, needs_number, writes_of, saved_row, synced_row, deletion_writes, upload_writes, note_writes, remote_writes, conflict_writes, open_writes};
+ghost use Rattle.keeper_records.specs.Making.{row_needed, needs_number, writes_of, saved_row, synced_row, removal_writes, upload_writes, note_writes, remote_writes, conflict_writes, open_writes};
 ghost use Rattle.keeper_records.specs.Stores.{IsSoundRowFor};
 ghost use Rattle.keeper_records.specs.Writes.{IsSoundWrite};
 
@@ -44,8 +45,8 @@ pub(crate) fn needs_number(change: &Change) -> bool
     }
 }
 
-fn base_of(alloc: Global, row: &Option<Row>) -> Result<Option<Bytes>, AllocError>
-    ensures { IfOk result (λ base. base ≡ base_of row.now) }
+fn base_of(alloc: Global, row: Option<&Row>) -> Result<Option<Bytes>, AllocError>
+    ensures { IfOk result (λ base. base ≡ base_of (option_copied row.entry)) }
 {
     match row {
         Some(row) => row.base.copy(alloc),
@@ -53,8 +54,8 @@ fn base_of(alloc: Global, row: &Option<Row>) -> Result<Option<Bytes>, AllocError
     }
 }
 
-fn is_synced(row: &Option<Row>) -> bool
-    ensures { result ≡ is_synced row.now }
+fn is_synced(row: Option<&Row>) -> bool
+    ensures { result ≡ is_synced (option_copied row.entry) }
 {
     match row {
         Some(row) => row.base.is_some(),
@@ -62,8 +63,8 @@ fn is_synced(row: &Option<Row>) -> bool
     }
 }
 
-fn is_resource(row: &Option<Row>) -> bool
-    ensures { result ≡ is_resource_row row.now }
+fn is_resource(row: Option<&Row>) -> bool
+    ensures { result ≡ is_resource_row (option_copied row.entry) }
 {
     match row {
         Some(row) => has_kind(row.content.item(), Kind::RESOURCE),
@@ -77,10 +78,11 @@ fn add_saved(
     alloc: Global,
     id: &Id,
     item: &Item,
-    row: &Option<Row>,
+    row: Option<&Row>,
 ) -> Result<(), AllocError>
     ensures { OnOk result
-        (writes.new ≡ writes.old ++ Write.SetRow (saved_row id.now item.now row.now) ∷ []) }
+        (writes.new ≡ writes.old
+        ++ Write.SetRow (saved_row id.now item.now (option_copied row.entry)) ∷ []) }
 {
     let base = base_of(alloc, row)?;
     let content = Content::Plain(item.copy(alloc)?);
@@ -114,9 +116,9 @@ fn add_synced(
 }
 
 /// Takes a row out, which joins the deletions if it was synced.
-fn add_removal(writes: &mut Seq<Write>, id: &Id, row: &Option<Row>) -> Result<(), AllocError>
+fn add_removal(writes: &mut Seq<Write>, id: &Id, row: Option<&Row>) -> Result<(), AllocError>
     ensures { OnOk result
-        (writes.new ≡ writes.old ++ (deletion_writes id.now row.now ++ Write.DropRow id.now ∷ [])) }
+        (writes.new ≡ writes.old ++ removal_writes id.now (option_copied row.entry)) }
 {
     if is_synced(row) {
         let resource = is_resource(row);
@@ -131,9 +133,10 @@ fn add_upload(
     alloc: Global,
     id: &Id,
     bytes: &Bytes,
-    row: &Option<Row>,
+    row: Option<&Row>,
 ) -> Result<(), AllocError>
-    ensures { OnOk result (writes.new ≡ writes.old ++ upload_writes id.now bytes.now row.now) }
+    ensures { OnOk result
+        (writes.new ≡ writes.old ++ upload_writes id.now bytes.now (option_copied row.entry)) }
 {
     match row {
         Some(row) => add_synced(writes, alloc, id, &row.content, bytes),
@@ -180,11 +183,12 @@ fn add_conflict(
     id: &Id,
     remote: &Option<(Bytes, Content)>,
     copies: bool,
-    row: &Option<Row>,
+    row: Option<&Row>,
     number: u64,
 ) -> Result<(), AllocError>
     ensures { OnOk result (writes.new
-        ≡ writes.old ++ conflict_writes id.now remote.now copies row.now number) }
+        ≡ writes.old
+        ++ conflict_writes id.now remote.now copies (option_copied row.entry) number) }
 {
     if let Some(row) = row {
         if copies {
@@ -200,11 +204,11 @@ fn add_moved(
     writes: &mut Seq<Write>,
     alloc: Global,
     id: &Id,
-    row: &Option<Row>,
+    row: Option<&Row>,
     number: u64,
 ) -> Result<(), AllocError>
     ensures { OnOk result (writes.new
-        ≡ writes.old ++ conflict_writes id.now None true row.now number) }
+        ≡ writes.old ++ conflict_writes id.now None true (option_copied row.entry) number) }
 {
     add_conflict(writes, alloc, id, &None, true, row, number)
 }
@@ -235,9 +239,10 @@ fn add_opened(
     alloc: Global,
     id: &Id,
     item: &Item,
-    row: &Option<Row>,
+    row: Option<&Row>,
 ) -> Result<(), AllocError>
-    ensures { OnOk result (writes.new ≡ writes.old ++ open_writes id.now item.now row.now) }
+    ensures { OnOk result
+        (writes.new ≡ writes.old ++ open_writes id.now item.now (option_copied row.entry)) }
 {
     match row {
         Some(row) => add_open_row(writes, alloc, id, item, row),
@@ -287,11 +292,12 @@ fn add_to_row(
     writes: &mut Seq<Write>,
     alloc: Global,
     change: &Change,
-    row: &Option<Row>,
+    row: Option<&Row>,
     number: u64,
 ) -> Result<(), AllocError>
     requires { row_needed change.now ≢ None }
-    ensures { OnOk result (writes.new ≡ writes.old ++ writes_of change.now row.now number) }
+    ensures { OnOk result
+        (writes.new ≡ writes.old ++ writes_of change.now (option_copied row.entry) number) }
 {
     match change {
         Change::Saved(id, item) => add_saved(writes, alloc, id, item, row),
@@ -316,10 +322,11 @@ fn add_to_row(
 pub(crate) fn writes_of(
     alloc: Global,
     change: &Change,
-    row: &Option<Row>,
+    row: Option<&Row>,
     number: u64,
 ) -> Result<Seq<Write>, AllocError>
-    ensures { IfOk result (λ writes. writes ≡ writes_of change.now row.now number) }
+    ensures { IfOk result (λ writes.
+        writes ≡ writes_of change.now (option_copied row.entry) number) }
 {
     let mut writes = Seq::new(alloc);
     match row_needed(change) {

@@ -1,5 +1,8 @@
-ghost use Rattle.std.specs.Prelude.{◌≡◌, All, IfOk};
+ghost use Rattle.std.specs.Prelude.{◌≡◌, All, IfOk, option_and_then};
+ghost use Rattle.std.specs.Option.{option_copied};
 ghost use Rattle.keeper.specs.Keepers.{HasKeeperCause};
+ghost use Rattle.local_store.specs.Sound.{IsSound};
+ghost use Rattle.local_store.specs.Tables.{row_at};
 ghost use Rattle.keeper_records.specs.Making.{row_needed};
 ghost use Rattle.keeper_records.specs.Stores.{IsSoundRowFor, IsRowFor, IsNumberFor};
 
@@ -57,6 +60,20 @@ impl<S: RecordStore> RecordKeeper<S> {
     }
 }
 
+/// The row of these tables that the change needs, if it needs one.
+#[tactic(auto, using(crate::proofs::Sound::found_row))]
+fn row_in<'t>(tables: &'t Tables, change: &Change) -> Option<&'t Row>
+    requires { IsSound tables.now }
+    ensures row { option_copied result
+        ≡ option_and_then (row_at tables.now) (row_needed change.now) }
+    ensures sound { IsSoundRowFor (row_needed change.now) (option_copied result) }
+{
+    match row_needed(change) {
+        Some(id) => tables.rows.at(&id),
+        None => None,
+    }
+}
+
 impl<S: RecordStore> Keeper for RecordKeeper<S> {
     ghost state = { λ k. S.state k.store };
 
@@ -69,9 +86,22 @@ impl<S: RecordStore> Keeper for RecordKeeper<S> {
     fn commit(&mut self, alloc: Global, change: &Change) -> Result<(), KeeperErr> {
         let number = self.number_for(alloc, change)?;
         let row = self.row_for(alloc, change)?;
-        let made = writes_of(alloc, change, &row, number);
+        let made = writes_of(alloc, change, row.as_ref(), number);
         let_go(row);
         let writes = made?;
+        self.store.write(alloc, &writes)?;
+        Ok(())
+    }
+
+    #[tactic(auto, using(crate::proofs::Made::writes_are_sound, crate::proofs::Made::kept_is_changed))]
+    fn commit_in(
+        &mut self,
+        alloc: Global,
+        tables: &Tables,
+        change: &Change,
+    ) -> Result<(), KeeperErr> {
+        let row = row_in(tables, change);
+        let writes = writes_of(alloc, change, row, tables.next_conflict)?;
         self.store.write(alloc, &writes)?;
         Ok(())
     }

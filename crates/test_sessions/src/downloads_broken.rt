@@ -113,8 +113,8 @@ fn is_mended(alloc: Global, nth: u64, landed: bool) -> Result<bool, BrokenOff> {
 
 /// The same of a call of the keeper's store. Six were made before, one for each file that was read and
 /// two for the note that was saved; a session reads the tables, saves the bytes, and makes seven
-/// changes. The first note's takes three calls, and so does the move of the last one; then its folder
-/// goes, and it is said how far the target was read.
+/// changes, each in one call. Behind the move of the last note its folder goes, and it is said how far
+/// the target was read.
 fn is_kept(alloc: Global, nth: u64) -> Result<bool, BrokenOff> {
     let mut place = make_place(alloc)?;
     keeps(alloc, &mut place, nth)
@@ -149,7 +149,7 @@ fn a_call_that_fails_loses_nothing(rt: HostRuntime) -> Result<(), Fail> {
 #[test]
 fn a_change_that_is_not_kept_is_made_again(rt: HostRuntime) -> Result<(), Fail> {
     let alloc = rt.alloc();
-    for nth in 7..=17 {
+    for nth in 7..=13 {
         assert!(rt; is_kept(alloc, nth)?);
     }
     Ok(())
@@ -176,7 +176,7 @@ fn leaves(alloc: Global, nth: u64, standing: &Standing) -> Result<bool, BrokenOf
 #[test]
 fn a_note_comes_again_if_it_left_its_folder_unread(rt: HostRuntime) -> Result<(), Fail> {
     let alloc = rt.alloc();
-    assert!(rt; leaves(alloc, 18, &TWICE)?);
-    assert!(rt; leaves(alloc, 19, &AGAIN)?);
+    assert!(rt; leaves(alloc, 14, &TWICE)?);
+    assert!(rt; leaves(alloc, 15, &AGAIN)?);
     Ok(())
 }
