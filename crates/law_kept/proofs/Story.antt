@@ -23,6 +23,7 @@ use Rattle.local_store.specs.declared.row.Row.{Row}
 use Rattle.law_licences.specs.Checks.{last_on}
 use Rattle.law_licences.specs.Deeds.{deeds_in, deeds_of}
 use Rattle.law_licences.specs.Items.{remote_in}
+use Rattle.law_licences.specs.Infos.{info_read}
 use Rattle.law_licences.specs.Licences.{Each, ObeysData}
 use Rattle.law_licences.specs.Views.{at_rest, view_from}
 use Rattle.law_kept.proofs.Clients.{same_or_not}
@@ -35,6 +36,7 @@ use Rattle.law_kept.specs.FairTables.{new_view, AllObeyData, IsServed}
 use Rattle.law_kept.specs.Holding.{IsToldWell}
 use Rattle.law_kept.specs.TableStories.{a_trail, a_list}
 use Rattle.law_kept.specs.Trails.{IsUnstopped, AreStops, EndsInRun, OthersObey}
+use Rattle.sync_info.specs.declared.info.Info.{Info}
 
 pub served : IsServed it a_told_conflict
 served = record { honest = told_fair.honest; text = told_fair.text; gapless = told_fair.gapless }
@@ -47,8 +49,11 @@ first_row = record { id = it; content = Plain first_text; base = None; pending =
 second_row : Row
 second_row = record { id = it; content = Plain second_text; base = None; pending = true }
 
+none_read : (info : Info) → None ≡ Some info → ⊥
+none_read info e = cc
+
 one_obeys : ObeysData new_view (deeds_in first_client a_told_conflict.steps)
-unfolding deeds_in Each at put last_on first_row
+unfolding deeds_in Each at put last_on info_read first_row
 one_obeys = (
   tt,
   (
@@ -64,7 +69,10 @@ one_obeys = (
             pending = record { at = refl; pending = refl };
             check = refl;
             same = tt;
-            text = record { readable = refl; text = refl };
+            text = record {
+              readable = record { own = refl; merge = λ remote told. absurd (none_read remote told) };
+              text = refl;
+            };
           },
         ),
         (tt, tt),

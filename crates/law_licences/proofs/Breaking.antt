@@ -158,7 +158,7 @@ text o =
 
 pub sealed : Breaks sealer put_after_check
 unfolding Each
-sealed o = clash o.1.1.0.1.text.readable
+sealed o = clash o.1.1.0.1.text.readable.own
 
 pub unchanged : Breaks reader put_of_unchanged
 unfolding Each at

@@ -25,13 +25,18 @@ use Rattle.law_licences.specs.Breaches.{editor}
 use Rattle.law_licences.specs.Checks.{last_on}
 use Rattle.law_licences.specs.Deletions.{WasDeleted}
 use Rattle.law_licences.specs.Items.{remote_in}
+use Rattle.law_licences.specs.Infos.{info_read}
 use Rattle.law_licences.specs.Licences.{Each, ObeysData}
 use Rattle.law_licences.specs.Pages.{HasPage}
 use Rattle.law_licences.specs.Stories.{it, place, mine, theirs, a_folder, edited, synced, having, an_upload, a_deletion, a_conflict, a_loss, a_page}
 use Rattle.law_licences.specs.Views.{Shown, View}
+use Rattle.sync_info.specs.declared.info.Info.{Info}
+
+none_read : (info : Info) → None ≡ Some info → ⊥
+none_read info e = cc
 
 pub upload : ObeysData (having [] []) an_upload
-unfolding Each at put last_on
+unfolding Each at put last_on info_read
 upload = (
   tt,
   (
@@ -47,7 +52,10 @@ upload = (
             pending = record { at = refl; pending = refl };
             check = refl;
             same = tt;
-            text = record { readable = refl; text = refl };
+            text = record {
+              readable = record { own = refl; merge = λ remote told. absurd (none_read remote told) };
+              text = refl;
+            };
           },
         ),
         (record { now = 2; put = refl }, (tt, tt)),

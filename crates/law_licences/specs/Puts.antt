@@ -9,12 +9,22 @@ use Rattle.jop_target.specs.declared.reply.Reply.TheVariants.{Done}
 use Rattle.local_store.specs.Rows.{item_of}
 use Rattle.local_store.specs.declared.row.Row.{Row}
 use Rattle.law_licences.specs.Checks.{IsBase, IsPending, WasGot, is_file_of, last_on}
+use Rattle.law_licences.specs.Infos.{info_read}
 use Rattle.law_licences.specs.Items.{is_resource}
 use Rattle.law_licences.specs.Views.{Heard, View}
+use Rattle.sync_info.specs.Merge.{merged}
+use Rattle.sync_info.specs.declared.info.Info.{Info}
 
--- The text of the row's item. If the info asks for sealed files there is none: no key is known here.
+-- Files are put as they are: neither this info, the client's own, asks for sealed ones, nor does the one that it makes with
+-- what the session has read by these calls.
+pub record PutsPlain (info : Info) (calls : List Heard) : Type 0 where
+  pub own : info.e2ee.value ≡ false
+  pub merge : (remote : Info) → info_read calls ≡ Some remote
+      → (merged info remote).e2ee.value ≡ false
+
+-- The text of the row's item. If the target seals its files there is none: no key is known here.
 pub record IsPutText (v : View) (row : Row) (content : List ℕ) : Type 0 where
-  pub readable : v.tables.info.e2ee.value ≡ false
+  pub readable : PutsPlain v.tables.info v.calls
   pub text : content ≡ written (item_of row.content)
 
 -- an item is put that waits for it, over a file that is still as the client left it

@@ -64,7 +64,7 @@ info_got info (Done now) v ds holds h = absurd holds
 info_got info Failed v ds holds h = absurd holds
 info_got info (TooLarge len) v ds holds h = absurd holds
 
-info_last : (info : Info) (v : View) (ds : List Deed) → ReadsInfo info v ds
+pub info_last : (info : Info) (v : View) (ds : List Deed) → ReadsInfo info v ds
     → info_read (view_from v ds).calls ≡ Some info
 unfolding info_read view_from
 info_last info v ds h =

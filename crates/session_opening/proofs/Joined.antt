@@ -119,7 +119,7 @@ unfolding view_from
 put_tables info remote v ds (inl h) = ap (λ (x : List Deed). (view_from v x).tables) h.1
 put_tables info remote v ds (inr h) = ap (λ (x : List Deed). (view_from v x).tables) h.1.1
 
-put_read : (info remote : Info) (v : View) (ds : List Deed) → PutsInfo info remote v ds
+pub put_read : (info remote : Info) (v : View) (ds : List Deed) → PutsInfo info remote v ds
     → info_read (view_from v ds).calls ≡ info_read v.calls
 unfolding view_from info_read
 put_read info remote v ds (inl h) = ap (λ (x : List Deed). info_read (view_from v x).calls) h.1

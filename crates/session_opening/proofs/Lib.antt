@@ -4,5 +4,6 @@ pub mod Going
 pub mod Informed
 pub mod Gets
 pub mod Joined
+pub mod Merged
 pub mod Unput
 pub mod Opened

@@ -1,11 +1,12 @@
 -- What is done behind the opening is done behind it for the whole.
 use Rattle.std.specs.Prelude.{◌≡◌, List, [], ◌∷◌, map, filter, Bool, true, false, ◌&&◌, ◌||◌, if◌then◌else◌, Option, Some, None, Result, Ok, Err, refl}
-use Rattle.std.proofs.Common.{◌∙◌, ap, subst, inl, inr}
+use Rattle.std.proofs.Common.{◌∙◌, ap, sym, subst, inl, inr}
 use Rattle.std.proofs.lemmas.Bool.{or_left, or_right}
 use Rattle.std.specs.List.{list_any}
 use Rattle.conflicts.specs.declared.error.StepErr.{StepErr}
 use Rattle.conflicts.specs.declared.error.StepErr.TheVariants.{Lost, TargetFault, KeeperFault, NoMemory}
 use Rattle.conflicts.specs.declared.refusal.Refusal.{Refusal}
+use Rattle.client.specs.Sites.{SiteNow}
 use Rattle.download.specs.Downloading.{Downloads}
 use Rattle.download.specs.Reading.{RefusesDownload}
 use Rattle.jop_base.specs.declared.lock_name.LockKind.TheVariants.{Sync}
@@ -14,6 +15,7 @@ use Rattle.jop_target.specs.declared.call.Call.{Call}
 use Rattle.jop_target.specs.declared.call.Call.TheVariants.{Get, Put, Delete, MakeDir}
 use Rattle.lease.specs.declared.lease.Lease.{Lease}
 use Rattle.law_licences.specs.Deeds.{Deed}
+use Rattle.law_licences.specs.Infos.{info_read}
 use Rattle.law_licences.specs.Puts.{has_put}
 use Rattle.law_licences.specs.Trails.{session_calls}
 use Rattle.law_licences.specs.Views.{Heard, Shown, Stage, View}
@@ -22,6 +24,7 @@ use Rattle.local_store.specs.Rows.{row_id}
 use Rattle.keeper.specs.declared.blob.Blob.{Blob}
 use Rattle.local_store.specs.declared.row.Row.{Row}
 use Rattle.local_store.specs.declared.tables.Tables.{Tables}
+use Rattle.session_opening.proofs.Merged.{IsMergedIn}
 use Rattle.session_opening.proofs.Merging.{merges_none, merges_on}
 use Rattle.session_opening.proofs.Unput.{unput_behind}
 use Rattle.session_opening.proofs.Versions.{MayOnceTold, stays_lawful}
@@ -33,6 +36,9 @@ use Rattle.session.proofs.Refusing.{refuses_as, refuses_behind, refuses_within, 
 use Rattle.session.specs.Doing.{Does, DoesTo, DoesLast, GivesNothing, RefusesOr, Went}
 use Rattle.session.specs.Parts.{ForEach, Nothing, Part, Then}
 use Rattle.session.specs.Work.{WorkNow, nowhere, placed, work, work_by}
+use Rattle.sync_info.proofs.MergeLemmas.{merged-right}
+use Rattle.sync_info.specs.Merge.{merged}
+use Rattle.sync_info.specs.declared.info.Info.{Info}
 use Rattle.target_upgrade.specs.Steps.{SUPPORTED}
 use Rattle.upload.proofs.Left.{same_blobs}
 use Rattle.upload.specs.Conditions.{AreUnput, IsReadable}
@@ -249,14 +255,31 @@ none_behind : (a b : Bool) → a ≡ true → (a && b) ≡ false → b ≡ false
 none_behind true b is none = none
 none_behind false b is none = absurd cc
 
+same_info : (one other : Info) → Some one ≡ Some other → one ≡ other
+same_info one other e = cc
+
+-- what was merged with what was read stays as it is, merged with that again
+merged_again : (d : SiteNow) (remote : Info) → IsMergedIn d.tables (session_calls d.line.trail)
+    → info_read (session_calls d.line.trail) ≡ Some remote
+    → merged d.tables.info remote ≡ d.tables.info
+merged_again d remote m told =
+    let same : remote ≡ m.remote = same_info remote m.remote (sym told ∙ m.read) in
+    ap (λ (i : Info). merged d.tables.info i) same
+    ∙ (ap (λ (i : Info). merged i m.remote) m.is ∙ (merged-right m.own m.remote m.valid ∙ sym m.is))
+
 -- nothing is to be sealed, or nothing waits
-pub can_put : (t : Tables) → needs_key t ≡ false → IsReadable t
-can_put t none = by t.info.e2ee.value refl where
-  by : (seals : Bool) → t.info.e2ee.value ≡ seals → IsReadable t
-  by false is = inl is
+pub can_put : (d : SiteNow) → IsMergedIn d.tables (session_calls d.line.trail)
+    → needs_key d.tables ≡ false → IsReadable d
+can_put d m none = by d.tables.info.e2ee.value refl where
+  by : (seals : Bool) → d.tables.info.e2ee.value ≡ seals → IsReadable d
+  by false is = inl (record {
+    own = is;
+    merge = λ remote told.
+        ap (λ (i : Info). i.e2ee.value) (merged_again d remote m told) ∙ is;
+  })
   by true is =
-      let rest : has_waiting t.rows ≡ false = none_behind _ _ is none in
-      inr (ap (map row_id) (none_waiting t.rows rest))
+      let rest : has_waiting d.tables.rows ≡ false = none_behind _ _ is none in
+      inr (ap (map row_id) (none_waiting d.tables.rows rest))
 
 -- the session has put no item yet
 pub unput_opened : (a b : WorkNow) → session_calls a.site.line.trail ≡ []

@@ -1,6 +1,6 @@
 -- What stands when a session has begun, and once it holds its lease.
-use Rattle.std.specs.Prelude.{ℕ, ◌≡◌, List, [], ◌∷◌, ◌++◌}
-use Rattle.std.proofs.Common.{ap, ◌∙◌}
+use Rattle.std.specs.Prelude.{ℕ, ◌≡◌, List, [], ◌∷◌, ◌++◌, false, None, Some}
+use Rattle.std.proofs.Common.{ap, sym, ◌∙◌}
 use Rattle.client.specs.Sites.{SiteNow}
 use Rattle.jop_target.specs.declared.event.Event.{Event}
 use Rattle.jop_target.specs.declared.event.Event.TheVariants.{Began}
@@ -10,10 +10,12 @@ use Rattle.lease.specs.Discipline.{Session, outside, session_of}
 use Rattle.lease.specs.Phase.{Free}
 use Rattle.lease.specs.Standing.{StandsIn}
 use Rattle.law_licences.proofs.Told.{calls_from-append}
+use Rattle.law_licences.specs.Infos.{info_read}
 use Rattle.law_licences.specs.Puts.{has_put}
 use Rattle.law_licences.specs.Trails.{calls_from, session_calls}
 use Rattle.session.proofs.Asked.{calls_locks}
-use Rattle.upload.specs.Conditions.{AreUnput}
+use Rattle.upload.specs.Conditions.{AreUnput, IsPlain}
+use Rattle.sync_info.specs.declared.info.Info.{Info}
 use Rattle.test_client.specs.Begun.{EndsAtBeginning}
 
 session_begun : (client : List ℕ) (trail : List Event) → (h : EndsAtBeginning trail)
@@ -33,6 +35,20 @@ stands_begun client trail h =
 calls_begun : (trail : List Event) → EndsAtBeginning trail → session_calls trail ≡ []
 unfolding calls_from
 calls_begun trail h = ap session_calls h.is ∙ calls_from-append [] h.before (Began ∷ [])
+
+none_read : (info : Info) → None ≡ Some info → ⊥
+none_read info e = cc
+
+-- no info was read yet
+pub plain_begun : (client : List ℕ) (old new : SiteNow) → EndsAtBeginning old.line.trail
+    → LeaseGoesOn client old.line new.line → new.tables.info.e2ee.value ≡ false → IsPlain new
+unfolding info_read
+plain_begun client old new h goes plain = record {
+  own = plain;
+  merge = λ remote told. absurd (none_read remote
+      (sym (ap info_read (calls_locks client old new.line goes ∙ calls_begun old.line.trail h))
+      ∙ told));
+}
 
 -- nothing was put yet
 pub unput_begun : (client : List ℕ) (old new : SiteNow) → EndsAtBeginning old.line.trail

@@ -29,7 +29,7 @@ use Rattle.session.specs.Saving.{kept_after_saves, saved_all}
 use Rattle.session.specs.Parts.{ForEach, Part, but_locks}
 use Rattle.session.specs.Work.{WorkNow, view_of}
 use Rattle.upload.proofs.Tending.{IsTended, tended_one}
-use Rattle.upload.specs.Conditions.{AreUnput, CanPut, is_new_row}
+use Rattle.upload.specs.Conditions.{AreUnput, CanPut, IsPlain, is_new_row}
 use Rattle.upload.specs.Settled.{AreLeft, AreSettled, WasUnreadable}
 use Rattle.upload.specs.Uploading.{Uploads, UploadsOne, blobs_of, is_upload, pending_ids}
 
@@ -174,10 +174,10 @@ left_first d id waits = inl (has_each d.tables.rows id waits)
 -- ---- the whole upload
 
 -- while some are left to be put, they can be
-pub can_put : (t : Tables) (ids : List (List ℕ)) (i : ℕ) → i < length ids → CanPut t ids
-    → t.info.e2ee.value ≡ false
-can_put t ids i within (inl readable) = readable
-can_put t ids i within (inr none) =
+pub can_put : (d : SiteNow) (ids : List (List ℕ)) (i : ℕ) → i < length ids → CanPut d ids
+    → IsPlain d
+can_put d ids i within (inl readable) = readable
+can_put d ids i within (inr none) =
     let e : length ids ≡ 0 = ap (λ (xs : List (List ℕ)). length xs) none in
     absurd (omega (arith, e))
 

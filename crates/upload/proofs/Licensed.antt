@@ -1,6 +1,6 @@
 -- Which licences a row has by what was found in its file.
 use Rattle.std.specs.Prelude.{ℕ, ◌≡◌, List, Bool, true, false, bytes_eq, is_none, if◌then◌else◌, Option, Some, None, Result, refl}
-use Rattle.std.proofs.Common.{ap, subst, ◌∙◌}
+use Rattle.std.proofs.Common.{ap, subst, sym, ◌∙◌}
 use Rattle.std.proofs.lemmas.Bool.{and_parts}
 use Rattle.conflicts.specs.declared.error.StepErr.{StepErr}
 use Rattle.client.specs.Sites.{SiteNow}
@@ -16,6 +16,7 @@ use Rattle.jop_target.specs.declared.reply.Reply.{Reply}
 use Rattle.jop_target.specs.declared.reply.Reply.TheVariants.{Listed, Got, GotBlob, Absent, Done, Failed, TooLarge}
 use Rattle.law_licences.specs.Checks.{last_on}
 use Rattle.law_licences.specs.Deeds.{Deed}
+use Rattle.law_licences.specs.Infos.{info_read}
 use Rattle.law_licences.specs.Items.{is_resource}
 use Rattle.law_licences.specs.Puts.{MayPut, MayPutBlob, MayUpload, has_put}
 use Rattle.law_licences.specs.Trails.{session_calls}
@@ -39,8 +40,23 @@ use Rattle.session.specs.Work.{IsReady, WorkNow, view_of}
 use Rattle.session.specs.declared.finding.Finding.{Finding}
 use Rattle.session.specs.declared.finding.Finding.TheVariants.{Same}
 use Rattle.keeper.specs.declared.blob.Blob.{Blob}
+use Rattle.sync_info.specs.Merge.{merged}
+use Rattle.sync_info.specs.declared.info.Info.{Info}
+use Rattle.upload.specs.Conditions.{IsPlain}
 use Rattle.upload.specs.Found.{IsFoundForRow}
 use Rattle.upload.specs.Uploading.{PutsIfNew, PutsKept, PutsText, is_new_resource, is_upload}
+
+-- ---- what was read
+
+-- the same info of the client's own, and the same that was read
+pub plain_as : (a b : SiteNow) → b.tables.info ≡ a.tables.info
+    → info_read (session_calls b.line.trail) ≡ info_read (session_calls a.line.trail)
+    → IsPlain a → IsPlain b
+plain_as a b info read h = record {
+  own = ap (λ (i : Info). i.e2ee.value) info ∙ h.own;
+  merge = λ remote told.
+      ap (λ (i : Info). (merged i remote).e2ee.value) info ∙ h.merge remote (sym read ∙ told);
+}
 
 -- ---- what was found
 
@@ -83,6 +99,23 @@ unput_row id finding sort a b h unput =
     (λ v ds it. ap (λ (x : List Deed). has_put id (view_from v x).calls) it.4) h
     ∙ unput
 
+-- and reads no info
+pub read_row : (id : List ℕ) (finding : Finding) (sort : Call → Bool) (a b : WorkNow)
+    → Does (FindsFile id finding) sort a b
+    → info_read (session_calls b.site.line.trail) ≡ info_read (session_calls a.site.line.trail)
+unfolding info_read view_from
+read_row id finding sort a b h =
+    behind (λ t cs u us. info_read us ≡ info_read cs) (FindsFile id finding) sort a b
+    (λ v ds it. ap (λ (x : List Deed). info_read (view_from v x).calls) it.4) h
+
+-- ---- files that are put as they are
+
+-- they still are, of these tables, if no other info was read
+pub still_plain : (a b : SiteNow) → b.tables ≡ a.tables
+    → info_read (session_calls b.line.trail) ≡ info_read (session_calls a.line.trail)
+    → IsPlain a → IsPlain b
+still_plain a b tables read h = plain_as a b (ap (λ (t : Tables). t.info) tables) read h
+
 -- ---- puts
 
 none_is : (base : Option (List ℕ)) → is_none base ≡ true → base ≡ None
@@ -115,7 +148,7 @@ valid_item t row sound at =
     valid_content row.id row.content (All-at row_id IsSoundRow t.rows row.id row sound.rows at).content
 
 pub may_put : (row : Row) (d : SiteNow) (text : List ℕ) (shown : Option Shown)
-    → IsFoundForRow row Same d → d.tables.info.e2ee.value ≡ false
+    → IsFoundForRow row Same d → IsPlain d
     → text ≡ written (item_of row.content)
     → MayPut (view_of shown d) row.id text
 may_put row d text shown h readable is = record {

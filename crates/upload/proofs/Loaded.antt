@@ -8,6 +8,7 @@ use Rattle.jop_target.specs.declared.reply.Reply.{Reply}
 use Rattle.jop_target.specs.declared.reply.Reply.TheVariants.{Listed, Got, GotBlob, Absent, Done, Failed, TooLarge}
 use Rattle.law_licences.specs.Checks.{last_on}
 use Rattle.law_licences.specs.Deeds.{Deed}
+use Rattle.law_licences.specs.Infos.{info_read}
 use Rattle.law_licences.specs.Trails.{session_calls}
 use Rattle.law_licences.specs.Views.{View, view_from}
 use Rattle.session.proofs.Behind.{behind}
@@ -62,10 +63,11 @@ bytes_put kept id bytes reply told answer v ds h =
 
 -- ---- what is seen behind them
 
--- tables are as they were, and so is the last call on an item's file
+-- tables are as they were, and so are the last call on an item's file and the info that was read
 record Leaves (other : List ℕ) (v w : View) : Type 0 where
   tables : w.tables ≡ v.tables
   last : last_on other w.calls ≡ last_on other v.calls
+  read : info_read w.calls ≡ info_read v.calls
 
 leaves_nothing : (other : List ℕ) (v : View) (ds : List Deed) → Nothing v ds
     → Leaves other v (view_from v ds)
@@ -73,14 +75,16 @@ unfolding view_from
 leaves_nothing other v ds h = record {
   tables = ap (λ (x : List Deed). (view_from v x).tables) h;
   last = ap (λ (x : List Deed). last_on other (view_from v x).calls) h;
+  read = ap (λ (x : List Deed). info_read (view_from v x).calls) h;
 }
 
 leaves_put : (other id : List ℕ) (len now : ℕ) (v : View) (ds : List Deed)
     → Hears (PutBlob id len) (Done now) v ds → Leaves other v (view_from v ds)
-unfolding view_from last_on
+unfolding view_from last_on info_read
 leaves_put other id len now v ds h = record {
   tables = ap (λ (x : List Deed). (view_from v x).tables) h;
   last = ap (λ (x : List Deed). last_on other (view_from v x).calls) h;
+  read = ap (λ (x : List Deed). info_read (view_from v x).calls) h;
 }
 
 leaves_these : (other id : List ℕ) (bytes : Option (List ℕ)) (v : View) (ds : List Deed)
@@ -107,6 +111,13 @@ pub tables_new : (blobs : Option (List Blob)) (id : List ℕ) (new : Bool) (sort
 tables_new blobs id new sort a b h =
     behind (λ t cs u us. u ≡ t) (PutsIfNew blobs id new) sort a b
     (λ v ds it. (leaves_new id blobs id new v ds it).tables) h
+
+pub read_new : (blobs : Option (List Blob)) (id : List ℕ) (new : Bool) (sort : Call → Bool)
+    (a b : WorkNow) → Does (PutsIfNew blobs id new) sort a b
+    → info_read (session_calls b.site.line.trail) ≡ info_read (session_calls a.site.line.trail)
+read_new blobs id new sort a b h =
+    behind (λ t cs u us. info_read us ≡ info_read cs) (PutsIfNew blobs id new) sort a b
+    (λ v ds it. (leaves_new id blobs id new v ds it).read) h
 
 pub last_new : (other : List ℕ) (blobs : Option (List Blob)) (id : List ℕ) (new : Bool)
     (sort : Call → Bool) (a b : WorkNow) → Does (PutsIfNew blobs id new) sort a b

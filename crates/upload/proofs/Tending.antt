@@ -13,6 +13,7 @@ use Rattle.law_licences.proofs.Joins.{view_from-append}
 use Rattle.law_licences.specs.Checks.{is_pending}
 use Rattle.law_licences.specs.Copies.{copies_for}
 use Rattle.law_licences.specs.Deeds.{Deed, Asks}
+use Rattle.law_licences.specs.Infos.{info_read}
 use Rattle.law_licences.specs.Items.{is_folder, is_note_in}
 use Rattle.law_licences.specs.Puts.{has_put}
 use Rattle.law_licences.specs.Views.{View, view_from}
@@ -32,12 +33,13 @@ use Rattle.upload.specs.Settled.{IsNoItem, WasUnreadable}
 use Rattle.session.specs.Asking.{IsAnswer}
 use Rattle.upload.specs.Uploading.{Clears, ClearsIf, Puts, PutsIfNew, PutsKept, PutsText, PutsThese, Settles, UploadsFound, UploadsOne, UploadsRow, Yields, blob_bytes, is_new_resource}
 
--- Rows that wait are kept, items of other ids aren't put, and what was heard isn't forgotten.
+-- Rows that wait are kept, items of other ids aren't put, what was heard isn't forgotten, and no other info is read.
 pub record Tends (id : List ℕ) (v w : View) : Type 0 where
   pub keeps : Keeps v.tables w.tables
   pub puts : (other : List ℕ) → bytes_eq id other ≡ false
       → has_put other w.calls ≡ has_put other v.calls
   pub heard : (other : List ℕ) → WasUnreadable other v.calls → WasUnreadable other w.calls
+  pub read : info_read w.calls ≡ info_read v.calls
 
 -- a part tends to the row of this id alone
 IsTending : List ℕ → Part → Type 0
@@ -58,6 +60,7 @@ tends_same id v ordered = record {
   keeps = keeps_same v.tables ordered;
   puts = λ other apart. refl;
   heard = λ other was. was;
+  read = refl;
 }
 
 pub tends_on : (id : List ℕ) (u v w : View) → Tends id u v → Tends id v w → Tends id u w
@@ -65,6 +68,7 @@ tends_on id u v w h k = record {
   keeps = keeps_on u.tables v.tables w.tables h.keeps k.keeps;
   puts = λ other apart. k.puts other apart ∙ h.puts other apart;
   heard = λ other was. k.heard other (h.heard other was);
+  read = k.read ∙ h.read;
 }
 
 tends_then : (id : List ℕ) (P Q : Part) → IsTending id P → IsTending id Q → IsTending id (Then P Q)
@@ -95,31 +99,34 @@ tends_nothing id v ds ordered h =
 -- ---- calls
 
 tends_get : (id other : List ℕ) (reply : Reply) → IsTending id (Hears (Get (Item other)) reply)
-unfolding IsTending view_from has_put WasUnreadable
+unfolding IsTending view_from has_put WasUnreadable info_read
 tends_get id other reply v ds ordered h =
     subst (λ (x : List Deed). Tends id v (view_from v x)) (sym h) (record {
       keeps = keeps_same v.tables ordered;
       puts = λ another apart. refl;
       heard = λ another was. inr was;
+      read = refl;
     })
 
 tends_blob : (id other : List ℕ) (len : ℕ) (reply : Reply)
     → IsTending id (Hears (PutBlob other len) reply)
-unfolding IsTending view_from has_put WasUnreadable
+unfolding IsTending view_from has_put WasUnreadable info_read
 tends_blob id other len reply v ds ordered h =
     subst (λ (x : List Deed). Tends id v (view_from v x)) (sym h) (record {
       keeps = keeps_same v.tables ordered;
       puts = λ another apart. refl;
       heard = λ another was. inr was;
+      read = refl;
     })
 
 tends_put : (id content : List ℕ) (reply : Reply) → IsTending id (Hears (Put (Item id) content) reply)
-unfolding IsTending view_from has_put WasUnreadable
+unfolding IsTending view_from has_put WasUnreadable info_read
 tends_put id content reply v ds ordered h =
     subst (λ (x : List Deed). Tends id v (view_from v x)) (sym h) (record {
       keeps = keeps_same v.tables ordered;
       puts = λ another apart. ap (λ (b : Bool). b || has_put another v.calls) apart;
       heard = λ another was. inr was;
+      read = refl;
     })
 
 -- ---- changes
@@ -131,6 +138,7 @@ tends_uploaded id other bytes v ds ordered h =
       keeps = keeps_uploaded v.tables other bytes ordered;
       puts = λ another apart. refl;
       heard = λ another was. was;
+      read = refl;
     })
 
 settles_uploaded : (id bytes : List ℕ) → IsSettling id (Changes (Uploaded id bytes))
@@ -147,6 +155,7 @@ tends_yields id row remote v ds ordered h =
       keeps = keeps_conflict v.tables row.id remote (copies_for row.content remote) ordered;
       puts = λ another apart. refl;
       heard = λ another was. was;
+      read = refl;
     })
 
 settles_yields : (row : Row) (remote : Option (List ℕ × Content))
@@ -163,6 +172,7 @@ tends_move id row v ds ordered h =
       keeps = keeps_moved v.tables row.id ordered;
       puts = λ another apart. refl;
       heard = λ another was. was;
+      read = refl;
     })
 
 tends_moves : (id : List ℕ) (rows : List Row) → IsTending id (ForEach Changes (map move_of rows))
@@ -269,7 +279,7 @@ tended_on row reply P v ds tends settles ordered h =
 only_got : (row : Row) (reply : Reply) (v : View) (ds : List Deed)
     → IsSorted row_id v.tables.rows → IsNoItem row.id reply
     → Then (Hears (Get (Item row.id)) reply) Nothing v ds → IsTended row.id v (view_from v ds)
-unfolding view_from has_put WasUnreadable
+unfolding view_from has_put WasUnreadable info_read
 only_got row reply v ds ordered none h =
     let e : ds ≡ Asks (Get (Item row.id)) (Some reply) ∷ [] =
     h.both
@@ -280,6 +290,7 @@ only_got row reply v ds ordered none h =
         keeps = keeps_same v.tables ordered;
         puts = λ another apart. refl;
         heard = λ another was. inr was;
+        read = refl;
       };
       settled = λ waits. inl (record { reply = reply; none = none; is = refl });
       unput = λ waits. refl;

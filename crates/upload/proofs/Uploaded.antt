@@ -17,7 +17,7 @@ use Rattle.session.specs.Work.{IsReady, WorkNow, view_of}
 use Rattle.session.specs.declared.finding.Finding.{Finding}
 use Rattle.session.specs.declared.finding.Finding.TheVariants.{Unreadable}
 use Rattle.keeper.specs.declared.blob.Blob.{Blob}
-use Rattle.upload.specs.Conditions.{AreUnput, is_new_row}
+use Rattle.upload.specs.Conditions.{AreUnput, IsPlain, is_new_row}
 use Rattle.upload.specs.Found.{IsUploadable}
 use Rattle.upload.specs.Uploading.{Settles, UploadsFound, UploadsOne, UploadsRow, is_upload}
 
@@ -76,7 +76,7 @@ both_true true b h k = k
 both_true false b h k = absurd cc
 
 pub uploadable_at : (d : SiteNow) (id : List ℕ) (row : Row) → Waits d.tables id row
-    → d.tables.info.e2ee.value ≡ false → AreUnput d → IsUploadable row d
+    → IsPlain d → AreUnput d → IsUploadable row d
 uploadable_at d id row h readable unput = record {
   at = h.own;
   pending = h.pending;

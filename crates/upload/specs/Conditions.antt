@@ -1,21 +1,24 @@
 -- What an upload asks of the client.
 use Rattle.std.specs.Prelude.{ℕ, ◌≡◌, ◌⊎◌, List, [], Bool, true, false, ◌&&◌, is_none, Option, Some, None}
 use Rattle.client.specs.Sites.{SiteNow}
-use Rattle.law_licences.specs.Puts.{has_put}
+use Rattle.law_licences.specs.Puts.{PutsPlain, has_put}
 use Rattle.law_licences.specs.Trails.{session_calls}
 use Rattle.local_store.specs.Tables.{row_at}
 use Rattle.local_store.specs.declared.row.Row.{Row}
-use Rattle.local_store.specs.declared.tables.Tables.{Tables}
 use Rattle.session.specs.Work.{IsAtWork, WorkNow}
 use Rattle.upload.specs.Uploading.{pending_ids}
 
--- Files are put as they are, as no key is known here; or none of these is to be put.
-abbrev pub CanPut : Tables → List (List ℕ) → Type 0
-CanPut t ids = (t.info.e2ee.value ≡ false) ⊎ (ids ≡ [])
+-- files are put as they are, as no key is known here
+abbrev pub IsPlain : SiteNow → Type 0
+IsPlain d = PutsPlain d.tables.info (session_calls d.line.trail)
+
+-- so they are, or none of these is to be put
+abbrev pub CanPut : SiteNow → List (List ℕ) → Type 0
+CanPut d ids = IsPlain d ⊎ (ids ≡ [])
 
 -- so it is for all rows that wait
-abbrev pub IsReadable : Tables → Type 0
-IsReadable t = CanPut t (pending_ids t)
+abbrev pub IsReadable : SiteNow → Type 0
+IsReadable d = CanPut d (pending_ids d.tables)
 
 -- the row waits, and its file was never there
 abbrev pub is_new_row : Option Row → Bool
@@ -31,5 +34,5 @@ AreUnput d =
 -- A session may upload: it is at work, all rows that wait may be put, and no file of a new one was put in it.
 pub record CanUpload (w : WorkNow) : Type 0 where
   pub ready : IsAtWork w
-  pub readable : IsReadable w.site.tables
+  pub readable : IsReadable w.site
   pub first : AreUnput w.site

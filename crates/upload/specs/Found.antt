@@ -17,6 +17,7 @@ use Rattle.local_store.specs.declared.row.Row.{Row}
 use Rattle.session.specs.Findings.{IsSoundFinding, finding_of}
 use Rattle.session.specs.Work.{view_of}
 use Rattle.session.specs.declared.finding.Finding.{Finding}
+use Rattle.upload.specs.Conditions.{IsPlain}
 
 -- a get of the row's file
 abbrev pub row_file_got : Row → Reply → Heard
@@ -35,14 +36,14 @@ pub record IsFoundForRow (row : Row) (finding : Finding) (d : SiteNow) : Type 0 
 pub record IsUploadable (row : Row) (d : SiteNow) : Type 0 where
   pub at : row_at d.tables row.id ≡ Some row
   pub pending : row.pending ≡ true
-  pub readable : d.tables.info.e2ee.value ≡ false
+  pub readable : IsPlain d
   pub unput : is_none row.base ≡ true → has_put row.id (session_calls d.line.trail) ≡ false
 
 -- the session's last call on its file row_file_got this, which may take its place
 pub record IsSeen (row : Row) (finding : Finding) (d : SiteNow) : Type 0 where
   pub found : IsFoundForRow row finding d
   pub sound : IsSoundFinding row.id finding
-  pub readable : d.tables.info.e2ee.value ≡ false
+  pub readable : IsPlain d
   pub unput : is_none row.base ≡ true → has_put row.id (session_calls d.line.trail) ≡ false
 
 -- the row may give way to this, or to nothing, whatever the session was shown

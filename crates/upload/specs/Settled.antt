@@ -46,6 +46,6 @@ AreLeft d ids =
 
 -- these may be put, no file of a new row was put in this session, and each row that waits is one of them or settled
 pub record AreUploadable (ids : List (List ℕ)) (d : SiteNow) : Type 0 where
-  pub readable : CanPut d.tables ids
+  pub readable : CanPut d ids
   pub unput : AreUnput d
   pub left : AreLeft d ids

@@ -1,9 +1,10 @@
-ghost use Rattle.std.specs.Prelude.{◌≡◌, IfOk, false};
+ghost use Rattle.std.specs.Prelude.{◌≡◌, IfOk};
 ghost use Rattle.item_text.specs.Grammar.{written};
 ghost use Rattle.local_store.specs.Rows.{item_of};
 ghost use Rattle.session.specs.Doing.{Ends, EndsGiving};
 ghost use Rattle.session.specs.Work.{IsAtWork};
 ghost use Rattle.session.specs.declared.finding.Finding.TheVariants.{Same};
+ghost use Rattle.upload.specs.Conditions.{IsPlain};
 ghost use Rattle.upload.specs.Found.{IsFoundForRow, IsSeen};
 ghost use Rattle.upload.specs.Uploading.{EndsUpload, Puts, PutsBytes, PutsTextOf, is_new_resource, is_upload};
 
@@ -41,7 +42,7 @@ fn put_if_new<W: Session>(alloc: Global, s: &mut W, row: &Row) -> Result<(), Ste
 fn put_text<W: Session>(alloc: Global, s: &mut W, row: &Row) -> Result<Bytes, StepErr>
     requires ready { IsAtWork (W.now s.old) }
     requires found { IsFoundForRow row.now Same (W.now s.old).site }
-    requires readable { (W.now s.old).site.tables.info.e2ee.value ≡ false }
+    requires readable { IsPlain (W.now s.old).site }
 
     ensures ends { Ends (PutsTextOf row.now) is_upload (W.now s.old) result (W.now s.new) }
     ensures text { IfOk result (λ text. text ≡ written (item_of row.now.content)) }

@@ -1,9 +1,9 @@
-ghost use Rattle.std.specs.Prelude.{◌≡◌, IfOk, OnOk, false};
+ghost use Rattle.std.specs.Prelude.{◌≡◌, IfOk, OnOk};
 ghost use Rattle.lease.specs.Standing.{IsSameBut};
 ghost use Rattle.session.specs.Doing.{Ends};
 ghost use Rattle.session.specs.Parts.{ForEach};
 ghost use Rattle.session.specs.Work.{IsAtWork, IsReady, work};
-ghost use Rattle.upload.specs.Conditions.{AreUnput, CanUpload, IsReadable};
+ghost use Rattle.upload.specs.Conditions.{AreUnput, CanUpload, IsPlain, IsReadable};
 ghost use Rattle.upload.specs.Found.{IsSeen, IsUploadable};
 ghost use Rattle.upload.specs.Settled.{AreSettled, AreUploadable};
 ghost use Rattle.upload.specs.Uploading.{EndsUpload, Settles, Uploads, UploadsOne, UploadsRow, is_upload, pending_ids};
@@ -49,7 +49,7 @@ fn upload_row<W: Session>(alloc: Global, s: &mut W, row: &Row) -> Result<(), Ste
 /// Uploads the row of this id, if it still waits.
 fn upload_one<W: Session>(alloc: Global, s: &mut W, id: &Id) -> Result<(), StepErr>
     requires ready { IsAtWork (W.now s.old) }
-    requires readable { (W.now s.old).site.tables.info.e2ee.value ≡ false }
+    requires readable { IsPlain (W.now s.old).site }
     requires unput { AreUnput (W.now s.old).site }
 
     ensures ends { EndsUpload (λ blobs. UploadsOne blobs id.now)
@@ -115,7 +115,7 @@ pub fn upload_all<S: Client>(
     report: &mut SyncReport,
 ) -> Result<(), StepErr>
     requires ready { IsReady (S.site site.old) lease.old }
-    requires readable { IsReadable (S.site site.old).tables }
+    requires readable { IsReadable (S.site site.old) }
     requires first { AreUnput (S.site site.old) }
 
     ensures ready { OnOk result (IsReady (S.site site.new) lease.new) }

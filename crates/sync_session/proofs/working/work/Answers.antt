@@ -1,6 +1,7 @@
 use Rattle.std.proofs.Common.{◌∙◌, Option, ap, subst, sym}
 use Rattle.std.proofs.lemmas.Result.{err_from_is_err_and}
 use Rattle.conflicts.specs.declared.refusal.Refusal.{Refusal}
+use Rattle.session_opening.proofs.Merged.{merged_opened}
 use Rattle.sync_session.proofs.Worked.{can_put, lawful_behind, merges_behind, opened, unput_opened, went_stopped, works_behind, works_done, works_keyless, works_unopened}
 use Rattle.sync_session.specs.Keys.{RefusesKeysOr, needs_key}
 use Rattle.sync_session.proofs.working.work.Goals as goal
@@ -24,7 +25,7 @@ exchange-requires g c =
       can = record {
         ready = c.in_ok-open_session.ensures.opens.ready;
         readable =
-            can_put b.site.tables
+            can_put b.site (merged_opened (now c.args.s.now) b c.in_ok-open_session.ensures.opens)
             (ap needs_key (sym c.tables.ensures)
             ∙ subst (λ (o : Option Refusal). RefusesKeysOr c.tables.result.now o) c.in_default.is
             c.key_refusal.ensures);

@@ -1,17 +1,16 @@
 use Rattle.std.specs.Prelude.{List, ℕ}
-use Rattle.std.proofs.Common.{◌∙◌, ap, subst, sym}
+use Rattle.std.proofs.Common.{subst, sym}
 use Rattle.std.proofs.lemmas.Result.{err_from_is_err_and}
 use Rattle.item_text.specs.Grammar.{written}
 use Rattle.law_licences.specs.Puts.{MayUpload}
 use Rattle.local_store.specs.Rows.{item_of}
 use Rattle.local_store.specs.declared.change.Change.TheVariants.{Uploaded}
-use Rattle.local_store.specs.declared.tables.Tables.{Tables}
 use Rattle.session.proofs.Ending.{ends_then, gives_up_behind}
 use Rattle.session.specs.Doing.{Ends}
 use Rattle.session.specs.Parts.{Changes, Then}
 use Rattle.session.specs.Work.{view_of}
-use Rattle.upload.proofs.Licensed.{may_upload, still_found}
-use Rattle.upload.proofs.Loaded.{last_new, tables_new}
+use Rattle.upload.proofs.Licensed.{may_upload, still_found, still_plain}
+use Rattle.upload.proofs.Loaded.{last_new, read_new, tables_new}
 use Rattle.upload.specs.Uploading.{PutsIfNew, PutsText, blobs_of, is_new_resource, is_upload}
 use Rattle.upload.proofs.putting.put_row.Goals as goal
 
@@ -33,10 +32,11 @@ put_text-requires-clause-readable g c =
     let now = g.W.Session.now in
     let row = c.args.row.now in
     let a = now c.args.s.now in
-    ap (λ (t : Tables). t.info.e2ee.value)
-    (tables_new (blobs_of a.site.keeper.kept) row.id (is_new_resource row) is_upload a
-    (now c.put_if_new.new.s) c.in_ok-put_if_new.ensures.ends)
-    ∙ c.requires.seen.readable
+    let b = now c.put_if_new.new.s in
+    let blobs = blobs_of a.site.keeper.kept in
+    let put = c.in_ok-put_if_new.ensures.ends in
+    still_plain a.site b.site (tables_new blobs row.id (is_new_resource row) is_upload a b put)
+    (read_new blobs row.id (is_new_resource row) is_upload a b put) c.requires.seen.readable
 
 pub make-requires-clause-may : goal.make-requires-clause-may
 make-requires-clause-may g c = λ shown.

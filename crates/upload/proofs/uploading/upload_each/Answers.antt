@@ -7,7 +7,7 @@ use Rattle.session.proofs.Ending.{does_nothing, gives_up_behind}
 use Rattle.session.proofs.Repeating.{does_all, does_here, here_and_left}
 use Rattle.session.specs.Doing.{Does}
 use Rattle.session.specs.Parts.{ForEach}
-use Rattle.sync_info.specs.declared.info.Info.{Info}
+use Rattle.upload.proofs.Licensed.{plain_as}
 use Rattle.upload.proofs.Left.{can_put, left_on, same_blobs, settled, tended, unput_on}
 use Rattle.upload.specs.Settled.{AreLeft}
 use Rattle.upload.specs.Uploading.{UploadsOne, blobs_of, is_upload}
@@ -17,6 +17,7 @@ pub loop-index-init : goal.loop-index-init
 unfolding ForEach
 loop-index-init g c = record {
   info = refl;
+  read = refl;
   unput = c.requires.uploadable.unput;
   left = c.requires.uploadable.left;
   does = does_nothing is_upload _ c.requires.ready;
@@ -27,9 +28,10 @@ upload_one-requires-clause-ready g c = c.loop-index.invariant.does.ready
 
 pub upload_one-requires-clause-readable : goal.upload_one-requires-clause-readable
 upload_one-requires-clause-readable g c =
-    ap (λ (info : Info). info.e2ee.value) c.loop-index.invariant.info
-    ∙ can_put (g.W.Session.now c.args.s.now).site.tables c.args.ids.now c.loop-index.index (omega arith)
-    c.requires.uploadable.readable
+    let a = (g.W.Session.now c.args.s.now).site in
+    plain_as a (g.W.Session.now c.loop-index.s).site c.loop-index.invariant.info
+    c.loop-index.invariant.read
+    (can_put a c.args.ids.now c.loop-index.index (omega arith) c.requires.uploadable.readable)
 
 pub loop-index-preserved : goal.loop-index-preserved
 loop-index-preserved g c =
@@ -47,6 +49,7 @@ loop-index-preserved g c =
     before.does.ready.tidy.sound.rows_ordered done.ends in
     record {
       info = t.tended.tends.keeps.info ∙ before.info;
+      read = t.tended.tends.read ∙ before.read;
       unput = unput_on id b.site n.site t before.unput;
       left = left_on b.site n.site id (drop (i + 1) ids) t
           (subst (λ (rest : List (List ℕ)). AreLeft b.site rest)

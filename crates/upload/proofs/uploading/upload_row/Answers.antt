@@ -1,9 +1,8 @@
-use Rattle.std.proofs.Common.{◌∙◌, ap}
+use Rattle.std.proofs.Common.{ap}
 use Rattle.std.proofs.lemmas.Result.{err_from_is_err_and}
-use Rattle.local_store.specs.declared.tables.Tables.{Tables}
 use Rattle.session.proofs.Behind.{sound_behind}
 use Rattle.keeper.specs.Keepers.{KeeperNow}
-use Rattle.upload.proofs.Licensed.{found_row, unput_row}
+use Rattle.upload.proofs.Licensed.{found_row, read_row, still_plain, unput_row}
 use Rattle.upload.proofs.Uploaded.{ends_row}
 use Rattle.upload.specs.Uploading.{blobs_of, is_upload}
 use Rattle.std.specs.Prelude.{refl}
@@ -21,7 +20,10 @@ settle-requires-clause-seen g c =
       found = found_row row _ is_upload _ _ c.find.ensures.same.tables can.at can.pending found;
       sound = sound_behind row.id _ is_upload _ _ found;
       readable =
-          ap (λ (t : Tables). t.info.e2ee.value) c.find.ensures.same.tables ∙ can.readable;
+          let a = g.W.Session.now c.args.s.now in
+          let b = g.W.Session.now c.find.new.self in
+          still_plain a.site b.site c.find.ensures.same.tables
+          (read_row row.id c.in_ok-finding.finding is_upload a b found) can.readable;
       unput = λ none. unput_row row.id _ is_upload _ _ found (can.unput none);
     }
 
