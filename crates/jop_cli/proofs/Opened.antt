@@ -8,7 +8,8 @@ use Rattle.jop_target.specs.declared.reply.Reply.TheVariants.{Got}
 use Rattle.law_licences.proofs.Joins.{view_from-append}
 use Rattle.law_licences.specs.Deeds.{Deed}
 use Rattle.law_licences.specs.Views.{Heard, View, view_from}
-use Rattle.session_opening.specs.Opening.{Joins, Opens, PutsInfo, ReadsInfo, SetsInfo}
+use Rattle.session_opening.proofs.Merged.{set_calls, set_info}
+use Rattle.session_opening.specs.Opening.{Joins, Opens, PutsInfo, ReadsInfo}
 use Rattle.sync_info.specs.Merge.{merged}
 use Rattle.sync_info.specs.declared.info.Info.{Info}
 use Rattle.target_upgrade.specs.Reading.{GivesInfo}
@@ -39,19 +40,6 @@ put_opening info remote reply v ds (inl h) last =
     (sym h.1) last)
 put_opening info remote reply v ds (inr h) last =
     inr (h.1.0, v.calls, last, ap (λ (x : List Deed). (view_from v x).calls) h.1.1)
-
-set_info : (info : Info) (v : View) (ds : List Deed) → SetsInfo info v ds →
-    (view_from v ds).tables.info ≡ info
-unfolding view_from
-set_info info v ds (inl h) =
-    ap (λ (x : List Deed). (view_from v x).tables.info) h.1 ∙ sym h.0
-set_info info v ds (inr h) = ap (λ (x : List Deed). (view_from v x).tables.info) h.1
-
-set_calls : (info : Info) (v : View) (ds : List Deed) → SetsInfo info v ds →
-    (view_from v ds).calls ≡ v.calls
-unfolding view_from
-set_calls info v ds (inl h) = ap (λ (x : List Deed). (view_from v x).calls) h.1
-set_calls info v ds (inr h) = ap (λ (x : List Deed). (view_from v x).calls) h.1
 
 -- ---- the opening
 

@@ -128,7 +128,7 @@ left : (before after : OutsideNow) (error : OwnErr) → Owns before (Err error) 
 left before after own_errors.KeeperFault h =
     left_same before after (record after.keeper { kept = before.keeper.kept }) refl h.same
 left before after own_errors.EntropyFault h = left_same before after before.keeper refl h.1
-left before after own_errors.NoMemory h = left_same before after before.keeper refl h
+left before after own_errors.NoMemory h = left_same before after before.keeper refl h.1
 
 explained_unowned : (v : Verb) (before after : OutsideNow) (error : OwnErr) →
     Owns before (Err error) after → IsUncalled after.line.trail →

@@ -84,9 +84,9 @@ ends_in p old new (Err KeeperFault) (inl is) =
     inl (none_done old new (ap (λ (o : OutsideNow). o.keeper.kept) is.same)
     (ap (λ (o : OutsideNow). o.line) is.same) (ap (λ (o : OutsideNow). o.made) is.same))
 ends_in p old new (Err KeeperFault) (inr is) = of_cut p old new is.0
-ends_in p old new (Err NoMemory) (inl is) =
+ends_in p old new (Err NoMemory) (inl is, unfailed) =
     inl (none_done old new (ap (λ (k : KeeperNow). k.kept) is.keeper) is.line is.made)
-ends_in p old new (Err NoMemory) (inr is) = of_cut p old new is.0
+ends_in p old new (Err NoMemory) (inr is, unfailed) = of_cut p old new is
 ends_in p old new (Err refusal) is =
     of_early p old new refusal is (λ late. elim late [ inl same ↦ cc | inr same ↦ cc ])
 

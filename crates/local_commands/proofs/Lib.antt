@@ -1,3 +1,4 @@
+pub mod CutShort
 pub mod Edits
 pub mod InARow
 pub mod Leaving

@@ -152,10 +152,16 @@ IsEndedByKeeper p old new =
     HasKeeperFailed old new
     ⊎ (IsCutShort p old new × HasRisen old.keeper.faults new.keeper.faults)
 
--- memory ran out, before anything was saved, or at an act; the keeper didn't fail
+-- neither the keeper failed, nor the input, nor the clock, nor the random source
+pub record NoneHasFailed (old new : OutsideNow) : Type 0 where
+  pub keeper : new.keeper.faults ≡ old.keeper.faults
+  pub input : new.input.faults ≡ old.input.faults
+  pub clock : new.clock.faults ≡ old.clock.faults
+  pub entropy : new.entropy.faults ≡ old.entropy.faults
+
+-- memory ran out, before anything was saved, or at an act; a failure is never told as that
 abbrev pub IsEndedByMemory : Plan → OutsideNow → OutsideNow → Type 0
-IsEndedByMemory p old new =
-    IsUnsaved old new ⊎ (IsCutShort p old new × (new.keeper.faults ≡ old.keeper.faults))
+IsEndedByMemory p old new = (IsUnsaved old new ⊎ IsCutShort p old new) × NoneHasFailed old new
 
 -- ---- each answer, by its cause
 

@@ -46,7 +46,7 @@ TakesOr intake old (Ok bytes) new = Takes intake old bytes new
 TakesOr intake old (Err SourceFault) new = FailsToGive intake old new
 TakesOr intake old (Err (TooLarge len)) new = GivesTooMuch len intake old new
 TakesOr intake old (Err NotText) new = GivesNoText intake old new
-TakesOr intake old (Err NoMemory) new = Unit {0}
+TakesOr intake old (Err NoMemory) new = new.faults ≡ old.faults
 TakesOr intake old (Err refusal) new = ⊥
 
 -- what the taking of an input comes to; all else is as it was
