@@ -9,7 +9,8 @@ use Rattle.std.proofs.lemmas.List.Sorted.{All-permutation}
 pub sound_more : {T : Type 0} (Q : T → Type 0) (ts new : List T) (t : T) → new ≡ ts ++ t ∷ []
     → All Q ts → Q t → All Q new
 sound_more Q ts new t is all sound =
-    subst (λ us. All Q us) (sym is) (All-append Q ts (t ∷ []) all (All-cons Q t [] sound (All-nil Q)))
+    subst (λ us. All Q us) (sym is)
+    (All-append Q ts (t ∷ []) all (All-cons Q t [] sound (All-nil Q)))
 
 -- sound values in another order
 pub sound_moved : {T : Type 0} (Q : T → Type 0) (xs ys : List T) → IsPermutation xs ys

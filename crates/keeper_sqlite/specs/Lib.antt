@@ -1,2 +1,6 @@
+pub mod Answers
 pub mod Faults
+pub mod Opening
+pub mod Speaking
+pub mod Statements
 pub mod Waiting

@@ -1,124 +1,30 @@
 //! Opening the file.
 
-ghost use Rattle.std.specs.Prelude.{All, IfOk, ⊤};
-ghost use Rattle.local_store.specs.Sound.{IsSound};
-ghost use Rattle.keeper_records.specs.Writes.{IsSoundWrite};
-
-use crate::database::{Database, Statements, begin, commit};
+use crate::new_tables::{AreThere, NewTables};
+use crate::open_file::OpenFile;
+use crate::opened::Opened;
 use crate::waiting::{Tried, patiently};
-use crate::work::{Work, done_on};
-use crate::writing::make_all;
-use jop_base::{Copied, Seq};
-use keeper_file::{Layout, TABLES, Trouble, holds_tables, layout_of, make_file};
-use keeper_records::Write;
-use local_store::Tables;
-use sqlite::{Alter, Connection};
-use std::alloc::{AllocError, Global};
+use keeper_file::{Trouble, holds_tables, make_file};
+use std::alloc::Global;
 use std::thread;
 use std::time::Duration;
 
-// ---- new tables
-
-/// What the keys of a database hold that has these tables.
-fn key_writes(alloc: Global, tables: &Tables) -> Result<Seq<Write>, AllocError>
-    requires { IsSound tables.now }
-    ensures { IfOk result (λ writes. All IsSoundWrite writes) }
-{
-    let mut writes = Seq::new(alloc);
-    writes.push(Write::SetNext(tables.next_conflict))?;
-    writes.push(Write::SetContext(tables.context.copy(alloc)?))?;
-    writes.push(Write::SetInfo(tables.info.copy(alloc)?))?;
-    Ok(writes)
-}
-
-/// What the keys of a new database hold.
-fn first_writes(alloc: Global) -> Result<Seq<Write>, AllocError>
-    ensures { IfOk result (λ writes. All IsSoundWrite writes) }
-{
-    let tables = Tables::new(alloc);
-    key_writes(alloc, &tables)
-}
-
-fn make_tables<D: Statements>(together: &mut D) -> Result<(), Trouble> {
-    for table in TABLES {
-        together.run(table, &[])?;
-    }
-    Ok(())
-}
-
-fn make_keys<D: Statements>(alloc: Global, together: &mut D) -> Result<(), Trouble> {
-    let writes = first_writes(alloc)?;
-    make_all(alloc, together, writes.as_slice())
-}
-
-/// Makes the tables, all together.
-fn make_new<S: Alter>(alloc: Global, database: &mut Connection<S>) -> Result<(), Trouble> {
-    let mut together = begin(database)?;
-    make_tables(&mut together)?;
-    make_keys(alloc, &mut together)?;
-    commit(together)
-}
-
-/// Makes the tables, unless another run has made them meanwhile.
-#[derive(Drop)]
-struct NewTables;
-
-impl Work for NewTables {
-    type Answer = ();
-
-    ghost is_fit = { λ _. ⊤ };
-
-    ghost answers = { λ _. ⊤ };
-
-    fn done<S: Alter>(&self, alloc: Global, database: &mut Connection<S>) -> Result<(), Trouble> {
-        match layout_of(database)? {
-            Layout::Blank => make_new(alloc, database),
-            Layout::Tables => Ok(()),
-            Layout::Foreign => Err(Trouble::Fault),
-        }
-    }
-}
-
-// ---- the tables that are there
-
-/// Whether the tables stand in the database, and nothing else.
-#[derive(Drop)]
-struct HasTables;
-
-impl Work for HasTables {
-    type Answer = bool;
-
-    ghost is_fit = { λ _. ⊤ };
-
-    ghost answers = { λ _. ⊤ };
-
-    fn done<S: Alter>(
-        &self,
-        _alloc: Global,
-        database: &mut Connection<S>,
-    ) -> Result<bool, Trouble> {
-        Ok(layout_of(database)? == Layout::Tables)
-    }
-}
-
-// ---- opening
-
 /// Makes the tables in a file that is new, and marks it.
 fn fill_file(rt: &HostRuntime, alloc: Global, path: &str) -> Result<(), Trouble> {
-    let mut database = Connection::open(rt, path)?;
-    done_on(alloc, &mut database, &NewTables)?;
-    database.close()?;
+    let mut file = OpenFile::open(rt, path)?;
+    file.do_work(alloc, &NewTables)?;
+    file.close()?;
     holds_tables(rt, alloc, path)?;
     Ok(())
 }
 
 /// Opens a file with the tables.
-fn open_file(rt: &HostRuntime, alloc: Global, path: &str) -> Result<Database, Trouble> {
-    let mut database = Connection::open(rt, path)?;
-    if !done_on(alloc, &mut database, &HasTables)? {
+fn open_file(rt: &HostRuntime, alloc: Global, path: &str) -> Result<OpenFile, Trouble> {
+    let mut file = OpenFile::open(rt, path)?;
+    if !file.do_work(alloc, &AreThere)? {
         return Err(Trouble::Fault);
     }
-    Ok(database)
+    Ok(file)
 }
 
 /// Whether the database opens no file of this path, whatever stands there.
@@ -127,7 +33,7 @@ fn is_refused(path: &str) -> bool {
 }
 
 /// Opens the file, or makes it.
-fn open_once(rt: &HostRuntime, alloc: Global, path: &str) -> Result<Database, Trouble> {
+fn open_once(rt: &HostRuntime, alloc: Global, path: &str) -> Result<OpenFile, Trouble> {
     if is_refused(path) {
         return Err(Trouble::Fault);
     }
@@ -149,11 +55,11 @@ struct Opening<'a> {
 }
 
 impl Tried for Opening<'_> {
-    type Answer = Database;
+    type Answer = OpenFile;
 
     ghost paused = { λ opening. opening.paused };
 
-    fn attempt(&mut self) -> Result<Database, Trouble> {
+    fn attempt(&mut self) -> Result<OpenFile, Trouble> {
         open_once(self.rt, self.alloc, self.path)
     }
 
@@ -163,8 +69,9 @@ impl Tried for Opening<'_> {
     }
 }
 
-/// Opens the file, or makes it, and waits up to five seconds for another run or program that has it open.
-pub(crate) fn open(rt: &HostRuntime, alloc: Global, path: &str) -> Result<Database, Trouble> {
+/// Opens the file, or makes it, and waits up to five seconds for another run or program that has it
+/// open.
+pub(crate) fn open(rt: &HostRuntime, alloc: Global, path: &str) -> Result<OpenFile, Trouble> {
     let mut opening = Opening {
         rt,
         alloc,

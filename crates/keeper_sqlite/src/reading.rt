@@ -1,103 +1,75 @@
 //! What is read from the database.
 
-ghost use Rattle.std.specs.Prelude.{All, IfOk, OnOk, ⊤};
+ghost use Rattle.std.specs.Prelude.{◌≡◌, All, IfOk, IfSome, Some, ⊤};
+ghost use Rattle.std.specs.List.Sorted.{IsPermutation};
 ghost use Rattle.local_store.specs.Sound.{IsSound, IsSoundRow};
+ghost use Rattle.keeper_sqlite.specs.Answers.{BlobShown, KeyShown, MetaShown, RowShown, RowsShown, TablesShown};
 
-use crate::columns::FromColumns;
-use crate::database::{Answer, Queries, rows_of};
-use crate::statements::{ALL_CONFLICTS, ALL_DELETIONS, ALL_ROWS, META, ROW};
+use crate::database::Database;
+use crate::query::Query;
+use crate::values::text;
 use crate::work::Work;
 use jop_base::{Bytes, Id, Seq};
-use keeper_columns::{DeletionRecord, MetaRecord, NoteRecord, Record, RowRecord};
+use keeper_columns::MetaRecord;
 use keeper_file::Trouble;
-use local_store::{Row, Tables};
-use sqlite::{Alter, Connection, Row as Columns, params};
+use local_store::{ConflictNote, Deletion, Row, Tables};
 use std::alloc::Global;
 
-/// Puts the sound value that the record in a row holds behind the others. The record itself is let go.
-#[tactic(auto, using(crate::proofs::Found::sound_more))]
-fn take<R: Record + FromColumns>(
-    alloc: Global,
-    row: &Columns,
-    found: &mut Seq<R::Held>,
-) -> Result<(), Trouble>
-    requires { All R.is_sound found.old }
-    ensures { OnOk result (All R.is_sound found.new) }
-{
-    let record = R::from_columns(alloc, row)?;
-    let value = record.read(alloc)?;
-    found.push(value)?;
-    Ok(())
-}
-
-/// Takes the rows that are left of an answer.
-fn take_all<R: Record + FromColumns, A: Answer>(
-    alloc: Global,
-    answer: &mut A,
-    found: &mut Seq<R::Held>,
-) -> Result<(), Trouble>
-    requires { All R.is_sound found.old }
-    ensures { OnOk result (All R.is_sound found.new) }
-{
-    'each: for _ in 0..u64::MAX {
-        answer.advance()?;
-        match answer.row() {
-            Some(row) => take::<R>(alloc, row, found)?,
-            None => return Ok(()),
-        }
-    }
-    Err(Trouble::Fault)
-}
-
-/// What the records that a query answers hold. They are read one after the other, so that no two are in memory.
-fn all_of<R: Record + FromColumns, S: Alter>(
-    alloc: Global,
-    database: &mut Connection<S>,
-    query: &str,
-) -> Result<Seq<R::Held>, Trouble>
-    ensures { IfOk result (λ values. All R.is_sound values) }
-{
-    let mut found = Seq::new(alloc);
-    let mut answer = rows_of(database, query)?;
-    take_all::<R, _>(alloc, &mut answer, &mut found)?;
-    Ok(found)
-}
-
-/// The rows in the order of their ids. For that order the database would look each row up, all over its file.
+/// The rows in the order of their ids. For that order the database would look each row up, all over
+/// its file.
 #[tactic(auto, using(crate::proofs::Found::sound_moved))]
 fn in_order(rows: Seq<Row>) -> Seq<Row>
     requires { All IsSoundRow rows }
-    ensures { All IsSoundRow result }
+    ensures sound { All IsSoundRow result }
+    ensures sorted { IsPermutation rows result }
 {
     let mut rows = rows.into_vec();
     rows.sort_unstable_by_key(|row| row.id);
     Seq::from_vec(rows)
 }
 
-/// What a query answers of this key, if it answers anything.
-fn one_of<T: FromColumns, D: Queries>(
+/// All rows.
+#[tactic(auto, using(crate::proofs::Standing::rows_shown))]
+fn rows<D: Database>(alloc: Global, database: &mut D) -> Result<Seq<Row>, Trouble>
+    ensures shown { IfOk result (λ rows. RowsShown (D.state database.old).shows rows) }
+    ensures sound { IfOk result (λ rows. All IsSoundRow rows) }
+    ensures same { D.state database.new ≡ D.state database.old }
+{
+    let found = database.all::<Row>(alloc, Query::AllRows)?;
+    Ok(in_order(found))
+}
+
+/// The value of a key, if it is there.
+fn value_at<D: Database>(
     alloc: Global,
     database: &mut D,
-    query: &str,
     key: &str,
-) -> Result<Option<T>, Trouble> {
-    match database.first(query, params![key])? {
-        Some(row) => Ok(Some(T::from_columns(alloc, &row)?)),
-        None => Ok(None),
-    }
+) -> Result<Option<Bytes>, Trouble>
+    ensures shown { IfOk result (λ value. KeyShown (D.state database.old).shows key.now value) }
+    ensures same { D.state database.new ≡ D.state database.old }
+{
+    let value = database.first::<Bytes>(alloc, Query::Meta, &[text(key)])?;
+    Ok(value)
 }
 
 /// The value of a key that has to be there.
-fn value_of<D: Queries>(alloc: Global, database: &mut D, key: &str) -> Result<Bytes, Trouble> {
-    match one_of(alloc, database, META, key)? {
+fn value_of<D: Database>(alloc: Global, database: &mut D, key: &str) -> Result<Bytes, Trouble>
+    ensures shown { IfOk result
+        (λ value. KeyShown (D.state database.old).shows key.now (Some value)) }
+    ensures same { D.state database.new ≡ D.state database.old }
+{
+    match value_at(alloc, database, key)? {
         Some(value) => Ok(value),
         None => Err(Trouble::Fault),
     }
 }
 
-fn meta<D: Queries>(alloc: Global, database: &mut D) -> Result<MetaRecord, Trouble> {
+fn meta<D: Database>(alloc: Global, database: &mut D) -> Result<MetaRecord, Trouble>
+    ensures shown { IfOk result (λ meta. MetaShown (D.state database.old).shows meta) }
+    ensures same { D.state database.new ≡ D.state database.old }
+{
     Ok(MetaRecord {
-        client: one_of(alloc, database, META, "client")?,
+        client: value_at(alloc, database, "client")?,
         next_conflict: value_of(alloc, database, "next_conflict")?,
         moment: value_of(alloc, database, "moment")?,
         seen: value_of(alloc, database, "seen")?,
@@ -105,14 +77,16 @@ fn meta<D: Queries>(alloc: Global, database: &mut D) -> Result<MetaRecord, Troub
     })
 }
 
-fn tables<S: Alter>(alloc: Global, database: &mut Connection<S>) -> Result<Tables, Trouble>
-    ensures { IfOk result (λ tables. IsSound tables) }
+fn tables<D: Database>(alloc: Global, database: &mut D) -> Result<Tables, Trouble>
+    ensures shown { IfOk result (λ tables. TablesShown (D.state database.old).shows tables) }
+    ensures sound { IfOk result (λ tables. IsSound tables) }
+    ensures same { D.state database.new ≡ D.state database.old }
 {
-    let rows = all_of::<RowRecord, S>(alloc, database, ALL_ROWS)?;
-    let deletions = all_of::<DeletionRecord, S>(alloc, database, ALL_DELETIONS)?;
-    let conflicts = all_of::<NoteRecord, S>(alloc, database, ALL_CONFLICTS)?;
+    let rows = rows(alloc, database)?;
+    let deletions = database.all::<Deletion>(alloc, Query::AllDeletions)?;
+    let conflicts = database.all::<ConflictNote>(alloc, Query::AllConflicts)?;
     let meta = meta(alloc, database)?;
-    let tables = meta.tables(alloc, in_order(rows), deletions, conflicts)?;
+    let tables = meta.tables(alloc, rows, deletions, conflicts)?;
     Ok(tables)
 }
 
@@ -125,58 +99,77 @@ impl Work for AllTables {
 
     ghost is_fit = { λ _. ⊤ };
 
-    ghost answers = { IsSound };
+    ghost answers = { λ _ old tables new.
+        IsSound tables × TablesShown old.shows tables × (new ≡ old) };
 
-    fn done<S: Alter>(
-        &self,
-        alloc: Global,
-        database: &mut Connection<S>,
-    ) -> Result<Tables, Trouble> {
-        tables(alloc, database)
+    #[tactic(auto, using(crate::proofs::Speaking::unsaid))]
+    fn done<D: Database>(&self, alloc: Global, database: &mut D) -> Result<Tables, Trouble> {
+        let tables = tables(alloc, database)?;
+        Ok(tables)
     }
 }
 
-/// Reads the record of a row.
+/// Reads a row.
 #[derive(Drop)]
 pub(crate) struct RowOf<'a> {
     pub id: &'a Id,
 }
 
 impl Work for RowOf<'_> {
-    type Answer = Option<RowRecord>;
+    type Answer = Option<Row>;
 
     ghost is_fit = { λ _. ⊤ };
 
-    ghost answers = { λ _. ⊤ };
+    ghost answers = { λ work old row new.
+        IfSome row IsSoundRow × RowShown old.shows work.id.now row × (new ≡ old) };
 
-    fn done<S: Alter>(
-        &self,
-        alloc: Global,
-        database: &mut Connection<S>,
-    ) -> Result<Option<RowRecord>, Trouble> {
-        one_of(alloc, database, ROW, self.id.as_str())
+    #[tactic(auto, using(crate::proofs::Speaking::unsaid))]
+    fn done<D: Database>(&self, alloc: Global, database: &mut D) -> Result<Option<Row>, Trouble> {
+        let key = [text(self.id.as_str())];
+        let row = database.first::<Row>(alloc, Query::OneRow, &key)?;
+        Ok(row)
     }
 }
 
-/// Reads the bytes that a query answers of a key.
+/// Reads the value of a key that has to be there.
 #[derive(Drop)]
-pub(crate) struct BytesOf<'a> {
-    pub query: &'a str,
+pub(crate) struct ValueOf<'a> {
     pub key: &'a str,
 }
 
-impl Work for BytesOf<'_> {
+impl Work for ValueOf<'_> {
+    type Answer = Bytes;
+
+    ghost is_fit = { λ _. ⊤ };
+
+    ghost answers = { λ work old value new.
+        KeyShown old.shows work.key.now (Some value) × (new ≡ old) };
+
+    #[tactic(auto, using(crate::proofs::Speaking::unsaid))]
+    fn done<D: Database>(&self, alloc: Global, database: &mut D) -> Result<Bytes, Trouble> {
+        let value = value_of(alloc, database, self.key)?;
+        Ok(value)
+    }
+}
+
+/// Reads the bytes of a resource.
+#[derive(Drop)]
+pub(crate) struct BlobOf<'a> {
+    pub id: &'a Id,
+}
+
+impl Work for BlobOf<'_> {
     type Answer = Option<Bytes>;
 
     ghost is_fit = { λ _. ⊤ };
 
-    ghost answers = { λ _. ⊤ };
+    ghost answers = { λ work old bytes new.
+        BlobShown old.shows work.id.now bytes × (new ≡ old) };
 
-    fn done<S: Alter>(
-        &self,
-        alloc: Global,
-        database: &mut Connection<S>,
-    ) -> Result<Option<Bytes>, Trouble> {
-        one_of(alloc, database, self.query, self.key)
+    #[tactic(auto, using(crate::proofs::Speaking::unsaid))]
+    fn done<D: Database>(&self, alloc: Global, database: &mut D) -> Result<Option<Bytes>, Trouble> {
+        let key = [text(self.id.as_str())];
+        let bytes = database.first::<Bytes>(alloc, Query::OneBlob, &key)?;
+        Ok(bytes)
     }
 }

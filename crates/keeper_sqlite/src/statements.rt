@@ -1,5 +1,11 @@
-//! All that is asked of the database: one statement for each kind of read and of write. What the tables are, `keeper_file`
-//! says.
+//! All that is asked of the database: one text for each kind of read and of write, which no clause
+//! can say. What the tables are, `keeper_file` says.
+
+pub(crate) const BEGIN: &str = "BEGIN";
+
+pub(crate) const COMMIT: &str = "COMMIT";
+
+pub(crate) const ROLL_BACK: &str = "ROLLBACK";
 
 pub(crate) const META: &str = "SELECT value FROM meta WHERE key = ?1";
 
@@ -25,7 +31,8 @@ pub(crate) const SET_DELETION: &str =
 
 pub(crate) const DROP_DELETION: &str = "DELETE FROM deletions WHERE id = ?1";
 
-/// Nothing asks for the bytes of a resource that has no row, and no deletion that is still to be made on the target.
+/// Nothing asks for the bytes of a resource that has no row, and no deletion that is still to be
+/// made on the target.
 pub(crate) const DROP_BYTES: &str = "\
 DELETE FROM blobs WHERE id = ?1 AND NOT EXISTS (SELECT 1 FROM rows WHERE id = ?1) \
 AND NOT EXISTS (SELECT 1 FROM deletions WHERE id = ?1)";

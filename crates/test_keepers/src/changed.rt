@@ -21,8 +21,8 @@ const CHANGES: [(&str, bool); 17] = [
         false,
     ),
     (
-        "UPDATE rows SET content = \
-     x'410a0a69643a2031313131313131313131313131313131616161616161616161616161616161620a747970655f3a2031'",
+        "UPDATE rows SET content = x'410a0a69643a20\
+     31313131313131313131313131313131616161616161616161616161616161620a747970655f3a2031'",
         false,
     ),
     ("UPDATE rows SET sealed = 1", false),
@@ -49,7 +49,8 @@ const CHANGES: [(&str, bool); 17] = [
     ("UPDATE meta SET value = x'7b7d' WHERE key = 'info'", true),
     (
         "DROP TABLE rows; \
-     CREATE TABLE rows (id TEXT PRIMARY KEY, sealed TEXT, content TEXT, base TEXT, pending TEXT) STRICT; \
+     CREATE TABLE rows (id TEXT PRIMARY KEY, sealed TEXT, content TEXT, base TEXT, \
+     pending TEXT) STRICT; \
      INSERT INTO rows VALUES ('1111111111111111aaaaaaaaaaaaaaaa', '0', 'type_: 1', '', '0')",
         false,
     ),
@@ -122,7 +123,7 @@ fn is_told(alloc: Global, store: &mut SqliteRecords, id: Id, is_row_read: bool) 
     let count = if is_row_read { 1 } else { 2 };
     is_fault(store.all(alloc))
         && is_fault(store.row(alloc, &id)) == !is_row_read
-        && store.faults.count() == count
+        && store.faults() == count
 }
 
 /// Whether a file is told to be faulty once another program changed it.

@@ -40,7 +40,7 @@ fn is_faulty(rt: &HostRuntime, path: &Text) -> Result<bool, Trouble> {
     Ok(
         is_unreadable(rt.alloc(), &mut store, &id)
             && is_unwritable(rt.alloc(), &mut store, id)?
-            && store.faults.count() == 5,
+            && store.faults() == 5,
     )
 }
 

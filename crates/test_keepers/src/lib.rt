@@ -1,5 +1,5 @@
-//! Tests of keepers over records, in memory and in an SQLite file, by their public calls alone. A file stands in a
-//! folder of its own among the temporary ones.
+//! Tests of keepers over records, in memory and in an SQLite file, by their public calls alone. A
+//! file stands in a folder of its own among the temporary ones.
 #![tactic(auto)]
 
 #[cfg(test)]
@@ -20,6 +20,9 @@ mod file;
 mod made;
 #[cfg(test)]
 mod numbers;
+mod recorder;
+#[cfg(test)]
+mod said;
 #[cfg(test)]
 mod thing;
 #[cfg(test)]

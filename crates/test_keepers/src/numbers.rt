@@ -11,7 +11,8 @@ use keeper_records::{MemRecords, RecordStore, Write};
 use std::alloc::Global;
 use std::test::Fail;
 
-/// The numbers of two conflict notes, what is answered to their writes, and how many notes there are then.
+/// The numbers of two conflict notes, what is answered to their writes, and how many notes there
+/// are then.
 #[derive(Clone, Copy)]
 struct Case {
     first: u64,
