@@ -9,19 +9,33 @@ use crate::link::Link;
 use jop_base::Bytes;
 use jop_outside::{Failed, Faults, Plan, Unread};
 use std::alloc::{AllocError, Global};
+use std::marker::Model;
 
 /// A link in memory, which gives bytes that were set before and keeps what is written. It keeps the allocator that it
 /// is made with: a write for which there is no memory counts as a fault of the link.
 #[derive(Debug, Drop)]
 pub struct MemLink {
-    pub left: Unread,
-    pub written: Bytes,
-    /// How often it was opened. At 2^64 - 1 it stays.
-    pub opened: u64,
-    pub faults: Faults,
-    /// How often it has failed for want of memory alone.
-    pub starved: Faults,
-    pub plan: Plan,
+    left: Unread,
+    written: Bytes,
+    opened: u64,
+    faults: Faults,
+    starved: Faults,
+    plan: Plan,
+}
+
+impl Model for MemLink {
+    ghost use Rattle.dav_link.specs.Memory.{LinkMemory};
+
+    ghost Value = { LinkMemory };
+
+    ghost view = { λ m. record {
+      left = m.left;
+      written = m.written;
+      opened = m.opened;
+      faults = m.faults;
+      starved = m.starved;
+      plan = m.plan;
+    } };
 }
 
 impl MemLink {
@@ -51,6 +65,41 @@ impl MemLink {
         ensures err { OnErr result (self.new ≡ self.old) }
     {
         self.plan.fail(nth, false)
+    }
+
+    /// The bytes that were written.
+    pub fn written(&self) -> &[u8]
+        ensures { result.now ≡ self.now.written }
+    {
+        self.written.as_slice()
+    }
+
+    /// The bytes that were written, which it keeps no longer.
+    pub fn into_written(self) -> Bytes
+        ensures { result ≡ self.written }
+    {
+        self.written
+    }
+
+    /// How often it was opened. At 2^64 - 1 the count stays.
+    pub fn opened(&self) -> u64
+        ensures { result ≡ self.now.opened }
+    {
+        self.opened
+    }
+
+    /// How often it has failed.
+    pub fn faults(&self) -> u64
+        ensures { result ≡ self.now.faults }
+    {
+        self.faults.count()
+    }
+
+    /// How often it has failed for want of memory alone.
+    pub fn starved(&self) -> u64
+        ensures { result ≡ self.now.starved }
+    {
+        self.starved.count()
     }
 
     /// Whether these bytes are taken, all of them, by the call for which this is planned.

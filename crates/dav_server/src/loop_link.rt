@@ -83,8 +83,7 @@ impl LoopLink {
             diary: &mut self.diary,
         };
         let served = serve_connection(self.alloc, &mut link, &mut line).is_ok();
-        let MemLink { written, .. } = link;
-        self.told = Unread::of(written);
+        self.told = Unread::of(link.into_written());
         served
     }
 }

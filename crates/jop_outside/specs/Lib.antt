@@ -1,5 +1,6 @@
 pub mod Clocks
 pub mod Jobs
+pub mod Memory
 pub mod Outside
 pub mod Plan
 pub mod Random

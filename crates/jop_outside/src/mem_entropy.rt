@@ -10,13 +10,22 @@ use crate::plan::Plan;
 use crate::unread::Unread;
 use jop_base::Bytes;
 use std::alloc::{AllocError, Global};
+use std::marker::Model;
 
 /// A source of random bytes in memory, which gives the bytes that it was made with.
 #[derive(Debug, Drop)]
 pub struct MemEntropy {
-    pub left: Unread,
-    pub faults: Faults,
-    pub plan: Plan,
+    left: Unread,
+    faults: Faults,
+    plan: Plan,
+}
+
+impl Model for MemEntropy {
+    ghost use Rattle.jop_outside.specs.Memory.{GivenBytes};
+
+    ghost Value = { GivenBytes };
+
+    ghost view = { λ m. record { left = m.left; faults = m.faults; plan = m.plan } };
 }
 
 impl MemEntropy {
@@ -40,6 +49,20 @@ impl MemEntropy {
         ensures err { OnErr result (self.new ≡ self.old) }
     {
         self.plan.fail(nth, false)
+    }
+
+    /// The bytes that it has still to give.
+    pub fn left(&self) -> &[u8]
+        ensures { result.now ≡ self.now.left }
+    {
+        self.left.as_slice()
+    }
+
+    /// How often it has failed.
+    pub fn faults(&self) -> u64
+        ensures { result ≡ self.now.faults }
+    {
+        self.faults.count()
     }
 }
 

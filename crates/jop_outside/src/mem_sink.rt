@@ -9,16 +9,29 @@ use crate::plan::Plan;
 use crate::sink::Sink;
 use jop_base::Bytes;
 use std::alloc::{AllocError, Global};
+use std::marker::Model;
 
 /// A sink in memory. It keeps the allocator that it is made with: a write for which there is no memory counts as a
 /// fault of the sink.
 #[derive(Debug, Drop)]
 pub struct MemSink {
-    pub written: Bytes,
-    pub faults: Faults,
-    /// How often it has failed for want of memory alone.
-    pub starved: Faults,
-    pub plan: Plan,
+    written: Bytes,
+    faults: Faults,
+    starved: Faults,
+    plan: Plan,
+}
+
+impl Model for MemSink {
+    ghost use Rattle.jop_outside.specs.Memory.{TakenBytes};
+
+    ghost Value = { TakenBytes };
+
+    ghost view = { λ m. record {
+      written = m.written;
+      faults = m.faults;
+      starved = m.starved;
+      plan = m.plan;
+    } };
 }
 
 impl MemSink {
@@ -44,6 +57,27 @@ impl MemSink {
         ensures err { OnErr result (self.new ≡ self.old) }
     {
         self.plan.fail(nth, false)
+    }
+
+    /// The bytes that were written.
+    pub fn written(&self) -> &[u8]
+        ensures { result.now ≡ self.now.written }
+    {
+        self.written.as_slice()
+    }
+
+    /// How often it has failed.
+    pub fn faults(&self) -> u64
+        ensures { result ≡ self.now.faults }
+    {
+        self.faults.count()
+    }
+
+    /// How often it has failed for want of memory alone.
+    pub fn starved(&self) -> u64
+        ensures { result ≡ self.now.starved }
+    {
+        self.starved.count()
     }
 
     /// Whether these bytes are taken, all of them, by the call for which this is planned.

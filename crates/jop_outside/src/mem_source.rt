@@ -9,13 +9,22 @@ use crate::source::Source;
 use crate::unread::Unread;
 use jop_base::Bytes;
 use std::alloc::{AllocError, Global};
+use std::marker::Model;
 
 /// A source in memory. To read from it takes no memory.
 #[derive(Debug, Drop)]
 pub struct MemSource {
-    pub left: Unread,
-    pub faults: Faults,
-    pub plan: Plan,
+    left: Unread,
+    faults: Faults,
+    plan: Plan,
+}
+
+impl Model for MemSource {
+    ghost use Rattle.jop_outside.specs.Memory.{GivenBytes};
+
+    ghost Value = { GivenBytes };
+
+    ghost view = { λ m. record { left = m.left; faults = m.faults; plan = m.plan } };
 }
 
 impl MemSource {
@@ -39,6 +48,20 @@ impl MemSource {
         ensures err { OnErr result (self.new ≡ self.old) }
     {
         self.plan.fail(nth, false)
+    }
+
+    /// The bytes that it has still to give.
+    pub fn left(&self) -> &[u8]
+        ensures { result.now ≡ self.now.left }
+    {
+        self.left.as_slice()
+    }
+
+    /// How often it has failed.
+    pub fn faults(&self) -> u64
+        ensures { result ≡ self.now.faults }
+    {
+        self.faults.count()
     }
 }
 

@@ -17,12 +17,17 @@ use Rattle.dav_link.specs.declared.error.LinkErr.{LinkErr}
 use Rattle.dav_link.specs.declared.error.LinkErr.TheVariants.{Fault, NoMemory, TooLong}
 use Rattle.target_dav.specs.Responses.{HasNoResponse, HasResponse, Receives}
 use Rattle.target_dav.specs.Exchanges.{LinkClientNow, Moved, HasReply, LinkHasFailed, HasNone, HasNoRoom, IsBegun, HasSent, Tried, Exchanged, blob_after, is_ready}
+use Rattle.target_dav.specs.Clients.{ClientOver}
 use Rattle.target_dav.specs.declared.receiving.Received.{Received}
 use Rattle.dav_wire.proofs.ToldLemmas.{no_failure, blob_length}
 
 Appends-none : (a : Option (List ℕ)) → Appends a [] a
 Appends-none None = refl
 Appends-none (Some w) = ap (λ (l : List ℕ). Some l) (sym (append-nil w))
+
+-- the same client asks the same host
+pub same_host : {L : Type 0} (a b : ClientOver L) → a ≡ b → a.host ≡ b.host
+same_host {L} a b is = ap (λ (t : ClientOver L). t.host) is
 
 -- ---- the request
 

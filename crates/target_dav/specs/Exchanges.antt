@@ -14,7 +14,7 @@ use Rattle.dav_wire.specs.Requests.{request_text}
 use Rattle.dav_wire.specs.ResponseReading.{ResponseReadsAs}
 use Rattle.dav_wire.specs.declared.response_reader.ReadResponse.TheVariants.{Whole}
 use Rattle.target_dav.specs.Responses.{IsNoResponse}
-use Rattle.target_dav.specs.declared.dav_target.DavTarget.{DavTarget}
+use Rattle.target_dav.specs.Clients.{ClientOver}
 
 -- a client at a moment: its link, and whether the next call may go on with it
 pub record LinkClientNow : Type 0 where
@@ -139,17 +139,17 @@ Tried host call blob old (Err NoMemory) new after =
 -- ---- over links of a kind, by what such a link tells of itself
 
 -- what a target is as a client
-abbrev pub client_now : {L : Type 0} → (L → LinkNow) → DavTarget L → LinkClientNow
+abbrev pub client_now : {L : Type 0} → (L → LinkNow) → ClientOver L → LinkClientNow
 client_now link_now target = client_at (link_now target.link) target.ready
 
 -- what a call comes to
-abbrev pub CallsOver : {L : Type 0} → (L → LinkNow) → Call → List ℕ → DavTarget L
-    → Result Reply AllocError → DavTarget L → List ℕ → Type 0
+abbrev pub CallsOver : {L : Type 0} → (L → LinkNow) → Call → List ℕ → ClientOver L
+    → Result Reply AllocError → ClientOver L → List ℕ → Type 0
 CallsOver link_now call blob old result new after =
     Exchanged old.host call blob (client_now link_now old) result (client_now link_now new) after
 
 -- what it comes to before a failure is counted
-abbrev pub TriesOver : {L : Type 0} → (L → LinkNow) → Call → List ℕ → DavTarget L
-    → Result Reply LinkErr → DavTarget L → List ℕ → Type 0
+abbrev pub TriesOver : {L : Type 0} → (L → LinkNow) → Call → List ℕ → ClientOver L
+    → Result Reply LinkErr → ClientOver L → List ℕ → Type 0
 TriesOver link_now call blob old result new after =
     Tried old.host call blob (client_now link_now old) result (client_now link_now new) after

@@ -9,6 +9,7 @@ use jop_base::{Bytes, Text};
 use jop_outside::{Failed, Faults};
 use jop_target::{Call, Reply, Target};
 use std::alloc::{AllocError, Global};
+use std::marker::Model;
 
 /// A target over a link to a server of WebDAV, which keeps the link for all its calls. It tells no store, since no
 /// clause can say what a server holds.
@@ -31,10 +32,23 @@ use std::alloc::{AllocError, Global};
 pub struct DavTarget<L> {
     pub link: L,
     /// The host and port that each request names.
-    pub host: Text,
+    host: Text,
     /// Whether the next call goes on with the link as it is.
-    pub ready: bool,
-    pub faults: Faults,
+    ready: bool,
+    faults: Faults,
+}
+
+impl<L> Model for DavTarget<L> {
+    ghost use Rattle.target_dav.specs.Clients.{ClientOver};
+
+    ghost Value = { ClientOver L };
+
+    ghost view = { λ t. record {
+      link = t.link;
+      host = t.host;
+      ready = t.ready;
+      faults = t.faults;
+    } };
 }
 
 impl<L: Link> DavTarget<L> {
@@ -48,6 +62,13 @@ impl<L: Link> DavTarget<L> {
             ready: false,
             faults: Faults::new(),
         }
+    }
+
+    /// How often it has failed.
+    pub fn faults(&self) -> u64
+        ensures { result ≡ self.now.faults }
+    {
+        self.faults.count()
     }
 
     /// Opens the link, unless the last call left it ready.

@@ -1,3 +1,4 @@
+pub mod Folders
 pub mod Listed
 pub mod Outcome
 pub mod Reading

@@ -9,6 +9,7 @@ use crate::turn::TakesTurns;
 use jop_base::{Bytes, Id, Path, Text};
 use jop_target::{Call, Reply, Target};
 use std::alloc::{AllocError, Global};
+use std::marker::Model;
 use std::rt::{Clock, Files};
 
 /// A target over a folder of the system, which other programs see too. It tells no store, since no clause can say what
@@ -66,8 +67,15 @@ use std::rt::{Clock, Files};
 #[derive(Drop)]
 pub struct FolderTarget<R> {
     folder: Folder<R>,
-    /// How often it has failed. At 2^64 - 1 it stays.
-    pub faults: u64,
+    faults: u64,
+}
+
+impl<R> Model for FolderTarget<R> {
+    ghost use Rattle.target_files.specs.Folders.{FolderNow};
+
+    ghost Value = { FolderNow };
+
+    ghost view = { λ t. record { faults = t.faults } };
 }
 
 impl<R: Files + Clock + Alloc + Clone + Drop> FolderTarget<R>
@@ -83,6 +91,13 @@ where
             folder: Folder { rt, root, temp },
             faults: 0,
         }
+    }
+
+    /// How often it has failed. At 2^64 - 1 the count stays.
+    pub fn faults(&self) -> u64
+        ensures { result ≡ self.now.faults }
+    {
+        self.faults
     }
 
     fn answer(&self, alloc: Global, call: &Call, blob: &mut Bytes) -> Result<Reply, Trouble>

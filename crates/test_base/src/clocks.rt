@@ -74,7 +74,7 @@ fn two_of(entropy: &mut MemEntropy) -> (Result<(), Failed>, [u8; 2]) {
 }
 
 fn leaves(entropy: &MemEntropy, left: &[u8]) -> bool {
-    entropy.left.as_slice() == left
+    entropy.left() == left
 }
 
 fn fills(entropy: &mut MemEntropy, filling: &Filling) -> bool {
@@ -93,7 +93,7 @@ fn fills_in_turn(entropy: &mut MemEntropy, fillings: &[Filling]) -> bool {
 
 fn runs_out(entropy: &mut MemEntropy) -> Result<bool, AllocError> {
     entropy.fail(2)?;
-    Ok(fills_in_turn(entropy, &FILLINGS) && entropy.faults.count() == 2)
+    Ok(fills_in_turn(entropy, &FILLINGS) && entropy.faults() == 2)
 }
 
 #[test]

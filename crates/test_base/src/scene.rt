@@ -52,7 +52,7 @@ fn play_all(
 fn play_in(rt: &HostRuntime, folder: &str, moves: &[Move]) -> Result<String, Fail> {
     let mut target = target_over(rt, folder)?;
     let said = play_all(rt, folder, &mut target, moves)?;
-    Ok(format!(in rt.alloc(); "{said}faults {}\n", target.faults)?)
+    Ok(format!(in rt.alloc(); "{said}faults {}\n", target.faults())?)
 }
 
 /// What moves over an empty folder tell, and last how often the target has failed.

@@ -22,14 +22,14 @@ fn fails_once(sink: &mut MemSink) -> Result<bool, AllocError> {
         (b"cd".as_slice(), Err(Failed)),
         (b"ef".as_slice(), Ok(2)),
     ];
-    Ok(writes(sink, &table) && sink.written.as_slice() == b"abef".as_slice())
+    Ok(writes(sink, &table) && sink.written() == b"abef".as_slice())
 }
 
 #[test]
 fn a_sink_fails_when_it_is_planned(rt: HostRuntime) -> Result<(), Fail> {
     let mut sink = MemSink::new(rt.alloc());
     assert!(rt; fails_once(&mut sink)?);
-    assert!(rt; sink.faults.count() == 1 && sink.starved.count() == 0);
+    assert!(rt; sink.faults() == 1 && sink.starved() == 0);
     Ok(())
 }
 
@@ -75,7 +75,7 @@ const READINGS: [Reading; 6] = [
 ];
 
 fn leaves(source: &MemSource, left: &[u8]) -> bool {
-    source.left.as_slice() == left
+    source.left() == left
 }
 
 fn reads(source: &mut MemSource, piece: &mut [u8; 4], reading: &Reading) -> bool {
@@ -97,7 +97,7 @@ fn piece_of(source: &mut MemSource, readings: &[Reading]) -> Option<[u8; 4]> {
 
 fn gives_all(source: &mut MemSource) -> Result<bool, AllocError> {
     source.fail(3)?;
-    Ok(piece_of(source, &READINGS) == Some(*b"fcde") && source.faults.count() == 1)
+    Ok(piece_of(source, &READINGS) == Some(*b"fcde") && source.faults() == 1)
 }
 
 #[test]
@@ -159,6 +159,6 @@ fn are_written(sink: &mut MemSink) -> Result<bool, AllocError> {
 fn parts_are_written_in_a_row(rt: HostRuntime) -> Result<(), Fail> {
     let mut sink = MemSink::new(rt.alloc());
     assert!(rt; are_written(&mut sink)?);
-    assert!(rt; sink.written.as_slice() == b"abcab".as_slice());
+    assert!(rt; sink.written() == b"abcab".as_slice());
     Ok(())
 }

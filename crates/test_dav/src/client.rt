@@ -136,7 +136,7 @@ fn is_answered(
     faults: u64,
 ) -> Result<bool, Fail> {
     let mut target = target(alloc, text)?;
-    Ok(tells(alloc, &mut target, step, wanted)? && target.faults.count() == faults)
+    Ok(tells(alloc, &mut target, step, wanted)? && target.faults() == faults)
 }
 
 /// How many of the responses are told as they should be, until one isn't.
@@ -171,7 +171,7 @@ fn is_opened_anew(alloc: Global, nth: u64) -> Result<bool, Fail> {
     let mut target = failing(alloc, ABSENT, nth)?;
     let failed = tells(alloc, &mut target, Step::Get, "failed")?;
     let told = tells(alloc, &mut target, Step::Get, "absent at 1000")?;
-    Ok(failed && told && target.faults.count() == 1 && target.link.opened == 2)
+    Ok(failed && told && target.faults() == 1 && target.link.opened() == 2)
 }
 
 #[test]
@@ -187,7 +187,7 @@ fn is_kept(alloc: Global) -> Result<bool, Fail> {
     let mut target = dripping(alloc, TWICE_ABSENT)?;
     let first = tells(alloc, &mut target, Step::Get, "absent at 1000")?;
     let second = tells(alloc, &mut target, Step::Get, "absent at 1000")?;
-    Ok(first && second && target.link.link.opened == 1)
+    Ok(first && second && target.link.link.opened() == 1)
 }
 
 #[test]

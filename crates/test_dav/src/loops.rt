@@ -82,7 +82,7 @@ fn is_alike(alloc: Global, target: &mut DavTarget<LoopLink>) -> Result<bool, Fai
     let mut alone = MemTarget::new(alloc, 0, 1_000);
     let count = count_alike(alloc, &mut alone, target)?;
     let events = target.link.diary.events().len();
-    Ok(count == STEPS.len() && target.faults.count() == 0 && events == STEPS.len())
+    Ok(count == STEPS.len() && target.faults() == 0 && events == STEPS.len())
 }
 
 fn loops(alloc: Global) -> Result<bool, Fail> {
@@ -103,7 +103,7 @@ fn fails_once(alloc: Global, target: &mut DavTarget<LoopLink>) -> Result<bool, F
             return Ok(false);
         }
     }
-    Ok(target.faults.count() == 1)
+    Ok(target.faults() == 1)
 }
 
 fn is_failed(alloc: Global) -> Result<bool, Fail> {

@@ -26,7 +26,7 @@ fn served_anew(alloc: Global, link: &mut MemLink) -> Option<u64> {
 fn is_answered(alloc: Global, text: &[u8], count: u64, wanted: &[u8]) -> Result<bool, AllocError> {
     let mut link = MemLink::new(alloc, bytes(alloc, text)?);
     let answered = served_anew(alloc, &mut link);
-    Ok(answered == Some(count) && link.written.as_slice() == wanted)
+    Ok(answered == Some(count) && link.written() == wanted)
 }
 
 const LOCKS: &[u8] = b"HTTP/1.1 207 Multi-Status\r\n\

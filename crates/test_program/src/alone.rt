@@ -35,11 +35,11 @@ impl Alone {
 
     /// Whether that was written on standard output, and nothing on standard error.
     pub(crate) fn has_printed(&self, text: &[u8]) -> bool {
-        self.client.out.written.as_slice() == text && self.client.err.written.is_empty()
+        self.client.out.written() == text && self.client.err.written().is_empty()
     }
 
     /// Whether that was written on standard error, and nothing on standard output.
     pub(crate) fn has_told(&self, text: &[u8]) -> bool {
-        self.client.err.written.as_slice() == text && self.client.out.written.is_empty()
+        self.client.err.written() == text && self.client.out.written().is_empty()
     }
 }

@@ -49,11 +49,7 @@ impl Due<'_> {
 
 /// Whether a client's last command ended so, and wrote that.
 pub(crate) fn has_come_out<K: Keeper>(client: &Client<K>, exit: u8, due: &Due) -> bool {
-    due.is_met(
-        exit,
-        client.out.written.as_slice(),
-        client.err.written.as_slice(),
-    )
+    due.is_met(exit, client.out.written(), client.err.written())
 }
 
 /// Plays the command that a line says, on this target: whether it came out as it is to.

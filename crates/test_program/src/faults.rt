@@ -22,7 +22,7 @@ fn failing_client(alloc: Global) -> Result<Client<RecordKeeper<MemRecords>>, All
 /// Whether `ls` tells that the keeper failed.
 fn is_told<K: Keeper>(alloc: Global, client: &mut Client<K>) -> Result<bool, AllocError> {
     let exit = client.play(alloc, "ls", b"")?;
-    Ok(exit == 10 && client.err.written.as_slice() == b"keeper fault\n".as_slice())
+    Ok(exit == 10 && client.err.written() == b"keeper fault\n".as_slice())
 }
 
 fn tells_a_failed_record(alloc: Global) -> Result<bool, AllocError> {

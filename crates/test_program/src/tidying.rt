@@ -44,7 +44,7 @@ fn tells(alloc: Global, input: &mut MemSource, exit: u8, text: &[u8]) -> Result<
 fn prints_all(alloc: Global, text: &str, out: &str) -> Result<bool, AllocError> {
     let mut input = source_of(alloc, text.as_bytes())?;
     let printed = prints(alloc, &mut input, out.as_bytes())?;
-    Ok(printed && input.left.as_slice().is_empty())
+    Ok(printed && input.left().is_empty())
 }
 
 const CANONICAL: [(&str, &str); 3] = [
@@ -72,7 +72,7 @@ const FIRST_FAULTS: [(&[u8], &[u8]); 4] = [
 fn tells_of(alloc: Global, text: &[u8], fault: &[u8]) -> Result<bool, AllocError> {
     let mut input = source_of(alloc, text)?;
     let told = tells(alloc, &mut input, 21, fault)?;
-    Ok(told && input.left.as_slice().is_empty())
+    Ok(told && input.left().is_empty())
 }
 
 #[test]
@@ -86,7 +86,7 @@ fn names_the_first_fault_of_a_text(rt: HostRuntime) -> Result<(), Fail> {
 fn prints_a_long_note(alloc: Global) -> Result<bool, AllocError> {
     let same = long_note(alloc)?;
     let mut input = long_note(alloc)?;
-    prints(alloc, &mut input, same.left.as_slice())
+    prints(alloc, &mut input, same.left())
 }
 
 #[test]
@@ -114,7 +114,7 @@ fn stops_past_the_limit(alloc: Global) -> Result<bool, AllocError> {
     let long = Bytes::from_vec(vec![in alloc; b'x'; 16_777_219]?);
     let mut input = MemSource::new(alloc, long);
     let told = tells(alloc, &mut input, 18, b"too large 16777217\n")?;
-    Ok(told && input.left.as_slice().len() == 2)
+    Ok(told && input.left().len() == 2)
 }
 
 #[test]

@@ -14,11 +14,11 @@ returns-in_err-begin-clause-sends g c =
 pub returns-in_err-write_message-clause-sends : goal.returns-in_err-write_message-clause-sends
 returns-in_err-write_message-clause-sends g c =
     let old = client_at (g.L.Link.state c.args.self.now.link) c.args.self.now.ready in
-    let mid = client_at (g.L.Link.state c.begin.new.self.link) c.begin.new.self.ready in
-    let new = client_at (g.L.Link.state c.write_message.new.link) c.begin.new.self.ready in
+    let mid = client_at (g.L.Link.state c.self.inside.link) c.self.inside.ready in
+    let new = client_at (g.L.Link.state c.write_message.new.link) c.self.inside.ready in
     let p = err_from_is_err_and c.from_residual-in_err-write_message.result
     c.from_residual-in_err-write_message.ensures.1 in
-    let h = c.in_ok-begin.ensures.begins in
+    let h = rw (← c.self.view_is) at c.in_ok-begin.ensures.begins in
     let cut = c.in_err-write_message.ensures in
     rw (p.1) (
       h.0.ready,
