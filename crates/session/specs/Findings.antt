@@ -33,6 +33,11 @@ finding_of id base (Got now bytes) =
 finding_of id base (Absent now) = absent_of base
 finding_of id base reply = Unreadable
 
+-- bytes were got that aren't the base
+abbrev pub GivesOthers : Option (List ℕ) → Reply → Type 0
+GivesOthers base (Got now bytes) = is_base base bytes ≡ false
+GivesOthers base reply = ⊥
+
 -- the row, if it waits to be uploaded
 abbrev pub waiting : Option Row → Option Row
 waiting None = None

@@ -1,6 +1,6 @@
-ghost use Rattle.std.specs.Prelude.{◌≡◌, IfOk};
+ghost use Rattle.std.specs.Prelude.{◌≡◌, IfOk, OnErr};
 ghost use Rattle.law_licences.specs.Items.{remote_in};
-ghost use Rattle.session.specs.Findings.{IsSoundFinding, Judges, absent_of, is_base, other_of};
+ghost use Rattle.session.specs.Findings.{GivesOthers, IsSoundFinding, Judges, absent_of, is_base, other_of};
 
 use conflicts::content_in;
 use jop_base::{Bytes, Copied, Id};
@@ -58,7 +58,10 @@ pub(crate) fn find(
     base: &Option<Bytes>,
     reply: &Reply,
 ) -> Result<Finding, AllocError>
-    ensures { IfOk result (Judges id.now base.now reply.now) }
+    ensures judges { IfOk result (Judges id.now base.now reply.now) }
+
+    // Nothing else takes memory.
+    ensures memory { OnErr result (GivesOthers base.now reply.now) }
 {
     match reply {
         Reply::Got { now: _, content } if is_base(base, content) => Ok(Finding::Same),

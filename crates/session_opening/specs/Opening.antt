@@ -29,7 +29,7 @@ use Rattle.sync_info.specs.Merge.{merged}
 use Rattle.sync_info.specs.Read.{info_in}
 use Rattle.sync_info.specs.declared.info.Info.{Info}
 use Rattle.target_upgrade.specs.Course.{course_of, is_info_at}
-use Rattle.target_upgrade.specs.Reading.{GivesInfo, IsBadReply}
+use Rattle.target_upgrade.specs.Reading.{GivesBytes, GivesInfo, IsBadReply}
 use Rattle.target_upgrade.specs.Steps.{SUPPORTED}
 
 -- an opening gets the info and the old version's file, and puts an info of the supported version
@@ -186,12 +186,13 @@ ReadsOldOr old (Ok version) new =
     (version < SUPPORTED) × Does (ReadsOldFile version) is_reading old new
 ReadsOldOr old (Err e) new = GivesNothing is_reading old e new
 
--- what the reply to the get of the info tells: the info, or none if it isn't there
+-- what the reply to the get of the info tells: the info, or none if it isn't there; only bytes that were got can want
+-- memory
 abbrev pub TellsInfo : Reply → Result (Option Info) StepErr → Type 0
 TellsInfo reply (Ok None) = (now : ℕ) × (reply ≡ Absent now)
 TellsInfo reply (Ok (Some info)) = IsInfo info × GivesInfo info reply
 TellsInfo reply (Err (Refused BadInfo)) = IsBadReply reply
-TellsInfo reply (Err NoMemory) = Unit {0}
+TellsInfo reply (Err NoMemory) = GivesBytes reply
 TellsInfo reply (Err e) = ⊥
 
 -- an info is taken exactly if its version is the supported one

@@ -282,9 +282,9 @@ told_stops lease now old new r BadInfo at h goes last tells =
     }
 told_stops lease now old new r (LeaseStops NoMemory) at h goes last tells =
     none_failed_made lease now (Get InfoFile) (stage_of lease old.trail) old new h goes
-told_stops lease now old new r (LeaseStops (Lost seen)) at h goes last tells = cc
-told_stops lease now old new r (LeaseStops TargetFault) at h goes last tells = cc
-told_stops lease now old new r (LeaseStops (Busy lock moment)) at h goes last tells = cc
+told_stops lease now old new r (LeaseStops (Lost seen)) at h goes last tells = let is = tells.0 in cc
+told_stops lease now old new r (LeaseStops TargetFault) at h goes last tells = let is = tells.0 in cc
+told_stops lease now old new r (LeaseStops (Busy lock moment)) at h goes last tells = let is = tells.0 in cc
 
 pub found_old : (lease now : Lease) (new : LineNow) (version : ℕ) → version ≤ 1 →
     HasCome lease now (starts (new_info version)) new →

@@ -53,13 +53,18 @@ abbrev pub GivesInfo : Info → Reply → Type 0
 GivesInfo info (Got now content) = info_in content ≡ Some info
 GivesInfo info reply = ⊥
 
--- what the reply to the get of `info.json` tells
+-- the reply to a get gives the bytes of a file
+abbrev pub GivesBytes : Reply → Type 0
+GivesBytes (Got now content) = Unit {0}
+GivesBytes reply = ⊥
+
+-- what the reply to the get of `info.json` tells; only bytes that were got can want memory
 abbrev pub ReplyTells : Reply → Result (Option Info) ReadErr → Type 0
 ReplyTells reply (Ok None) = after_info reply ≡ ReadsOld
 ReplyTells reply (Ok (Some info)) =
     (after_info reply ≡ starts info) × IsInfo info × GivesInfo info reply
 ReplyTells reply (Err BadInfo) = (after_info reply ≡ Stuck) × IsBadReply reply
-ReplyTells reply (Err (LeaseStops e)) = e ≡ NoMemory
+ReplyTells reply (Err (LeaseStops e)) = (e ≡ NoMemory) × GivesBytes reply
 
 -- that was the last call; the session holds its lease still
 pub record HasBadInfo (before after : Lease) (new : LineNow) : Type 0 where

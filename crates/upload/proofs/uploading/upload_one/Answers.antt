@@ -22,7 +22,7 @@ upload_row-uploaded-requires-clause-uploadable g c =
     let d = (g.W.Session.now c.args.s.now).site in
     uploadable_at d c.args.id.now c.in-Some.row
     (waits d.tables c.args.id.now c.in-Some.row
-    (sym c.in-Some.is ∙ (c.in_ok-waiting.ensures
+    (sym c.in-Some.is ∙ (c.in_ok-waiting.ensures.row
     ∙ ap (λ (t : Tables). waiting (row_at t c.args.id.now)) c.tables.ensures)))
     c.requires.readable c.requires.unput
 
@@ -31,7 +31,7 @@ returns-in-Some g c = record {
   ends =
       let a = g.W.Session.now c.args.s.now in
       ends_found (blobs_of a.site.keeper.kept) c.args.id.now (Some c.in-Some.row) a _ _
-      (sym c.in-Some.is ∙ (c.in_ok-waiting.ensures
+      (sym c.in-Some.is ∙ (c.in_ok-waiting.ensures.row
       ∙ ap (λ (t : Tables). waiting (row_at t c.args.id.now)) c.tables.ensures))
       c.upload_row-uploaded.ensures.ends;
 }
@@ -41,7 +41,7 @@ returns-in-None g c = record {
   ends =
       let a = g.W.Session.now c.args.s.now in
       uploads_found (blobs_of a.site.keeper.kept) c.args.id.now None a a
-      (sym c.in-None.is ∙ (c.in_ok-waiting.ensures
+      (sym c.in-None.is ∙ (c.in_ok-waiting.ensures.row
       ∙ ap (λ (t : Tables). waiting (row_at t c.args.id.now)) c.tables.ensures))
       (does_nothing is_upload a c.requires.ready);
 }
