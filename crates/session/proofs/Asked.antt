@@ -11,7 +11,7 @@ use Rattle.jop_base.specs.declared.path.Path.TheVariants.{Item}
 use Rattle.jop_target.specs.declared.call.Call.{Call}
 use Rattle.jop_target.specs.declared.call.Call.TheVariants.{Get}
 use Rattle.jop_target.specs.declared.event.Event.{Event}
-use Rattle.jop_target.specs.declared.event.Event.TheVariants.{Called}
+use Rattle.jop_target.specs.declared.event.Event.TheVariants.{Called, Sent}
 use Rattle.jop_target.specs.declared.reply.Reply.{Reply}
 use Rattle.jop_target.specs.declared.reply.Reply.TheVariants.{Failed, GotBlob}
 use Rattle.lease.proofs.NoFailures.{none_failed_from}
@@ -37,7 +37,7 @@ use Rattle.session.proofs.Saves.{blobs_got-append, blobs_got-locks}
 use Rattle.session.proofs.Agreeing.{agrees_asked, blob_stays}
 use Rattle.session.proofs.LockDeeds.{AreCalls, AreCalls-append, AreCalls-locks, AreLocks, AreWork-calls, but_locks-locks, none_begins, view_from-locks}
 use Rattle.session.proofs.Seen.{but_locks-append}
-use Rattle.session.specs.Asking.{AreBytesOf, AsksUnderLease, HasAnswer, IsAskable, IsHeardBy, step_of_lease}
+use Rattle.session.specs.Asking.{AreBytesOf, AsksUnderLease, HasAnswer, IsAskable, IsAskedInVain, IsHeardBy, step_of_lease}
 use Rattle.session.specs.Doing.{CameToEnd, Went}
 use Rattle.session.specs.Parts.{but_locks}
 use Rattle.session.specs.Reported.{report_after, reported}
@@ -348,4 +348,46 @@ pub asks_at : (old new : SiteNow) (before after : Lease) (call : Call) (blob byt
     → AsksUnderLease call old before (Err (step_of_lease e)) new after bytes
 asks_at old new before after call blob bytes s t e o n same but tidy can h =
     asks_err old new before after call blob bytes e same but tidy can
+    (works_at before after call blob bytes old.line new.line s t (Err e) o n h)
+
+-- ---- a call in vain
+
+-- it is remembered without its reply
+calls_sent : (client : List ℕ) (old : SiteNow) (mid new : LineNow) (call : Call)
+    → LeaseGoesOn client old.line mid → new.trail ≡ mid.trail ++ Sent call ∷ []
+    → session_calls new.trail ≡ with_call call None (session_calls old.line.trail)
+unfolding calls_from
+calls_sent client old mid new call h trail =
+    ap session_calls trail
+    ∙ (calls_from-append [] mid.trail (Sent call ∷ [])
+    ∙ ap (with_call call None) (calls_locks client old mid h))
+
+asked_in_vain : (old new : SiteNow) (before after : Lease) (call : Call) (blob bytes : List ℕ)
+    (e : LeaseErr) → Works before after call blob old.line new.line bytes (Err e)
+    → IsAskedInVain call old new
+asked_in_vain old new before after call blob bytes (Lost seen) h =
+    inl (calls_locks before.client old new.line h.0.goes)
+asked_in_vain old new before after call blob bytes TargetFault (fails, inl vain) =
+    inl (calls_locks before.client old new.line vain.goes)
+asked_in_vain old new before after call blob bytes TargetFault (fails, inr called) =
+    inr (inr (calls_answered before.client old called.mid new.line call Failed called.ready.goes
+    called.answered.trail))
+asked_in_vain old new before after call blob bytes NoMemory (heard, inl vain) =
+    inl (calls_locks before.client old new.line vain.goes)
+asked_in_vain old new before after call blob bytes NoMemory (heard, inr called) =
+    elim called.unheard [
+      | inl none ↦
+          inl (ap (λ (l : LineNow). session_calls l.trail) none.0
+          ∙ calls_locks before.client old called.mid called.ready.goes)
+      | inr sent ↦
+          inr (inl (calls_sent before.client old called.mid new.line call called.ready.goes sent.trail))
+    ]
+asked_in_vain old new before after call blob bytes (Busy lock now) h = absurd h
+
+-- so it is with the call of a line that goes by another name
+pub vain_at : (old new : SiteNow) (before after : Lease) (call : Call) (blob bytes : List ℕ)
+    (s t : LineNow) (e : LeaseErr) → old.line ≡ s → new.line ≡ t
+    → Works before after call blob s t bytes (Err e) → IsAskedInVain call old new
+vain_at old new before after call blob bytes s t e o n h =
+    asked_in_vain old new before after call blob bytes e
     (works_at before after call blob bytes old.line new.line s t (Err e) o n h)

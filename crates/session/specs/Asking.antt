@@ -1,5 +1,5 @@
 -- What a call leaves that a part of a session makes.
-use Rattle.std.specs.Prelude.{ℕ, ◌≡◌, Bool, true, false, List, length, Option, Some, None, Result, Ok, Err}
+use Rattle.std.specs.Prelude.{ℕ, ◌≡◌, ◌⊎◌, Bool, true, false, List, length, Option, Some, None, Result, Ok, Err}
 use Rattle.conflicts.specs.declared.error.StepErr.{StepErr}
 use Rattle.conflicts.specs.declared.error.StepErr.TheVariants.{Lost, TargetFault, NoMemory}
 use Rattle.conflicts.specs.declared.report.SyncReport.{SyncReport}
@@ -15,7 +15,8 @@ use Rattle.lease.specs.declared.error.LeaseErr.{LeaseErr}
 use Rattle.lease.specs.declared.error.LeaseErr.TheVariants as lease_errors
 use Rattle.lease.specs.declared.lease.Lease.{Lease}
 use Rattle.law_licences.specs.Licences.{MayCall}
-use Rattle.law_licences.specs.Views.{Shown, Working, is_about_locks}
+use Rattle.law_licences.specs.Trails.{session_calls}
+use Rattle.law_licences.specs.Views.{Shown, Working, is_about_locks, with_call}
 use Rattle.session.specs.Agreeing.{IsKeptFor}
 use Rattle.session.specs.Doing.{DoesTo, GivesNothing}
 use Rattle.session.specs.Parts.{Hears}
@@ -75,3 +76,18 @@ step_of_lease (lease_errors.Lost seen) = Lost seen
 step_of_lease lease_errors.TargetFault = TargetFault
 step_of_lease lease_errors.NoMemory = NoMemory
 step_of_lease (lease_errors.Busy lock now) = TargetFault
+
+-- ---- a call in vain
+
+-- The call wasn't made, or had no answer but `Failed`. Else only calls about locks were made.
+abbrev pub IsAskedInVain : Call → SiteNow → SiteNow → Type 0
+IsAskedInVain call old new =
+    let before = session_calls old.line.trail in
+    let after = session_calls new.line.trail in
+    (after ≡ before)
+    ⊎ ((after ≡ with_call call None before) ⊎ (after ≡ with_call call (Some Failed) before))
+
+-- a call that gave nothing was asked in vain
+abbrev pub AsksOnce : Call → SiteNow → Result (Unit {0}) StepErr → SiteNow → Type 0
+AsksOnce call old (Ok done) new = Unit {0}
+AsksOnce call old (Err e) new = IsAskedInVain call old new

@@ -1,6 +1,6 @@
 ghost use Rattle.std.specs.Prelude.{◌≡◌};
 ghost use Rattle.client.specs.Sites.{IsSameSite};
-ghost use Rattle.session.specs.Asking.{AsksUnderLease, IsAskable};
+ghost use Rattle.session.specs.Asking.{AsksOnce, AsksUnderLease, IsAskable};
 ghost use Rattle.session.specs.Work.{IsReady};
 
 use client::Client;
@@ -23,6 +23,7 @@ pub(crate) fn ask<S: Client>(
 
     ensures asks { AsksUnderLease
         call (S.site site.old) lease.old result (S.site site.new) lease.new bytes.new }
+    ensures once { AsksOnce call (S.site site.old) result (S.site site.new) }
     ensures same { IsSameSite (S.site site.old) (S.site site.new) }
     ensures stays { S.place site.new ≡ S.place site.old }
 {

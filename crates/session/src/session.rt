@@ -8,6 +8,7 @@ ghost use Rattle.law_licences.specs.Licences.{MayChange};
 ghost use Rattle.law_licences.specs.Views.{Shown, Working, stage_after};
 ghost use Rattle.local_store.specs.Sound.{IsAllowed};
 ghost use Rattle.keeper.specs.Keepers.{IsBlobOfKept};
+ghost use Rattle.session.specs.Asking.{AsksOnce};
 ghost use Rattle.session.specs.Doing.{Ends};
 ghost use Rattle.session.specs.Parts.{Changes};
 ghost use Rattle.session.specs.Sessions.{AsksOr, FetchesOr, FindsOr, LoadsOr, MakesEachOr, MakesLicensed, MayAsk, is_whole_step};
@@ -45,6 +46,7 @@ pub trait Session {
         requires may { MayAsk (now self.old) call }
 
         ensures ends { AsksOr call (now self.old) result (now self.new) }
+        ensures once { AsksOnce call (now self.old).site result (now self.new).site }
         ensures same { IsSameSite (now self.old).site (now self.new).site };
 
     /// Gets the file of an item, and says how it stands to the row of its id. One that can't be read is noted.

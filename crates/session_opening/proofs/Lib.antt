@@ -3,6 +3,7 @@ pub mod Merging
 pub mod Going
 pub mod Informed
 pub mod Gets
+pub mod Judged
 pub mod Joined
 pub mod Merged
 pub mod Unput

@@ -1,6 +1,7 @@
 ghost use Rattle.std.specs.Prelude.{◌≡◌, OnOk};
 ghost use Rattle.jop_base.specs.declared.lock_name.LockKind.TheVariants.{Sync};
 ghost use Rattle.session_opening.specs.Opening.{IsLawful, KnowsVersion, MergesBetween, OpensOr};
+ghost use Rattle.session_opening.specs.Verdict.{AwaitsInfo, EndsInOrder, verdict_in};
 ghost use Rattle.session.specs.Work.{IsAtWork};
 
 use crate::joining::join_info;
@@ -21,6 +22,9 @@ pub fn open_session<W: Session>(alloc: Global, s: &mut W) -> Result<(), StepErr>
     ensures opens { OpensOr (W.now s.old) result (W.now s.new) }
     ensures lawful { IsLawful (W.now s.new).lease (W.now s.new).site }
     ensures told { OnOk result (KnowsVersion (W.now s.new).lease (W.now s.new).site) }
+    // If it had called nothing, it calls no more than is due, and gives the refusal that its calls call for.
+    ensures order { verdict_in (W.now s.old) ≡ AwaitsInfo
+        → EndsInOrder result (verdict_in (W.now s.new)) }
     ensures merges { MergesBetween (W.now s.old).site (W.now s.new).site }
 {
     let remote = read_supported(alloc, s)?;

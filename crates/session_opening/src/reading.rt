@@ -3,6 +3,7 @@ ghost use Rattle.jop_base.specs.declared.lock_name.LockKind.TheVariants.{Sync};
 ghost use Rattle.jop_base.specs.declared.path.Path.TheVariants.{Info as InfoFile};
 ghost use Rattle.jop_target.specs.declared.call.Call.TheVariants.{Get};
 ghost use Rattle.session_opening.specs.Opening.{IsTakenInfo, ReadsOldOr, ReadsOr, TellsInfo};
+ghost use Rattle.session_opening.specs.Verdict.{AwaitsInfo, AwaitsOldFile, EndsInOrder, EndsOldFile, verdict_in};
 ghost use Rattle.session.specs.Asking.{IsAnswer};
 ghost use Rattle.session.specs.Work.{IsAtWork};
 
@@ -48,6 +49,8 @@ fn read_old<W: Session>(alloc: Global, s: &mut W) -> Result<u64, StepErr>
     requires ready { IsAtWork (W.now s.old) }
 
     ensures reads { ReadsOldOr (W.now s.old) result (W.now s.new) }
+    ensures order { verdict_in (W.now s.old) ≡ AwaitsOldFile
+        → EndsOldFile result (verdict_in (W.now s.new)) }
 {
     s.ask(alloc, Call::Get(Path::OldVersion))?;
     match s.last() {
@@ -62,6 +65,8 @@ pub(crate) fn read_supported<W: Session>(alloc: Global, s: &mut W) -> Result<Inf
     requires sync { (W.now s.old).lease.kind ≡ Sync }
 
     ensures reads { ReadsOr (W.now s.old) result (W.now s.new) }
+    ensures order { verdict_in (W.now s.old) ≡ AwaitsInfo
+        → EndsInOrder result (verdict_in (W.now s.new)) }
 {
     s.ask(alloc, Call::Get(Path::Info))?;
     match told(alloc, s.last())? {

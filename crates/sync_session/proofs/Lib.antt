@@ -7,5 +7,6 @@ pub mod Left
 pub mod Refused
 pub mod Done
 pub mod Whole
+pub mod Ordered
 pub mod Promised
 pub mod Ran

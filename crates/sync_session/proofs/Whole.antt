@@ -126,7 +126,7 @@ tells_ended old mid h =
 
 -- ---- its events
 
-inner_step : (client : List ℕ) (e : Event) → IsStep is_sync client e → IsInner e
+pub inner_step : (client : List ℕ) (e : Event) → IsStep is_sync client e → IsInner e
 inner_step client Began h = h
 inner_step client Ended h = h
 inner_step client (Sent call) h = tt

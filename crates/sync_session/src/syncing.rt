@@ -2,6 +2,7 @@ ghost use Rattle.std.specs.Prelude.{◌≡◌, false};
 ghost use Rattle.client.specs.Sites.{IsTidy};
 ghost use Rattle.jop_base.specs.declared.lock_name.LockKind.{LockKind};
 ghost use Rattle.sync_run.specs.Leases.{KeepsLeaseFrom};
+ghost use Rattle.sync_session.specs.Ordering.{AddsInOrder, RunsInOrder};
 ghost use Rattle.sync_session.specs.Syncing.{AddsFrom, EndsWork, GoesBySync, HasBegunSync, KeepsNotesIn, LicensedFrom};
 ghost use Rattle.sync_session.specs.Syncing.{LineGoesBySync, RunsSync, blocked_by, sited};
 ghost use Rattle.sync_session.specs.Working.{StartsSync};
@@ -59,6 +60,10 @@ pub fn sync_on<T: Target, K: Keeper>(
     ensures keeps { KeepsLeaseFrom LockKind.Sync client.now (blocked_by result) false
         diary.old.events diary.new.events }
 
+    // Once its calls say that the target is of another version, or that its info can't be read, nothing more is called
+    // but what the lease does by itself, and that is what is answered, unless memory runs out.
+    ensures order { AddsInOrder diary.old.events result diary.new.events }
+
     // Each call and each change has its licence, from these tables on.
     ensures licensed { LicensedFrom tables.old diary.old.events diary.new.events made.old.changes
         made.new.changes }
@@ -93,6 +98,7 @@ fn make_session<S: Client>(
 
     ensures session { AddsFrom client.now (S.site site.old) result (S.site site.new) }
     ensures line { LineGoesBySync client.now (S.site site.old).line (S.site site.new).line }
+    ensures order { AddsInOrder (S.site site.old).line.trail result (S.site site.new).line.trail }
     ensures stays { S.place site.new ≡ S.place site.old }
 {
     site.begin()?;
@@ -111,6 +117,7 @@ fn take_and_sync<S: Client>(
 ) -> Result<SyncReport, SyncErr>
     requires begun { HasBegunSync client.now (S.site site.old) }
     ensures runs { RunsSync client.now (S.site site.old) result (S.site site.new) }
+    ensures order { RunsInOrder result (S.site site.new) }
     ensures stays { S.place site.new ≡ S.place site.old }
 {
     let lease = acquire(alloc, site, LockKind::Sync, client)?;
@@ -129,6 +136,7 @@ fn sync_held<S: Client>(
 ) -> Result<(), SyncErr>
     requires starts { StartsSync (S.site site.old) lease }
     ensures ends { EndsWork lease (S.site site.old) report.old result (S.site site.new) report.new }
+    ensures order { RunsInOrder result (S.site site.new) }
     ensures stays { S.place site.new ≡ S.place site.old }
 {
     let worked = {

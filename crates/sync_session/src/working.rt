@@ -1,4 +1,5 @@
 ghost use Rattle.session_opening.specs.Opening.{IsLawful, MergesBetween};
+ghost use Rattle.sync_session.specs.Ordering.{RunsInOrder};
 ghost use Rattle.sync_session.specs.Working.{StartsSync, SyncWorks};
 
 use crate::exchanging::exchange;
@@ -13,6 +14,8 @@ pub(crate) fn work<W: Session>(alloc: Global, s: &mut W) -> Result<(), SyncErr>
     requires starts { StartsSync (W.now s.old).site (W.now s.old).lease }
 
     ensures ends { SyncWorks (W.now s.old) result (W.now s.new) }
+    // Nothing is called that isn't due, and the refusal that is due is given.
+    ensures order { RunsInOrder result (W.now s.new).site }
     ensures merges { MergesBetween (W.now s.old).site (W.now s.new).site }
     ensures lawful { IsLawful (W.now s.new).lease (W.now s.new).site }
 {

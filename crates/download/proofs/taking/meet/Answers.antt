@@ -24,7 +24,7 @@ pub make_shown-requires-clause-allowed : goal.make_shown-requires-clause-allowed
 make_shown-requires-clause-allowed g c =
     let t = (g.W.Session.now c.args.s.now).site.tables in
     let w = waits t c.args.id.now c.in-Some.row
-    (sym c.in-Some.is ∙ (c.in_ok-waiting.ensures
+    (sym c.in-Some.is ∙ (c.in_ok-waiting.ensures.row
     ∙ ap (λ (t : Tables). waiting (row_at t c.args.id.now)) c.tables.ensures)) in
     subst IsAllowed (sym c.conflict_change-change.ensures)
     (subst (λ k. IsContentOf k c.args.remote.1) (sym w.same) c.requires.got.sound)
@@ -36,7 +36,7 @@ returns-in-Some g c = record {
       let row = c.in-Some.row in
       let id = c.args.id.now in
       let remote = c.args.remote in
-      let is = sym c.in-Some.is ∙ (c.in_ok-waiting.ensures
+      let is = sym c.in-Some.is ∙ (c.in_ok-waiting.ensures.row
       ∙ ap (λ (t : Tables). waiting (row_at t id)) c.tables.ensures) in
       conflicts_as id remote row (waiting (row_at d.tables id)) c.conflict_change-change.result _ _
       c.make_shown.result is c.conflict_change-change.ensures
@@ -52,7 +52,7 @@ returns-in-None g c = record {
       let d = (g.W.Session.now c.args.s.now).site in
       let id = c.args.id.now in
       meets_as id c.args.remote None (waiting (row_at d.tables id)) _ _ c.take_in.result
-      (sym c.in-None.is ∙ (c.in_ok-waiting.ensures
+      (sym c.in-None.is ∙ (c.in_ok-waiting.ensures.row
       ∙ ap (λ (t : Tables). waiting (row_at t id)) c.tables.ensures))
       (c.take_in.ensures.ends known asks);
 }
@@ -60,5 +60,5 @@ returns-in-None g c = record {
 pub take_in-requires-clause-unchanged : goal.take_in-requires-clause-unchanged
 take_in-requires-clause-unchanged g c =
     unchanged (g.W.Session.now c.args.s.now).site.tables c.args.id.now
-    (sym c.in-None.is ∙ (c.in_ok-waiting.ensures
+    (sym c.in-None.is ∙ (c.in_ok-waiting.ensures.row
     ∙ ap (λ (t : Tables). waiting (row_at t c.args.id.now)) c.tables.ensures))

@@ -1,7 +1,7 @@
 use Rattle.std.specs.Prelude.{Ok, Err}
 use Rattle.std.proofs.Common.{subst}
 use Rattle.lease.specs.declared.error.LeaseErr.{LeaseErr}
-use Rattle.session.proofs.Asked.{asks_at, has_asked, works_at}
+use Rattle.session.proofs.Asked.{asks_at, has_asked, vain_at, works_at}
 use Rattle.session.specs.Asking.{AsksUnderLease, step_of_lease}
 use Rattle.session.proofs.asking.ask.Goals as goal
 
@@ -55,3 +55,18 @@ returns-in-Err-NoMemory-clause-asks g c =
     (asks_at old new _ _ _ _ _ _ _ _ (g.met.S.Client.same_line _) (g.met.S.Client.same_line _)
     (g.met.S.Client.keeps_site _ _ c.call_held.ensures.keeps) c.call_held.ensures.same
     c.requires.ready.tidy c.requires.askable c.in-Err-NoMemory.ensures.gives)
+
+pub returns-in-Err-Lost-clause-once : goal.returns-in-Err-Lost-clause-once
+returns-in-Err-Lost-clause-once g c =
+    vain_at (g.S.Client.site c.args.site.now) (g.S.Client.site c.call_held.new.line) _ _ _ _ _ _ _
+    _ (g.met.S.Client.same_line _) (g.met.S.Client.same_line _) c.in-Err-Lost.ensures.gives
+
+pub returns-in-Err-TargetFault-clause-once : goal.returns-in-Err-TargetFault-clause-once
+returns-in-Err-TargetFault-clause-once g c =
+    vain_at (g.S.Client.site c.args.site.now) (g.S.Client.site c.call_held.new.line) _ _ _ _ _ _ _
+    _ (g.met.S.Client.same_line _) (g.met.S.Client.same_line _) c.in-Err-TargetFault.ensures.gives
+
+pub returns-in-Err-NoMemory-clause-once : goal.returns-in-Err-NoMemory-clause-once
+returns-in-Err-NoMemory-clause-once g c =
+    vain_at (g.S.Client.site c.args.site.now) (g.S.Client.site c.call_held.new.line) _ _ _ _ _ _ _
+    _ (g.met.S.Client.same_line _) (g.met.S.Client.same_line _) c.in-Err-NoMemory.ensures.gives

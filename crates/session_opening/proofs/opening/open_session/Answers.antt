@@ -1,7 +1,9 @@
 use Rattle.std.specs.Prelude.{refl}
 use Rattle.std.proofs.lemmas.Result.{err_from_is_err_and}
+use Rattle.session_opening.proofs.Judged.{ahead_in_order, stays_ahead}
 use Rattle.session_opening.proofs.Opened.{lawful_joined, lawful_read, merges_joined, merges_read, opened, reading_within, stops_joining}
 use Rattle.session_opening.specs.Opening.{RefusesTarget, is_joining, is_opening, is_reading}
+use Rattle.session_opening.specs.Verdict.{verdict_in}
 use Rattle.session.proofs.Behind.{went_given_up}
 use Rattle.session.proofs.Refusing.{refuses_within, went_refused}
 use Rattle.session_opening.proofs.opening.open_session.Goals as goal
@@ -74,3 +76,24 @@ returns-clause-merges g c =
     merges_joined _ (now c.args.s.now) (now c.read_supported.new.s) (now c.join_info.new.s)
     c.join_info.result c.in_ok-remote.ensures.reads c.join_info.ensures.ends.0
     c.join_info.ensures.ends.1
+
+pub returns-in_err-remote-clause-order : goal.returns-in_err-remote-clause-order
+returns-in_err-remote-clause-order g c =
+    let p = err_from_is_err_and c.from_residual.result c.from_residual.ensures.1 in
+    rw (p.1, p.2) c.in_err-remote.ensures.order
+
+pub returns-in_err-join_info-clause-order : goal.returns-in_err-join_info-clause-order
+returns-in_err-join_info-clause-order g c = λ due.
+    let b = g.W.Session.now c.read_supported.new.s in
+    let d = g.W.Session.now c.join_info.new.s in
+    let p = err_from_is_err_and c.from_residual-in_err-join_info.result
+    c.from_residual-in_err-join_info.ensures.1 in
+    rw (p.1, p.2) (ahead_in_order _ (verdict_in d)
+    (stays_ahead is_joining b d (went_given_up is_joining b d _ c.in_err-join_info.ensures.ends.0)
+    (c.in_ok-remote.ensures.order due)))
+
+pub returns-clause-order : goal.returns-clause-order
+returns-clause-order g c = λ due.
+    stays_ahead is_joining (g.W.Session.now c.read_supported.new.s)
+    (g.W.Session.now c.join_info.new.s) c.in_ok-join_info.ensures.ends.0.went
+    (c.in_ok-remote.ensures.order due)

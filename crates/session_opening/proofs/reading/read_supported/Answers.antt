@@ -4,6 +4,7 @@ use Rattle.std.proofs.lemmas.Result.{err_from_is_err_and}
 use Rattle.jop_base.specs.declared.path.Path.TheVariants.{Info as InfoFile}
 use Rattle.jop_target.specs.declared.call.Call.TheVariants.{Get}
 use Rattle.session_opening.proofs.Gets.{absent_refuses, absent_stops, takes, told_refuses}
+use Rattle.session_opening.proofs.Judged.{absent_told, absent_untold, info_told, info_untold, none_told}
 use Rattle.session_opening.specs.Opening.{RefusesTarget, is_reading}
 use Rattle.session.proofs.Refusing.{not_refused}
 use Rattle.session.specs.Asking.{IsAnswer}
@@ -25,6 +26,10 @@ returns-in_err-ask g c = record {
   reads = let p = err_from_is_err_and c.from_residual.result c.from_residual.ensures.1 in
       rw (p.1, p.2) (not_refused RefusesTarget is_reading _ _ _
       (c.in_err-ask.ensures.ends is_reading refl));
+  order = λ due.
+      let p = err_from_is_err_and c.from_residual.result c.from_residual.ensures.1 in
+      rw (p.1, p.2) (info_untold (g.W.Session.now c.args.s.now)
+      (g.W.Session.now c.ask.new.self) _ c.in_err-ask.ensures.once due);
 }
 
 pub returns-in_err-info : goal.returns-in_err-info
@@ -34,6 +39,12 @@ returns-in_err-info g c = record {
       let h = c.in_ok-ask.ensures.ends is_reading refl in
       rw (p.1, p.2) (told_refuses _ _ c.last.result.now _ h
       (c.last.ensures (Get InfoFile) h.reply h.ends) c.in_err-info.ensures);
+  order = λ due.
+      let p = err_from_is_err_and c.from_residual-in_err-info.result
+      c.from_residual-in_err-info.ensures.1 in
+      let h = c.in_ok-ask.ensures.ends is_reading refl in
+      rw (p.1, p.2) (none_told is_reading _ _ c.last.result.now _ h
+      (c.last.ensures (Get InfoFile) h.reply h.ends) c.in_err-info.ensures due);
 }
 
 pub returns-in_err-read_old-in-None : goal.returns-in_err-read_old-in-None
@@ -42,6 +53,13 @@ returns-in_err-read_old-in-None g c = record {
       c.from_residual-in_err-read_old-in-None.ensures.1 in
       rw (p.1, p.2) (absent_stops _ (g.W.Session.now c.ask.new.self) _ _
       (c.in_ok-ask.ensures.ends is_reading refl) c.in_err-read_old-in-None.ensures.reads);
+  order = λ due.
+      let p = err_from_is_err_and c.from_residual-in_err-read_old-in-None.result
+      c.from_residual-in_err-read_old-in-None.ensures.1 in
+      let h = c.in_ok-ask.ensures.ends is_reading refl in
+      rw (p.1, p.2) (absent_untold is_reading (g.W.Session.now c.args.s.now)
+      (g.W.Session.now c.ask.new.self) c.last.result.now _ _ h (c.last.ensures (Get InfoFile) h.reply h.ends)
+      (rw c.in-None.is at c.in_ok-info.ensures) c.in_err-read_old-in-None.ensures.order due);
 }
 
 pub read_old-requires : goal.read_old-requires
@@ -53,6 +71,12 @@ returns-in_ok-read_old-in-None g c = record {
       absent_refuses _ (g.W.Session.now c.ask.new.self) _ c.last.result.now _ h
       (c.last.ensures (Get InfoFile) h.reply h.ends) (rw c.in-None.is at c.in_ok-info.ensures)
       c.in_ok-read_old-in-None.ensures.reads;
+  order = λ due.
+      let h = c.in_ok-ask.ensures.ends is_reading refl in
+      absent_told is_reading (g.W.Session.now c.args.s.now) (g.W.Session.now c.ask.new.self)
+      c.last.result.now _ _ h
+      (c.last.ensures (Get InfoFile) h.reply h.ends) (rw c.in-None.is at c.in_ok-info.ensures)
+      c.in_ok-read_old-in-None.ensures.order due;
 }
 
 pub returns-in-Some : goal.returns-in-Some
@@ -62,4 +86,10 @@ returns-in-Some g c = record {
       takes c.in-Some.info c.supported.result _ _ h c.requires.sync tells.0
       (subst (GivesInfo c.in-Some.info) (c.last.ensures (Get InfoFile) h.reply h.ends) tells.1)
       c.supported.ensures;
+  order = λ due.
+      let h = c.in_ok-ask.ensures.ends is_reading refl in
+      let tells = rw c.in-Some.is at c.in_ok-info.ensures in
+      info_told is_reading c.in-Some.info c.supported.result _ _ h
+      (subst (GivesInfo c.in-Some.info) (c.last.ensures (Get InfoFile) h.reply h.ends) tells.1)
+      c.supported.ensures due;
 }

@@ -2,6 +2,7 @@ use Rattle.std.proofs.Common.{◌∙◌, ap, sym}
 use Rattle.std.proofs.lemmas.Result.{err_from_is_err_and}
 use Rattle.client.specs.Sites.{SiteNow}
 use Rattle.lease.proofs.Sessions.{has_room}
+use Rattle.sync_session.proofs.Ordered.{none_in_order, open_in_order, whole_in_order}
 use Rattle.sync_session.proofs.Whole.{has_begun_sync, line_open, line_same, line_whole, none_open, open_after, whole_after}
 use Rattle.sync_session.proofs.syncing.make_session.Goals as goal
 
@@ -47,3 +48,18 @@ returns-else-has_ended-clause-session g c =
 pub returns-else-has_ended-clause-line : goal.returns-else-has_ended-clause-line
 returns-else-has_ended-clause-line g c =
     line_open _ _ _ _ c.in_ok-begin.ensures.writes c.take_and_sync-outcome.ensures.runs.goes
+
+pub returns-in_err-begin-clause-order : goal.returns-in_err-begin-clause-order
+returns-in_err-begin-clause-order g c = none_in_order _ _ _ c.in_err-begin.ensures.writes
+
+pub returns-in_ok-end-clause-order : goal.returns-in_ok-end-clause-order
+returns-in_ok-end-clause-order g c =
+    let took = c.take_and_sync-outcome.ensures in
+    whole_in_order c.args.client.now _ _ _ _ _ c.in_ok-begin.ensures.writes took.runs.goes
+    c.in_ok-end.ensures.writes took.order
+
+pub returns-else-has_ended-clause-order : goal.returns-else-has_ended-clause-order
+returns-else-has_ended-clause-order g c =
+    let took = c.take_and_sync-outcome.ensures in
+    open_in_order c.args.client.now _ _ (g.S.Client.site c.take_and_sync-outcome.new.site) _
+    c.in_ok-begin.ensures.writes took.runs.goes took.order

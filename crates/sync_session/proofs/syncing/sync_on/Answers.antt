@@ -1,6 +1,7 @@
 use Rattle.std.proofs.Common.{◌≡◌, ap, rules, sym}
 use Rattle.client.specs.Sites.{Place}
 use Rattle.sync_run.proofs.Leases.{Laws}
+use Rattle.sync_session.proofs.Ordered.{added_as}
 use Rattle.sync_session.proofs.Promised.{keeps_from, licensed_from}
 use Rattle.sync_session.proofs.Ran.{adds_as, is_site, line_as}
 use Rattle.sync_session.proofs.syncing.sync_on.Goals as goal
@@ -30,6 +31,7 @@ returns g c =
       session = session;
       line = line_as client _ _ _ made.line is;
       keeps = keeps_from client _ _ _ laws session;
+      order = added_as _ _ _ _ made.order is;
       licensed = licensed;
       kept = λ added changes trail made.
           c.notes_are_kept_by_tables.ensures.joined client _ added changes

@@ -5,6 +5,7 @@ use Rattle.lease.specs.Phase.{Free}
 use Rattle.lease.specs.Standing.{StandsIn}
 use Rattle.sync_session.proofs.Done.{counted_locked}
 use Rattle.sync_session.proofs.Left.{has_taken}
+use Rattle.sync_session.proofs.Ordered.{idle_in_order}
 use Rattle.sync_session.proofs.Ran.{HasTried, runs_done, runs_none, runs_refused, starts_taken}
 use Rattle.sync_session.proofs.syncing.take_and_sync.Goals as goal
 
@@ -60,3 +61,18 @@ returns-clause-runs g c =
     c.in_ok-sync_held.ensures.ends
     (counted_locked c.sync_held.new.report c.sealed_rows.result _ _ c.sealed_rows.ensures
     c.tables.ensures)
+
+pub returns-in_err-lease-clause-order : goal.returns-in_err-lease-clause-order
+returns-in_err-lease-clause-order g c =
+    idle_in_order _ c.args.client.now (g.S.Client.site c.args.site.now)
+    (g.S.Client.site c.acquire.new.line) _ _ (g.met.S.Client.same_line _)
+    (g.met.S.Client.same_line _) c.requires.begun.calls c.in_err-lease.ensures.goes
+
+pub returns-in_err-sync_held-clause-order : goal.returns-in_err-sync_held-clause-order
+returns-in_err-sync_held-clause-order g c =
+    let p = err_from_is_err_and c.from_residual-in_err-sync_held.result
+    c.from_residual-in_err-sync_held.ensures.1 in
+    rw (p.1, p.2) c.in_err-sync_held.ensures.order
+
+pub returns-clause-order : goal.returns-clause-order
+returns-clause-order g c = c.in_ok-sync_held.ensures.order

@@ -1,9 +1,12 @@
 use Rattle.std.proofs.Common.{◌∙◌, Option, ap, subst, sym}
 use Rattle.std.proofs.lemmas.Result.{err_from_is_err_and}
 use Rattle.conflicts.specs.declared.refusal.Refusal.{Refusal}
+use Rattle.session_opening.proofs.Judged.{ahead_in_order, stays_ahead}
 use Rattle.session_opening.proofs.Merged.{merged_opened}
+use Rattle.sync_session.proofs.Ordered.{of_step_in_order, unread}
 use Rattle.sync_session.proofs.Worked.{can_put, lawful_behind, merges_behind, opened, unput_opened, went_stopped, works_behind, works_done, works_keyless, works_unopened}
 use Rattle.sync_session.specs.Keys.{RefusesKeysOr, needs_key}
+use Rattle.sync_session.specs.Working.{is_exchange}
 use Rattle.sync_session.proofs.working.work.Goals as goal
 
 pub returns-in_err-open_session-clause-ends : goal.returns-in_err-open_session-clause-ends
@@ -85,3 +88,34 @@ returns-clause-lawful g c =
     lawful_behind a b (now c.exchange.new.s)
     (opened a b c.requires.starts.sync done.opens done.lawful done.told done.merges)
     c.in_ok-exchange.ensures.ends.0.went
+
+pub returns-in_err-open_session-clause-order : goal.returns-in_err-open_session-clause-order
+returns-in_err-open_session-clause-order g c =
+    let p = err_from_is_err_and c.from_residual.result c.from_residual.ensures.1 in
+    rw (p.1, p.2)
+    (of_step_in_order _ _
+    (c.in_err-open_session.ensures.order
+    (unread (g.W.Session.now c.args.s.now) c.requires.starts.first)))
+
+pub returns-in-Some-clause-order : goal.returns-in-Some-clause-order
+returns-in-Some-clause-order g c =
+    ahead_in_order _ _
+    (c.in_ok-open_session.ensures.order
+    (unread (g.W.Session.now c.args.s.now) c.requires.starts.first))
+
+pub returns-in_err-exchange-clause-order : goal.returns-in_err-exchange-clause-order
+returns-in_err-exchange-clause-order g c =
+    let now = g.W.Session.now in
+    let b = now c.open_session.new.s in
+    ahead_in_order _ _
+    (stays_ahead is_exchange b (now c.exchange.new.s)
+    (went_stopped b _ _ c.in_err-exchange.ensures.ends)
+    (c.in_ok-open_session.ensures.order (unread (now c.args.s.now) c.requires.starts.first)))
+
+pub returns-clause-order : goal.returns-clause-order
+returns-clause-order g c =
+    let now = g.W.Session.now in
+    ahead_in_order _ _
+    (stays_ahead is_exchange (now c.open_session.new.s) (now c.exchange.new.s)
+    c.in_ok-exchange.ensures.ends.0.went
+    (c.in_ok-open_session.ensures.order (unread (now c.args.s.now) c.requires.starts.first)))

@@ -10,3 +10,6 @@ returns-clause-ends g c = λ sort sorted.
     let plain = plainly c.args.call c.requires.plain in
     stays_at (HearsOr c.args.call sort _ c.ask.result) _ _ _ _ _ _ _ _ c.ask.ensures.stays
     (asked _ _ sort c.args.call _ _ _ _ _ c.ask.result plain.got plain.noted c.ask.ensures.asks sorted)
+
+pub returns-clause-once : goal.returns-clause-once
+returns-clause-once g c = c.ask.ensures.once
