@@ -64,7 +64,7 @@ _jop() {
     case $((COMP_CWORD - first)) in
         -1) _jop_files "$word" ;;
         0)
-            _jop_words "$word" add attach cat check conflicts edit help ls mkbook rm sync tag tidy upgrade
+            _jop_words "$word" add attach cat check conflicts edit find help ls mkbook move rename resources rm sync tag tags tidy trash untag upgrade version
             [[ $first -ne 1 || $word != -* ]] || _jop_words "$word" --profile
             ;;
         *) _jop_behind "$first" "$word" ;;
@@ -76,8 +76,9 @@ _jop() {
 _jop_behind() {
     case ${COMP_WORDS[$1]}$((COMP_CWORD - $1)) in
         attach1) _jop_files "$2" ;;
-        conflicts1) _jop_words "$2" --clear ;;
+        conflicts1) _jop_words "$2" --clear --show ;;
         edit2) _jop_words "$2" --title ;;
+        ls1) _jop_words "$2" --tag ;;
         mkbook2) _jop_words "$2" --in ;;
         check* | sync* | upgrade*) _jop_targets "$2" $(($1 + 1)) ;;
     esac

@@ -22,7 +22,7 @@ usage='usage: jop [--profile PATH] COMMAND'
 
 export LC_ALL=C
 umask 022
-unset CDPATH
+unset CDPATH JOP_PROFILE JOP_TARGET
 
 SKIPPED=77
 

@@ -2,9 +2,11 @@
 //! [`jop_start::run_named`] is handed.
 #![tactic(auto)]
 
+mod watchers;
 mod words;
 
-use crate::words::read_args;
+use crate::watchers::watchers;
+use crate::words::read_words;
 use jop_host::{ReaderSource, SystemClock, SystemEntropy, WriterSink};
 use jop_start::{StartErr, Streams, SystemOpener, run_named};
 use std::process::ExitCode;
@@ -18,7 +20,7 @@ fn main(rt: HostRuntime) -> ExitCode {
 
 /// Runs once, with the files, the streams, the clock and the random source of the system.
 fn start(rt: &HostRuntime) -> Result<u8, StartErr> {
-    let words = read_args(rt)?;
+    let words = read_words(rt)?;
     let mut streams = Streams {
         // A locked standard input would read a pipe byte by byte.
         input: ReaderSource::new(rt.stdin()),
@@ -30,7 +32,7 @@ fn start(rt: &HostRuntime) -> Result<u8, StartErr> {
     run_named(
         rt.alloc(),
         &words,
-        &mut SystemOpener::new(*rt),
+        &mut SystemOpener::new(*rt, watchers(rt)),
         &mut streams,
     )
 }

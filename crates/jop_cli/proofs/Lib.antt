@@ -1,5 +1,6 @@
 mod Checked
 mod Constants
+mod Due
 pub mod Whole
 mod Heard
 mod Licensed

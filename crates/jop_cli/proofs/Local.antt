@@ -1,19 +1,20 @@
 -- What a command on the tables comes to.
-use Rattle.std.proofs.Common.{◌≡◌, ◌∙◌, refl, sym, ap, subst, inl, inr, ℕ, ◌+◌, List, [], ◌∷◌, ◌++◌, length, map}
+use Rattle.std.proofs.Common.{◌≡◌, ◌⊎◌, ◌∙◌, refl, sym, ap, subst, inl, inr, ℕ, ◌+◌, List, [], ◌∷◌, ◌++◌, length, map}
 use Rattle.std.proofs.Common.{Bool, true, false, Option, Some, None, Result, Ok, Err}
 use Rattle.std.specs.Prelude.{option_map}
 use Rattle.std.proofs.lemmas.List.Elements.{All-nil, All-cons}
 use Rattle.client.specs.Outside.{OutsideNow}
-use Rattle.jop_cli.proofs.Runs.{Comes, unfailed_uncalled, uses_changes}
-use Rattle.jop_cli.specs.Causes.{IsExplained}
+use Rattle.jop_cli.proofs.Runs.{Comes, completes, unfailed_uncalled, uses_changes}
+use Rattle.jop_cli.specs.Causes.{IsExplained, NothingHinders}
 use Rattle.jop_cli.specs.Commands.Local.{DoesLocally, local_outcome}
 use Rattle.jop_cli.specs.Commands.Sessions.{IsChange, IsUncalled}
 use Rattle.jop_cli.specs.Run.{AnswersWords, HasLicences, IsFreshOutside, IsFreshAndUnsaved, KeepsChanges, UsesTarget, may_be_late, with_changes}
-use Rattle.jop_outside.specs.Outside.{SinkNow}
+use Rattle.jop_outside.specs.Outside.{HasRisen, SinkNow}
 use Rattle.jop_status.specs.Outcomes.{Emits, Outcome}
 use Rattle.jop_status.specs.Refusals.{local_status}
 use Rattle.jop_status.specs.Statuses.{is_early}
 use Rattle.jop_status.specs.declared.status.Status.{Status}
+use Rattle.jop_status.specs.declared.status.Status.TheVariants as statuses
 use Rattle.jop_target.specs.Replies.{TargetNow}
 use Rattle.jop_target.specs.Runs.{has_failed}
 use Rattle.jop_target.specs.Trail.{LineNow}
@@ -26,8 +27,9 @@ use Rattle.law_licences.specs.Deeds.{deeds_of}
 use Rattle.law_licences.specs.Licences.{ObeysData}
 use Rattle.law_licences.specs.Views.{at_rest}
 use Rattle.local_commands.proofs.Leaving.{drawn_fault, follows, given_fault, unsaved}
+use Rattle.local_commands.proofs.Unhindered.{goes_well}
 use Rattle.local_commands.proofs.UserActs.{follows_changes, makes_licensed}
-use Rattle.local_commands.specs.Following.{MayBeLate}
+use Rattle.local_commands.specs.Following.{IsUnhindered, IsWellOrMemory, MayBeLate}
 use Rattle.local_commands.specs.Keeping.{AreNoted, changes_among, kept_after_all, trail_of}
 use Rattle.local_commands.specs.Commands.{plan_of}
 use Rattle.local_commands.specs.Running.{Runs}
@@ -35,7 +37,7 @@ use Rattle.local_commands.specs.Sparing.{Spares}
 use Rattle.local_commands.specs.declared.act.Act.TheVariants.{MakeChange}
 use Rattle.local_commands.specs.declared.command.LocalCommand.{LocalCommand}
 use Rattle.local_commands.specs.declared.local_err.LocalErr.{LocalErr}
-use Rattle.local_commands.specs.declared.local_err.LocalErr.TheVariants.{KeeperFault, SourceFault, ClockFault, EntropyFault, NotFound, Sealed, TimeEnd, NotEmpty, NoConflict, TooLarge, NotText, NoMemory}
+use Rattle.local_commands.specs.declared.local_err.LocalErr.TheVariants.{KeeperFault, SourceFault, ClockFault, EntropyFault, NotFound, Sealed, TimeEnd, NotEmpty, BelowItself, NoConflict, TooLarge, NotText, NoMemory}
 use Rattle.local_store.specs.Changing.{after_all}
 use Rattle.local_store.specs.declared.change.Change.{Change}
 
@@ -58,6 +60,8 @@ explained_refusal command before after (Sealed id) runs heard =
 explained_refusal command before after (TimeEnd id) runs heard =
     record { command = command; is = refl; runs = runs }
 explained_refusal command before after (NotEmpty id) runs heard =
+    record { command = command; is = refl; runs = runs }
+explained_refusal command before after (BelowItself id) runs heard =
     record { command = command; is = refl; runs = runs }
 explained_refusal command before after (NoConflict number) runs heard =
     record { command = command; is = refl; runs = runs }
@@ -86,6 +90,7 @@ early_local (NotFound id) = refl
 early_local (Sealed id) = refl
 early_local (TimeEnd id) = refl
 early_local (NotEmpty id) = refl
+early_local (BelowItself id) = refl
 early_local (NoConflict number) = refl
 early_local (TooLarge len) = refl
 early_local NotText = refl
@@ -264,3 +269,58 @@ pub unsaved_of : (verb : Option Verb) (before after : OutsideNow) (status : Stat
 unsaved_of verb before after status fresh answers command is late =
     obeyed_early command before after status fresh late
     (subst (λ (v : Option Verb). AnswersWords v before status after) is answers)
+
+-- ---- what nothing hinders
+
+-- what is printed hinders nothing
+still_unhindered : (command : LocalCommand) (before mid : OutsideNow) (out : SinkNow) →
+    IsUnhindered (plan_of command) before (record mid { out = out }) →
+    IsUnhindered (plan_of command) before mid
+still_unhindered command before mid out h = record {
+  kept = h.kept;
+  told = h.told;
+  allowed = h.allowed;
+  bytes = h.bytes;
+  fit = h.fit;
+  makeable = h.makeable;
+  unfailed = record {
+    keeper = h.unfailed.keeper;
+    input = h.unfailed.input;
+    clock = h.unfailed.clock;
+    entropy = h.unfailed.entropy;
+  };
+}
+
+well_told : (answer : Result (List ℕ) LocalErr) (a b : SinkNow) (status : Status) →
+    IsWellOrMemory answer → ¬ HasRisen a.faults b.faults →
+    Emits (local_outcome answer) a status b →
+    (status ≡ statuses.Ok) ⊎ (status ≡ statuses.NoMemory)
+well_told (Ok text) a b status well unfailed (inl went) = inl went.0
+well_told (Ok text) a b status well unfailed (inr cut) = absurd (unfailed cut.1.rose)
+well_told (Err error) a b status (inl well) unfailed emits = absurd (cc well)
+well_told (Err error) a b status (inr memory) unfailed emits =
+    let same : error ≡ NoMemory = cc memory in
+    inr (emits.0 ∙ ap local_status same)
+
+obeyed_well : (command : LocalCommand) (before after : OutsideNow) (status : Status) →
+    AnswersWords (Some (Local command)) before status after →
+    NothingHinders (Some (Local command)) before after →
+    (status ≡ statuses.Ok) ⊎ (status ≡ statuses.NoMemory)
+obeyed_well command before after status (inl memory) free = inr memory.0
+obeyed_well command before after status (inr obeys) free =
+    let local : DoesLocally command before obeys.outcome obeys.mid = obeys.comes in
+    let unhindered = still_unhindered command before obeys.mid after.out
+    (subst (λ (a : OutsideNow). IsUnhindered (plan_of command) before a) obeys.emits.same free.0) in
+    well_told local.answer obeys.mid.out after.out status
+    (goes_well command before obeys.mid local.answer local.runs unhindered)
+    (subst (λ (o : SinkNow). ¬ HasRisen o.faults after.out.faults) (sym obeys.quiet) free.1)
+    (subst (λ (o : Outcome). Emits o obeys.mid.out status after.out) local.is obeys.emits.emits)
+
+-- a command that nothing hinders goes well, unless memory runs out
+pub complete_of : (verb : Option Verb) (before after : OutsideNow) (status : Status) →
+    IsExplained verb before status after → AnswersWords verb before status after →
+    NothingHinders verb before after → (status ≡ statuses.Ok) ⊎ (status ≡ statuses.NoMemory)
+complete_of (Some (Local command)) before after status explained answers free =
+    obeyed_well command before after status answers free
+complete_of verb before after status explained answers free =
+    completes verb before after status explained free

@@ -5,10 +5,10 @@ use Rattle.std.specs.Prelude.{option_map}
 use Rattle.std.proofs.lemmas.List.{append-nil}
 use Rattle.std.proofs.lemmas.List.Elements.{All-nil}
 use Rattle.client.specs.Outside.{OutsideNow}
-use Rattle.jop_cli.specs.Causes.{IsUnexplained, IsExplained}
+use Rattle.jop_cli.specs.Causes.{IsUnexplained, IsExplained, NothingHinders}
 use Rattle.jop_cli.specs.Commands.{ComesTo, Uses, nothing, used}
 use Rattle.jop_cli.specs.Commands.Sessions.{IsChange, IsUncalled, NamedSession}
-use Rattle.jop_cli.specs.Run.{Acts, AnswersWords, RunsAsPromised, HasLicences, IsFreshOutside, IsFreshAndUnsaved, KeepsChanges, LeavesAlone, LeavesTables, LeavesTarget, Prints, Sessions, TidiesTold, UsesTarget, may_be_late, with_changes}
+use Rattle.jop_cli.specs.Run.{Acts, AnswersVerdict, AnswersWords, RunsAsPromised, HasLicences, IsFreshOutside, IsFreshAndUnsaved, KeepsChanges, LeavesAlone, LeavesTables, LeavesTarget, Prints, Sessions, TidiesTold, UsesTarget, may_be_late, with_changes}
 use Rattle.jop_cli.specs.Worlds.{EmitsTo}
 use Rattle.jop_outside.specs.Clocks.{ClockNow}
 use Rattle.jop_outside.specs.Outside.{HasRisen, SinkNow, SourceNow}
@@ -165,7 +165,7 @@ went_or_not statuses.Ok = inr (inl refl)
 went_or_not statuses.NoMemory = inr (inr refl)
 went_or_not status = inl refl
 
-completes : (verb : Option Verb) (before after : OutsideNow) (status : Status) →
+pub completes : (verb : Option Verb) (before after : OutsideNow) (status : Status) →
     IsExplained verb before status after → IsUnexplained verb before after →
     (status ≡ statuses.Ok) ⊎ (status ≡ statuses.NoMemory)
 completes verb before after status explained none = elim (went_or_not status) [
@@ -428,16 +428,19 @@ acts_as verb v before after status is h =
 -- ---- the whole
 
 pub does_of : (verb : Option Verb) (before after : OutsideNow) (status : Status) →
+    (NothingHinders verb before after → (status ≡ statuses.Ok) ⊎ (status ≡ statuses.NoMemory)) →
+    AnswersVerdict verb status after.line.trail →
     ((bytes : List ℕ) → verb ≡ Some Tidy → before.input.left ≡ Some bytes → TidiesTold bytes status) →
     ((command : LocalCommand) → verb ≡ Some (Local command) → may_be_late status ≡ false →
     IsFreshAndUnsaved before after) →
     ((client : List ℕ) (t : Tables) (trail : List Event) (made : List Change) →
     ObeysData (at_rest t) (deeds_of trail made) → KeepsNotes client t trail made) →
     Acts verb before status after → RunsAsPromised verb before status after
-does_of verb before after status exact unsaved joined h = record {
+does_of verb before after status complete due exact unsaved joined h = record {
   answers = h.answers;
   explained = h.explained;
-  complete = completes verb before after status h.explained;
+  complete = complete;
+  due = due;
   exact = exact;
   unsaved = unsaved;
   sessions = h.sessions;

@@ -32,7 +32,7 @@ use Rattle.law_licences.specs.Pages.{emptied_by}
 use Rattle.law_licences.specs.Views.{Heard, shown_to}
 use Rattle.local_commands.specs.declared.command.LocalCommand.{LocalCommand}
 use Rattle.local_commands.specs.declared.local_err.LocalErr.{LocalErr}
-use Rattle.local_commands.specs.declared.local_err.LocalErr.TheVariants.{NotFound, Sealed, TimeEnd, TooLarge, NoConflict, NotEmpty, NotText}
+use Rattle.local_commands.specs.declared.local_err.LocalErr.TheVariants.{NotFound, Sealed, TimeEnd, TooLarge, NoConflict, NotEmpty, NotText, BelowItself}
 use Rattle.keeper.specs.Keepers.{IsOfKept, KeeperNow}
 use Rattle.local_store.specs.declared.tables.Tables.{Tables}
 use Rattle.session_opening.specs.Opening.{IsOldVersion}
@@ -44,6 +44,7 @@ use Rattle.target_upgrade.specs.Reading.{GivesInfo, IsBadReply}
 use Rattle.target_upgrade.specs.Steps.{SUPPORTED}
 use Rattle.jop_cli.specs.Commands.{used}
 use Rattle.local_commands.specs.Commands.{plan_of}
+use Rattle.local_commands.specs.Following.{IsUnhindered}
 use Rattle.local_commands.specs.Running.{Runs}
 use Rattle.jop_cli.specs.Commands.Sessions.{IsClientOf, IsUncalled, NamedSession}
 use Rattle.jop_cli.specs.Commands.Tidy.{IsFaulty}
@@ -233,8 +234,17 @@ IsExplained verb before (statuses.NotEmpty id) after =
     IsRefusedLocally verb before (NotEmpty id) after
 IsExplained verb before statuses.NotText after =
     IsRefusedLocally verb before NotText after
+IsExplained verb before (statuses.BelowItself id) after =
+    IsRefusedLocally verb before (BelowItself id) after
 
 -- no refusal has its cause
 abbrev pub IsUnexplained : Option Verb → OutsideNow → OutsideNow → Type 0
 IsUnexplained verb before after =
     (status : Status) → is_refusal status ≡ true → ¬ IsExplained verb before status after
+
+-- Nothing hinders a command. One on the tables: by what keeper and input tell, and no count of
+-- faults rises, that of the output neither. Any other: no refusal has its cause.
+abbrev pub NothingHinders : Option Verb → OutsideNow → OutsideNow → Type 0
+NothingHinders (Some (verbs.Local command)) before after =
+    IsUnhindered (plan_of command) before after × ¬ HasRisen before.out.faults after.out.faults
+NothingHinders verb before after = IsUnexplained verb before after

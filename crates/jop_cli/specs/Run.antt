@@ -22,9 +22,10 @@ use Rattle.local_store.specs.Changing.{after_all}
 use Rattle.keeper.specs.Keepers.{KeeperNow, Kept}
 use Rattle.local_store.specs.declared.change.Change.{Change}
 use Rattle.local_store.specs.declared.tables.Tables.{Tables}
-use Rattle.jop_cli.specs.Causes.{IsUnexplained, IsExplained}
+use Rattle.jop_cli.specs.Causes.{IsExplained, NothingHinders}
 use Rattle.jop_cli.specs.Commands.{ComesTo, Uses, used}
 use Rattle.jop_cli.specs.Commands.Sessions.{IsClientOf, IsUncalled, NamedSession, lock_named, went_well}
+use Rattle.session_opening.specs.Verdict.{HeedsVerdict, last_calls, verdict_of}
 use Rattle.sync_run.specs.Leases.{KeepsLease}
 use Rattle.jop_cli.specs.Commands.Tidy.{HasTidyStatus, IsTidyAnswer}
 use Rattle.jop_cli.specs.Worlds.{EmitsTo}
@@ -122,6 +123,16 @@ Sessions None keeper trail status = IsUncalled trail
 Sessions (Some session) keeper trail status =
     IsUncalled trail ⊎ RunsSession session keeper trail status
 
+-- ---- a refusal that is due
+
+-- Once the calls of a sync say that the target is of another version, or that its info can't be
+-- read, nothing more is called but about locks, and that is how it ends, unless memory runs out.
+abbrev pub AnswersVerdict : Option Verb → Status → List Event → Type 0
+AnswersVerdict (Some (verbs.Sync target)) status trail =
+    HeedsVerdict (λ why. (status ≡ statuses.Refused why) ⊎ (status ≡ statuses.NoMemory))
+    (verdict_of (last_calls trail))
+AnswersVerdict verb status trail = Unit {0}
+
 -- ---- an input that tells its bytes
 
 -- an input of `tidy` that tells these bytes has this answer
@@ -194,9 +205,11 @@ pub record RunsAsPromised (verb : Option Verb) (before : OutsideNow) (status : S
   pub answers : AnswersWords verb before status after
   -- the cause of its end
   pub explained : IsExplained verb before status after
-  -- without a cause for a refusal it went well, or memory ran out
-  pub complete : IsUnexplained verb before after →
+  -- if nothing hinders it, it went well, or memory ran out
+  pub complete : NothingHinders verb before after →
       (status ≡ statuses.Ok) ⊎ (status ≡ statuses.NoMemory)
+  -- a sync ends by the refusal that its calls call for, and calls nothing behind them
+  pub due : AnswersVerdict verb status after.line.trail
   -- `tidy` of an input that tells its bytes
   pub exact : (bytes : List ℕ) → verb ≡ Some verbs.Tidy → before.input.left ≡ Some bytes →
       TidiesTold bytes status

@@ -20,11 +20,13 @@ use Rattle.lease.specs.Calls.{IsLeaseEvent}
 use Rattle.local_store.specs.declared.change.Change.{Change}
 use Rattle.local_store.specs.declared.tables.Tables.{Tables}
 use Rattle.session.specs.Steps.{IsStep}
+use Rattle.session_opening.specs.Verdict.{HeedsVerdict, last_calls, verdict_of}
 use Rattle.sync_run.specs.Checks.{AddsCheck}
 use Rattle.sync_run.specs.Leases.{KeepsLease, blocked_in, is_done}
 use Rattle.sync_run.specs.Sessions.{IsMarkOr}
 use Rattle.sync_run.specs.Upgrades.{AddsUpgrade}
 use Rattle.sync_run.specs.declared.session_err.SessionErr.{SessionErr}
+use Rattle.sync_session.specs.Ordering.{GivesDue}
 use Rattle.sync_session.specs.Syncing.{AddsFrom, blocked_by}
 use Rattle.sync_session.specs.Working.{is_sync}
 use Rattle.sync_session.specs.declared.sync_err.SyncErr.{SyncErr}
@@ -67,8 +69,9 @@ pub record RanUpgrade (client : List ℕ) (old : OutsideNow) (result : Result �
 abbrev pub site_in : Tables → OutsideNow → SiteNow
 site_in t o = record { line = o.line; keeper = o.keeper; tables = t; made = o.made }
 
--- So was one that brings these tables and the target together. Each call and each change has its licence, from these
--- tables on. It leaves the streams, the clock and the random source as they were.
+-- So was one that brings these tables and the target together. Each call and each change has its
+-- licence, from these tables on. The refusal that is due by its calls is given, and nothing is called
+-- behind them. It leaves the streams, the clock and the random source as they were.
 pub record RanSync (client : List ℕ) (t : Tables) (old : OutsideNow)
     (result : Result SyncReport SyncErr) (new : OutsideNow) : Type 0 where
   pub late : Tables
@@ -78,6 +81,7 @@ pub record RanSync (client : List ℕ) (t : Tables) (old : OutsideNow)
   pub licensed : (changes : List Change) → new.made ≡ old.made ++ changes →
       ObeysData (at_rest t) (deeds_of line.more changes)
       × MergesInfo (at_rest t) (deeds_of line.more changes)
+  pub order : HeedsVerdict (GivesDue result) (verdict_of (last_calls line.more))
   pub same : new ≡ record old { line = new.line; keeper = new.keeper; made = new.made }
 
 -- ---- prints

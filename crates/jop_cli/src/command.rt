@@ -16,6 +16,9 @@ use jop_status::{Status, USAGE_LINE};
 use jop_words::Verb;
 use std::alloc::Global;
 
+/// The name of the program and its version, which is that of the file `VERSION`.
+const VERSION_LINE: &str = "jop 0.2.0\n";
+
 /// Does what a command says: an arm for each.
 pub(crate) fn obey<W: World>(alloc: Global, world: &mut W, verb: Verb) -> Status
     requires fit { IsFit verb }
@@ -30,5 +33,6 @@ pub(crate) fn obey<W: World>(alloc: Global, world: &mut W, verb: Verb) -> Status
         Verb::Sync { target: _ } => sync::obey(alloc, world),
         Verb::Tidy => tidy::obey(alloc, world),
         Verb::Upgrade { target: _ } => upgrade::obey(alloc, world),
+        Verb::Version => constant::obey(world, VERSION_LINE),
     }
 }

@@ -8,28 +8,32 @@ use crate::work::Work;
 use client::draw_id;
 use jop_host::SystemEntropy;
 use jop_target::{MemTarget, Target};
+use jop_watch::{Waiting, WatchedKeeper, WatchedTarget, Watcher};
 use jop_words::{Profile, TargetKind};
 use keeper::Keeper;
 use keeper_records::MemKeeper;
 use keeper_sqlite::keeper_at;
 use std::alloc::Global;
+use std::cell::Cell;
 use target_files::FolderTarget;
 
 /// The opener of the system's files, folders and servers, and of tables and targets in memory, which are gone when they
-/// are closed. Each is in a box, so that no proof of what is done with it writes out what it is.
+/// are closed. Each is in a box, so that no proof of what is done with it writes out what it is. A watcher is told of
+/// what is done with the target.
 #[derive(Drop)]
-pub struct SystemOpener {
+pub struct SystemOpener<V: Watcher> {
     rt: HostRuntime,
+    watcher: V,
 }
 
-impl SystemOpener {
-    pub fn new(rt: HostRuntime) -> SystemOpener {
-        SystemOpener { rt }
+impl<V: Watcher> SystemOpener<V> {
+    pub fn new(rt: HostRuntime, watcher: V) -> SystemOpener<V> {
+        SystemOpener { rt, watcher }
     }
 
     /// Opens a target of this kind, and has the work done on it and on this keeper.
     fn open_beside<K: Keeper, W: Work>(
-        &self,
+        &mut self,
         alloc: Global,
         keeper: K,
         kind: TargetKind,
@@ -40,11 +44,12 @@ impl SystemOpener {
             (W.does work.old work.new exit)) }
         ensures drawn { result ≡ Err StartErr.EntropyFault → is_folder_kind kind ≡ true }
         ensures idle { OnErr result (work.new ≡ work.old) }
+        ensures unopened { OnErr result (self.new ≡ self.old) }
     {
         match kind {
             TargetKind::Mem => {
                 let target: Box<dyn Target> = Box::new(alloc, MemTarget::new(alloc, 0, 1))?;
-                Ok(lend(alloc, keeper, target, work))
+                Ok(lend(alloc, keeper, target, &mut self.watcher, work))
             }
             TargetKind::Dir(root) => {
                 let temp = draw_id(&mut SystemEntropy::new(self.rt))?;
@@ -52,17 +57,17 @@ impl SystemOpener {
                     alloc,
                     FolderTarget::new(self.rt, root, temp),
                 )?;
-                Ok(lend(alloc, keeper, target, work))
+                Ok(lend(alloc, keeper, target, &mut self.watcher, work))
             }
             TargetKind::Dav(address) => {
                 let target: Box<dyn Target> = Box::new(alloc, server_target(&self.rt, address)?)?;
-                Ok(lend(alloc, keeper, target, work))
+                Ok(lend(alloc, keeper, target, &mut self.watcher, work))
             }
         }
     }
 }
 
-impl Opener for SystemOpener {
+impl<V: Watcher> Opener for SystemOpener<V> {
     ghost opens = { λ old new. OpensNew };
 
     fn open<W: Work>(
@@ -85,15 +90,26 @@ impl Opener for SystemOpener {
     }
 }
 
-/// Has the work done on this keeper and this target, and lets go of them.
-fn lend<K: Keeper, T: Target, W: Work>(
+/// Has the work done on this keeper and this target, of which a watcher is told, and lets go of them.
+fn lend<K: Keeper, T: Target, V: Watcher, W: Work>(
     alloc: Global,
-    mut keeper: K,
-    mut target: T,
+    keeper: K,
+    target: T,
+    watcher: &mut V,
     work: &mut W,
 ) -> u8
     ensures { WhileOpen (OpensOn (K.state keeper) (T.state target))
         (W.does work.old work.new result) }
 {
+    let waiting = Cell::new(Waiting::none());
+    let mut keeper = WatchedKeeper {
+        keeper,
+        waiting: &waiting,
+    };
+    let mut target = WatchedTarget {
+        target,
+        watcher,
+        waiting: &waiting,
+    };
     work.done(alloc, &mut keeper, &mut target)
 }

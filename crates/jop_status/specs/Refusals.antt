@@ -32,6 +32,7 @@ local_status (local_errors.NotFound id) = statuses.NotFound id
 local_status (local_errors.Sealed id) = statuses.Sealed id
 local_status (local_errors.TimeEnd id) = statuses.TimeEnd id
 local_status (local_errors.NotEmpty id) = statuses.NotEmpty id
+local_status (local_errors.BelowItself id) = statuses.BelowItself id
 local_status (local_errors.NoConflict number) = statuses.NoConflict number
 local_status (local_errors.TooLarge len) = statuses.TooLarge len
 local_status local_errors.NotText = statuses.NotText

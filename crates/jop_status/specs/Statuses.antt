@@ -78,6 +78,7 @@ row_of (statuses.NoConflict number) =
     row 23 (line_of (codes "no conflict " ++ decimal number))
 row_of (statuses.NotEmpty id) = row 24 (line_of (codes "not empty " ++ id))
 row_of statuses.NotText = row 25 (line_of (codes "input is not text"))
+row_of (statuses.BelowItself id) = row 26 (line_of (codes "below itself " ++ id))
 
 -- whether a status says why the words were not done
 abbrev pub is_refusal : Status → Bool

@@ -64,6 +64,8 @@ pub enum Status {
     NotEmpty(Id),
     /// The input isn't UTF-8.
     NotText,
+    /// The notebook of this id would come into itself, or below itself.
+    BelowItself(Id),
 }
 
 impl Status {
@@ -96,6 +98,7 @@ impl Status {
             Status::NoConflict(_) => 23,
             Status::NotEmpty(_) => 24,
             Status::NotText => 25,
+            Status::BelowItself(_) => 26,
         }
     }
 }
@@ -133,6 +136,7 @@ fn write_line<E: Sink>(err: &mut E, status: &Status) -> Result<(), Failed>
         Status::NoConflict(number) => write_number(err, "no conflict ", *number),
         Status::NotEmpty(id) => write_id(err, "not empty ", *id),
         Status::NotText => write_word(err, "input is not text"),
+        Status::BelowItself(id) => write_id(err, "below itself ", *id),
     }
 }
 
@@ -200,6 +204,7 @@ impl From<LocalErr> for Status {
             LocalErr::Sealed(id) => Status::Sealed(id),
             LocalErr::TimeEnd(id) => Status::TimeEnd(id),
             LocalErr::NotEmpty(id) => Status::NotEmpty(id),
+            LocalErr::BelowItself(id) => Status::BelowItself(id),
             LocalErr::NoConflict(number) => Status::NoConflict(number),
             LocalErr::TooLarge(len) => Status::TooLarge(len),
             LocalErr::NotText => Status::NotText,

@@ -4,7 +4,7 @@ use Rattle.std.specs.Prelude.{Option, Some, None, option_map}
 use Rattle.jop_base.specs.Decimals.{decimal_in}
 use Rattle.item_text.specs.Lines.{has, trimmed}
 use Rattle.local_commands.specs.declared.command.LocalCommand.{LocalCommand}
-use Rattle.local_commands.specs.declared.command.LocalCommand.TheVariants.{Add, Attach, Cat, Clear, Conflicts, Edit, Ls, Mkbook, Rm, Tag}
+use Rattle.local_commands.specs.declared.command.LocalCommand.TheVariants.{Add, Attach, Cat, Clear, Conflicts, Edit, Find, Ls, Mkbook, Move, Rename, Resources, Rm, Show, Tag, Tagged, Tags, Trash, Untag}
 use Rattle.jop_words.specs.Words.{word_id}
 
 -- ---- single words
@@ -32,6 +32,11 @@ both make (Some first) (Some second) = Some (make first second)
 
 -- ---- the words of each command
 
+-- no words: the first one is all
+abbrev pub local_alone : LocalCommand → List (List ℕ) → Option LocalCommand
+local_alone command [] = Some command
+local_alone command words = None
+
 -- a notebook and a title
 abbrev pub add_words : List (List ℕ) → Option LocalCommand
 add_words (book ∷ title ∷ []) = both Add (word_id book) (line_in title)
@@ -47,11 +52,12 @@ abbrev pub cat_words : List (List ℕ) → Option LocalCommand
 cat_words (id ∷ []) = option_map Cat (word_id id)
 cat_words words = None
 
--- nothing, or the number of a conflict note to clear
+-- nothing, or the number of a conflict note to clear, or to show
 abbrev pub conflicts_words : List (List ℕ) → Option LocalCommand
 conflicts_words [] = Some Conflicts
 conflicts_words (option ∷ number ∷ []) =
-    if bytes_eq option (codes "--clear") then option_map Clear (count_in number) else None
+    if bytes_eq option (codes "--clear") then option_map Clear (count_in number)
+    else if bytes_eq option (codes "--show") then option_map Show (count_in number) else None
 conflicts_words words = None
 
 abbrev pub keeps_title : List ℕ → LocalCommand
@@ -67,13 +73,20 @@ edit_words (id ∷ option ∷ title ∷ []) =
     if bytes_eq option (codes "--title") then both edit_to (word_id id) (line_in title) else None
 edit_words words = None
 
+-- any text
+abbrev pub find_words : List (List ℕ) → Option LocalCommand
+find_words (part ∷ []) = Some (Find part)
+find_words words = None
+
 abbrev pub ls_in : List ℕ → LocalCommand
 ls_in book = Ls (Some book)
 
--- nothing, or a notebook
+-- nothing, or a notebook, or a tag
 abbrev pub ls_words : List (List ℕ) → Option LocalCommand
 ls_words [] = Some (Ls None)
 ls_words (book ∷ []) = option_map ls_in (word_id book)
+ls_words (option ∷ tag ∷ []) =
+    if bytes_eq option (codes "--tag") then option_map Tagged (word_id tag) else None
 ls_words words = None
 
 abbrev pub at_top : List ℕ → LocalCommand
@@ -89,6 +102,16 @@ mkbook_words (title ∷ option ∷ parent ∷ []) =
     if bytes_eq option (codes "--in") then both in_parent (line_in title) (word_id parent) else None
 mkbook_words words = None
 
+-- an id and a notebook
+abbrev pub move_words : List (List ℕ) → Option LocalCommand
+move_words (id ∷ book ∷ []) = both Move (word_id id) (word_id book)
+move_words words = None
+
+-- an id and a title
+abbrev pub rename_words : List (List ℕ) → Option LocalCommand
+rename_words (id ∷ title ∷ []) = both Rename (word_id id) (line_in title)
+rename_words words = None
+
 -- an id
 abbrev pub rm_words : List (List ℕ) → Option LocalCommand
 rm_words (id ∷ []) = option_map Rm (word_id id)
@@ -99,6 +122,11 @@ abbrev pub tag_words : List (List ℕ) → Option LocalCommand
 tag_words (note ∷ title ∷ []) = both Tag (word_id note) (line_in title)
 tag_words words = None
 
+-- a note and a tag
+abbrev pub untag_words : List (List ℕ) → Option LocalCommand
+untag_words (note ∷ tag ∷ []) = both Untag (word_id note) (word_id tag)
+untag_words words = None
+
 -- a row for each: its first word, and what the others are
 abbrev pub local_words : List ℕ → List (List ℕ) → Option LocalCommand
 local_words word words =
@@ -107,8 +135,15 @@ local_words word words =
     else if bytes_eq word (codes "cat") then cat_words words
     else if bytes_eq word (codes "conflicts") then conflicts_words words
     else if bytes_eq word (codes "edit") then edit_words words
+    else if bytes_eq word (codes "find") then find_words words
     else if bytes_eq word (codes "ls") then ls_words words
     else if bytes_eq word (codes "mkbook") then mkbook_words words
+    else if bytes_eq word (codes "move") then move_words words
+    else if bytes_eq word (codes "rename") then rename_words words
+    else if bytes_eq word (codes "resources") then local_alone Resources words
     else if bytes_eq word (codes "rm") then rm_words words
     else if bytes_eq word (codes "tag") then tag_words words
+    else if bytes_eq word (codes "tags") then local_alone Tags words
+    else if bytes_eq word (codes "trash") then local_alone Trash words
+    else if bytes_eq word (codes "untag") then untag_words words
     else None

@@ -53,6 +53,7 @@ verb_of (word ∷ words) =
     else if bytes_eq word (codes "sync") then sync_words words
     else if bytes_eq word (codes "tidy") then verb_alone verbs.Tidy words
     else if bytes_eq word (codes "upgrade") then upgrade_words words
+    else if bytes_eq word (codes "version") then verb_alone verbs.Version words
     else option_map verbs.Local (local_words word words)
 
 -- ---- what a command tells of itself

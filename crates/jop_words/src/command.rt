@@ -35,15 +35,16 @@ impl From<AllocError> for WordsErr {
 
 /// What the words mean. `Usage` exactly when they mean nothing. Accepted are, each word at its place:
 ///
-/// - `help`; `tidy`; `check TARGET CLIENT`; `sync TARGET`; `upgrade TARGET`;
-/// - `add BOOK TITLE`; `attach NAME MIME`; `cat ID`; `conflicts`; `conflicts --clear N`; `edit ID`;
-///   `edit ID --title TITLE`; `ls`; `ls BOOK`; `mkbook TITLE`; `mkbook TITLE --in BOOK`; `rm ID`;
-///   `tag ID TITLE`.
+/// - `help`; `version`; `tidy`; `check TARGET CLIENT`; `sync TARGET`; `upgrade TARGET`;
+/// - `add BOOK TITLE`; `attach NAME MIME`; `cat ID`; `conflicts`; `conflicts --clear N`;
+///   `conflicts --show N`; `edit ID`; `edit ID --title TITLE`; `find TEXT`; `ls`; `ls BOOK`;
+///   `ls --tag ID`; `mkbook TITLE`; `mkbook TITLE --in BOOK`; `move ID BOOK`; `rename ID TITLE`;
+///   `resources`; `rm ID`; `tag ID TITLE`; `tags`; `trash`; `untag ID TAG`.
 ///
 /// TARGET is `mem:`, `dir:PATH` with a path that isn't empty, or `dav:URL` with a URL that names a
-/// server. BOOK, CLIENT and ID are ids. TITLE, NAME and MIME have no line feed or carriage return, and
-/// MIME has no blanks at its ends. N is 1 to 20 decimal digits, below 2^64. `--profile PATH` may stand
-/// before each.
+/// server. BOOK, CLIENT, ID and TAG are ids. TITLE, NAME and MIME have no line feed or carriage return,
+/// MIME has no blanks at its ends, and TEXT is any. N is 1 to 20 decimal digits, below 2^64.
+/// `--profile PATH` may stand before each.
 pub fn read_words(alloc: Global, words: &Words) -> Result<Command, WordsErr>
     ensures ok { IfOk result (λ command. command_of words.now.list ≡ Some command) }
     ensures fit { IfOk result (λ command. IsFit command.verb) }

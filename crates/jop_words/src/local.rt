@@ -3,15 +3,16 @@ ghost use Rattle.item_kinds.specs.Made.{IsLine};
 ghost use Rattle.item_text.specs.Lines.{has, trimmed};
 ghost use Rattle.jop_words.specs.Local.{add_words, attach_words, both, cat_words};
 ghost use Rattle.jop_words.specs.Local.{conflicts_words, count_in, edit_to, edit_words};
-ghost use Rattle.jop_words.specs.Local.{in_parent, is_line, line_in, local_words, ls_words};
-ghost use Rattle.jop_words.specs.Local.{mime_in, mkbook_words, rm_words, tag_words};
+ghost use Rattle.jop_words.specs.Local.{find_words, in_parent, is_line, line_in, local_alone};
+ghost use Rattle.jop_words.specs.Local.{local_words, ls_words, mime_in, mkbook_words, move_words};
+ghost use Rattle.jop_words.specs.Local.{rename_words, rm_words, tag_words, untag_words};
 ghost use Rattle.jop_words.specs.Words.{word_id};
 ghost use Rattle.local_commands.specs.Commands.{IsWellFormed};
 ghost use Rattle.local_commands.specs.declared.command.LocalCommand.TheVariants as commands;
 
 use crate::words::read_id;
 use item_text::trimmed;
-use jop_base::{Copied, Text, read_decimal};
+use jop_base::{Copied, Text, let_go, read_decimal};
 use local_commands::LocalCommand;
 use std::alloc::{AllocError, Global};
 
@@ -30,10 +31,17 @@ pub(crate) fn read(
         "cat" => Ok(read_cat(words)),
         "conflicts" => Ok(read_conflicts(words)),
         "edit" => read_edit(alloc, words),
+        "find" => read_find(alloc, words),
         "ls" => Ok(read_ls(words)),
         "mkbook" => read_mkbook(alloc, words),
+        "move" => Ok(read_move(words)),
+        "rename" => read_rename(alloc, words),
+        "resources" => Ok(alone(LocalCommand::Resources, words)),
         "rm" => Ok(read_rm(words)),
         "tag" => read_tag(alloc, words),
+        "tags" => Ok(alone(LocalCommand::Tags, words)),
+        "trash" => Ok(alone(LocalCommand::Trash, words)),
+        "untag" => Ok(read_untag(words)),
         _ => Ok(None),
     }
 }
@@ -91,6 +99,18 @@ fn read_count(word: &Text) -> Option<u64>
 }
 
 // ---- the words of each command
+
+/// A command with no words behind its first one.
+fn alone(command: LocalCommand, words: &[Text]) -> Option<LocalCommand>
+    ensures means { result ≡ local_alone command words.now }
+    ensures fit { IsWellFormed command → IfSome result IsWellFormed }
+{
+    if words.is_empty() {
+        return Some(command);
+    }
+    let_go(command);
+    None
+}
 
 fn read_add(alloc: Global, words: &[Text]) -> Result<Option<LocalCommand>, AllocError>
     ensures means { IfOk result (λ command. command ≡ add_words words.now) }
@@ -163,6 +183,9 @@ fn read_conflicts(words: &[Text]) -> Option<LocalCommand>
         [option, number] if option.as_str() == "--clear" => Some(LocalCommand::Clear {
             number: read_count(number)?,
         }),
+        [option, number] if option.as_str() == "--show" => Some(LocalCommand::Show {
+            number: read_count(number)?,
+        }),
         _ => None,
     }
 }
@@ -205,6 +228,19 @@ fn read_edit_to(alloc: Global, id: &Text, title: &Text) -> Result<Option<LocalCo
     }))
 }
 
+/// Any text.
+fn read_find(alloc: Global, words: &[Text]) -> Result<Option<LocalCommand>, AllocError>
+    ensures means { IfOk result (λ command. command ≡ find_words words.now) }
+    ensures fit { IfOk result (λ command. IfSome command IsWellFormed) }
+{
+    match words {
+        [part] => Ok(Some(LocalCommand::Find {
+            part: part.copy(alloc)?,
+        })),
+        _ => Ok(None),
+    }
+}
+
 fn read_ls(words: &[Text]) -> Option<LocalCommand>
     ensures means { result ≡ ls_words words.now }
     ensures fit { IfSome result IsWellFormed }
@@ -213,6 +249,9 @@ fn read_ls(words: &[Text]) -> Option<LocalCommand>
         [] => Some(LocalCommand::Ls { book: None }),
         [book] => Some(LocalCommand::Ls {
             book: Some(read_id(book)?),
+        }),
+        [option, tag] if option.as_str() == "--tag" => Some(LocalCommand::Tagged {
+            tag: read_id(tag)?,
         }),
         _ => None,
     }
@@ -265,6 +304,47 @@ fn read_mkbook_in(
     }))
 }
 
+fn read_move(words: &[Text]) -> Option<LocalCommand>
+    ensures means { result ≡ move_words words.now }
+    ensures fit { IfSome result IsWellFormed }
+{
+    match words {
+        [id, book] => Some(LocalCommand::Move {
+            id: read_id(id)?,
+            book: read_id(book)?,
+        }),
+        _ => None,
+    }
+}
+
+fn read_rename(alloc: Global, words: &[Text]) -> Result<Option<LocalCommand>, AllocError>
+    ensures means { IfOk result (λ command. command ≡ rename_words words.now) }
+    ensures fit { IfOk result (λ command. IfSome command IsWellFormed) }
+{
+    match words {
+        [id, title] => read_rename_to(alloc, id, title),
+        _ => Ok(None),
+    }
+}
+
+fn read_rename_to(
+    alloc: Global,
+    id: &Text,
+    title: &Text,
+) -> Result<Option<LocalCommand>, AllocError>
+    ensures means { IfOk result
+        (λ command. command ≡ both commands.Rename (word_id id.now) (line_in title.now)) }
+    ensures fit { IfOk result (λ command. IfSome command IsWellFormed) }
+{
+    let Some(id) = read_id(id) else {
+        return Ok(None);
+    };
+    let Some(title) = read_line(alloc, title)? else {
+        return Ok(None);
+    };
+    Ok(Some(LocalCommand::Rename { id, title }))
+}
+
 fn read_rm(words: &[Text]) -> Option<LocalCommand>
     ensures means { result ≡ rm_words words.now }
     ensures fit { IfSome result IsWellFormed }
@@ -301,4 +381,17 @@ fn read_tag_with(
         return Ok(None);
     };
     Ok(Some(LocalCommand::Tag { note, title }))
+}
+
+fn read_untag(words: &[Text]) -> Option<LocalCommand>
+    ensures means { result ≡ untag_words words.now }
+    ensures fit { IfSome result IsWellFormed }
+{
+    match words {
+        [note, tag] => Some(LocalCommand::Untag {
+            note: read_id(note)?,
+            tag: read_id(tag)?,
+        }),
+        _ => None,
+    }
 }

@@ -35,6 +35,8 @@ pub enum Verb {
     Upgrade {
         target: TargetName,
     },
+    /// Prints the name of the program and its version.
+    Version,
 }
 
 impl Verb {
@@ -75,6 +77,7 @@ pub(crate) fn read_verb(alloc: Global, words: &[Text]) -> Result<Option<Verb>, A
         "sync" => read_sync(alloc, words),
         "tidy" => Ok(alone(Verb::Tidy, words)),
         "upgrade" => read_upgrade(alloc, words),
+        "version" => Ok(alone(Verb::Version, words)),
         _ => read_local(alloc, word, words),
     }
 }

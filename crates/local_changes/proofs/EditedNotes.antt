@@ -58,7 +58,7 @@ user_prop time fits =
     record { key = user_field; no_colon = refl; value = text_of_time time fits }
 
 -- texts that the test tells apart
-apart : (a b : List ℕ) → bytes_eq a b ≡ false → a ≡ b → ⊥
+pub apart : (a b : List ℕ) → bytes_eq a b ≡ false → a ≡ b → ⊥
 apart a b other same = let is = (bytes_eq-Decides a b).1 same in cc
 
 stamped_valid : (item : Item) (time : ℕ) → time ≤ last_time → IsItem item
@@ -80,6 +80,15 @@ stamped_keeps key item time own user =
     (λ same. apart (codes "user_updated_time") key user same)
     ∙ with_keeps key (time_prop (codes "updated_time") time) item.props
     (λ same. apart (codes "updated_time") key own same)
+
+pub stamped_content : (id : List ℕ) (item : Item) (time : ℕ) → IsContentOf id (Plain item)
+    → time ≤ last_time → IsContentOf id (Plain (stamped time item))
+stamped_content id item time of fits =
+    let has_id : GivesId (codes "id") (stamped time item).props (Some id) =
+    (stamped_keeps (codes "id") item time refl refl ∙ of.0.has_id.0, of.0.has_id.1) in (
+      record { valid = stamped_valid item time fits of.0.valid; has_id = has_id },
+      (λ says. of.1 (sym (stamped_keeps (codes "encryption_applied") item time refl refl) ∙ says)),
+    )
 
 -- ---- the whole
 
@@ -104,15 +113,11 @@ edited_allowed id item title body time of line fits =
       props = of.0.valid.props;
       typed = of.0.valid.typed;
     } in
-    let has_id : GivesId (codes "id") (stamped time base).props (Some id) =
-    (stamped_keeps (codes "id") base time refl refl ∙ of.0.has_id.0, of.0.has_id.1) in (
-      record { valid = stamped_valid base time fits valid; has_id = has_id },
-      (λ says. of.1 (sym (stamped_keeps (codes "encryption_applied") base time refl refl) ∙ says)),
-    )
+    stamped_content id base time (record { valid = valid; has_id = of.0.has_id }, of.1) fits
 
 -- ---- the note
 
-plain_content : (id : List ℕ) (kind : Bool) (content : Content) (item : Item)
+pub plain_content : (id : List ℕ) (kind : Bool) (content : Content) (item : Item)
     → (if kind then plain_item id content else Err (NotFound id)) ≡ Ok item → content ≡ Plain item
 plain_content id true (Plain own) item is = cc
 plain_content id true (SealedContent own) item is = cc

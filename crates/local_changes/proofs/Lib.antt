@@ -1,3 +1,4 @@
+pub mod AmendedItems
 pub mod EditedNotes
 pub mod Links
 pub mod Steps

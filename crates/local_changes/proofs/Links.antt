@@ -1,15 +1,15 @@
 -- The changes that tag a note.
-use Rattle.std.specs.Prelude.{ℕ, ◌≡◌, List, [], ◌∷◌, ◌++◌, Bool, false, if◌then◌else◌, All, Option, Some, None, option_map, refl}
+use Rattle.std.specs.Prelude.{ℕ, ◌≡◌, List, [], ◌∷◌, ◌++◌, Bool, true, false, if◌then◌else◌, All, Option, Some, None, option_map, refl}
 use Rattle.std.specs.List.{list_any}
 use Rattle.std.proofs.Common.{sym, ◌∙◌, ap, subst, append-nil}
 use Rattle.std.proofs.lemmas.List.Elements.{All-append, All-cons, All-nil}
 use Rattle.item_kinds.specs.Made.{tag, note_tag}
 use Rattle.item_text.specs.declared.item.Item.{Item}
 use Rattle.local_store.specs.declared.change.Change.{Change}
-use Rattle.local_store.specs.declared.change.Change.TheVariants.{Saved}
+use Rattle.local_store.specs.declared.change.Change.TheVariants.{Saved, Removed}
 use Rattle.local_store.specs.declared.row.Row.{Row}
 use Rattle.local_store.specs.Sound.{IsAllowed}
-use Rattle.local_changes.specs.Tagging.{is_link, link_changes, tag_id, tag_changes}
+use Rattle.local_changes.specs.Tagging.{is_link, link_changes, tag_id, tag_changes, unlinking, unlinking_one}
 
 pub link_added : (old new : List Change) (rows : List Row) (id of_note of_tag : List ℕ) (now : ℕ)
     (item : Item) → list_any (is_link of_note of_tag) rows ≡ false
@@ -52,3 +52,15 @@ pub tag_added : (found : Option Row) (id title : List ℕ) (now : ℕ) (old new 
 tag_added None id title now old new item is made pushed =
     pushed ∙ ap (λ (i : Item). old ++ Saved id i ∷ []) made
 tag_added (Some r) id title now old new item is made pushed = cc
+
+-- ---- what is removed
+
+pub unlinking_allowed : (note tag : List ℕ) (rows : List Row)
+    → All IsAllowed (unlinking note tag rows)
+unlinking_allowed note tag [] = All-nil IsAllowed
+unlinking_allowed note tag (r ∷ rows) =
+    All-append IsAllowed (unlinking_one note tag r) (unlinking note tag rows) (by (is_link note tag r))
+    (unlinking_allowed note tag rows) where
+      by : (b : Bool) → All IsAllowed (if b then Removed r.id ∷ [] else [])
+      by true = All-cons IsAllowed (Removed r.id) [] tt (All-nil IsAllowed)
+      by false = All-nil IsAllowed

@@ -3,5 +3,6 @@ pub mod Lookup
 pub mod Saving
 pub mod Makers
 pub mod Editing
+pub mod Amending
 pub mod Tagging
 pub mod Free

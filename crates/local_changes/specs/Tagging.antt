@@ -1,11 +1,11 @@
 -- The changes that tag a note.
 use Rattle.std.specs.Prelude.{ℕ, List, [], ◌∷◌, ◌++◌, Bool, false, ◌&&◌, bytes_eq, codes, unwrap_or, if◌then◌else◌, Option, Some, None, Result, Ok, Err}
-use Rattle.std.specs.List.{list_any, find}
+use Rattle.std.specs.List.{flat_map, list_any, find}
 use Rattle.item_kinds.specs.Made.{tag, note_tag}
 use Rattle.item_text.specs.Props.{has_value}
 use Rattle.item_text.specs.declared.item.Item.{Item}
 use Rattle.local_store.specs.declared.change.Change.{Change}
-use Rattle.local_store.specs.declared.change.Change.TheVariants.{Saved}
+use Rattle.local_store.specs.declared.change.Change.TheVariants.{Saved, Removed}
 use Rattle.local_store.specs.declared.content.Content.{Content}
 use Rattle.local_store.specs.declared.content.Content.TheVariants.{Plain, Sealed}
 use Rattle.local_store.specs.declared.row.Row.{Row}
@@ -64,3 +64,13 @@ tagged t id link note title now =
     if is_row_of note_kind (row_at t note)
     then Ok (all_changes t.rows id link note title now (find (is_tag_of title) t.rows))
     else Err (NotFound note)
+
+-- ---- what is removed
+
+-- the row goes, if it says that the note bears the tag
+abbrev pub unlinking_one : List ℕ → List ℕ → Row → List Change
+unlinking_one note tag r = if is_link note tag r then Removed r.id ∷ [] else []
+
+-- each row goes that says so
+abbrev pub unlinking : List ℕ → List ℕ → List Row → List Change
+unlinking note tag rows = flat_map (unlinking_one note tag) rows

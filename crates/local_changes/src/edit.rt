@@ -42,7 +42,7 @@ fn set_time(alloc: Global, item: &mut Item, key: &str, time: u64) -> Result<(), 
 
 /// Sets the time at which an item was changed, for the program and for the user.
 #[tactic(auto, using(crate::proofs::EditedNotes::own_field, crate::proofs::EditedNotes::user_field))]
-fn set_times(alloc: Global, item: &mut Item, time: u64) -> Result<(), AllocError>
+pub(crate) fn set_times(alloc: Global, item: &mut Item, time: u64) -> Result<(), AllocError>
     requires { time ≤ last_time }
     ensures { OnOk result (item.new ≡ stamped time item.old) }
 {

@@ -1,9 +1,10 @@
-//! The changes that a user makes: a new note, notebook, tag or resource, an edit, a removal. Each is
-//! made for tables, and is refused exactly as its definition says.
+//! The changes that a user makes: a new note, notebook, tag or resource, an edit, another title or place, a
+//! removal. Each is made for tables, and is refused exactly as its definition says.
 //!
 //! Begin with [`new_note`] and [`edited`]. It stands on the tables and changes of `local_store`.
 #![tactic(auto)]
 
+mod amend;
 mod book;
 mod edit;
 mod free;
@@ -15,6 +16,7 @@ mod saving;
 mod store_err;
 mod tag;
 
+pub use amend::{Amendment, amended, plain_entry};
 pub use book::new_book;
 pub use edit::{edited, plain_note};
 pub use free::free_id;
@@ -24,4 +26,4 @@ pub use removal::removed;
 pub use resource::new_resource;
 pub use saving::ITEM_LIMIT;
 pub use store_err::StoreErr;
-pub use tag::tagged;
+pub use tag::{has_link, tagged, unlinked};

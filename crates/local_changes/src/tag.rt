@@ -3,7 +3,7 @@ ghost use Rattle.std.specs.List.{list_any, find};
 ghost use Rattle.jop_base.specs.Times.{last_time};
 ghost use Rattle.item_kinds.specs.Made.{IsLine};
 ghost use Rattle.local_changes.specs.Answers.{IsDueOrMemory};
-ghost use Rattle.local_changes.specs.Tagging.{has_title, is_tag_of, is_link, tagged, tag_id, all_changes, tag_changes, link_changes};
+ghost use Rattle.local_changes.specs.Tagging.{has_title, is_tag_of, is_link, tagged, tag_id, all_changes, tag_changes, link_changes, unlinking, unlinking_one};
 ghost use Rattle.local_store.specs.Sound.{IsAllowed};
 
 use crate::lookup::{has_row, has_value};
@@ -56,7 +56,8 @@ fn tag_of_title(rows: &[Row], title: &str) -> Option<Id>
     None
 }
 
-fn has_link(rows: &[Row], note: &Id, tag: &Id) -> bool
+/// Whether a row says that a note bears a tag.
+pub fn has_link(rows: &[Row], note: &Id, tag: &Id) -> bool
     ensures { result ≡ list_any (is_link note.now tag.now) rows.now }
 {
     for row in rows {
@@ -139,4 +140,27 @@ pub fn tagged(
     let tag = tag_or_new(alloc, &mut changes, rows, tag, title, now)?;
     add_link(alloc, &mut changes, rows, link, &note, &tag, now)?;
     Ok(changes)
+}
+
+/// The changes that remove each row that says that a note bears a tag.
+#[tactic(auto, using(crate::proofs::Links::unlinking_allowed))]
+pub fn unlinked(alloc: Global, rows: &[Row], note: &Id, tag: &Id) -> Result<Seq<Change>, AllocError>
+    ensures changes { IfOk result (λ changes. changes ≡ unlinking note.now tag.now rows.now) }
+    ensures allowed { IfOk result (λ changes. All IsAllowed changes) }
+{
+    let mut changes = Seq::new(alloc);
+    for row in rows {
+        unlink_one(&mut changes, row, note, tag)?;
+    }
+    Ok(changes)
+}
+
+/// Adds the change that removes the row, if it says that the note bears the tag.
+fn unlink_one(changes: &mut Seq<Change>, row: &Row, note: &Id, tag: &Id) -> Result<(), AllocError>
+    ensures { OnOk result (changes.new ≡ changes.old ++ unlinking_one note.now tag.now row.now) }
+{
+    if is_link(row, note, tag) {
+        changes.push(Change::Removed(row.id))?;
+    }
+    Ok(())
 }

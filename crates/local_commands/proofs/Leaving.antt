@@ -9,7 +9,7 @@ use Rattle.keeper.specs.Keepers.{Kept, KeeperNow}
 use Rattle.jop_target.specs.Trail.{LineNow}
 use Rattle.local_store.specs.Changing.{after_all}
 use Rattle.local_commands.specs.Drawing.{FailsToDraw}
-use Rattle.local_commands.specs.Following.{Follows, HasNoCause, IsRefusedEarly, IsWellOrMemory, MayBeLate}
+use Rattle.local_commands.specs.Following.{Follows, IsRefusedEarly, MayBeLate}
 use Rattle.local_commands.specs.Keeping.{AreDone, DoesSome, changes_among, kept_after, kept_after_all}
 use Rattle.local_commands.specs.declared.act.Act.{Act}
 use Rattle.local_commands.specs.declared.act.Act.TheVariants.{SaveBlob, MakeChange}
@@ -104,14 +104,6 @@ tables_after [] kept = refl
 tables_after (SaveBlob blob ∷ acts) kept = tables_after acts (kept_after (SaveBlob blob) kept)
 tables_after (MakeChange change ∷ acts) kept =
     tables_after acts (kept_after (MakeChange change) kept)
-
--- ---- completeness
-
-pub complete : (p : Plan) (old new : OutsideNow) (answer : Result (List ℕ) LocalErr)
-    → Runs p old answer new → HasNoCause p old new → IsWellOrMemory answer
-complete p old new (Ok text) is none = inl refl
-complete p old new (Err NoMemory) is none = inr refl
-complete p old new (Err refusal) is none = absurd (none refusal (λ same. cc) is)
 
 -- ---- faults
 

@@ -1,8 +1,12 @@
+pub mod Amended
 pub mod CutShort
 pub mod Edits
 pub mod InARow
 pub mod Leaving
+pub mod Places
 pub mod Plain
+pub mod Shown
 pub mod Sparing
 pub mod Tags
+pub mod Unhindered
 pub mod UserActs

@@ -4,12 +4,12 @@ use Rattle.std.specs.List.{find, list_any}
 use Rattle.std.proofs.Common.{subst}
 use Rattle.item_kinds.specs.Made.{note_tag}
 use Rattle.local_changes.specs.Lookup.{is_row_of, note_kind}
-use Rattle.local_changes.specs.Tagging.{all_changes, is_link, is_tag_of, link_changes, tag_changes, tag_id, tagged}
+use Rattle.local_changes.specs.Tagging.{all_changes, is_link, is_tag_of, link_changes, tag_changes, tag_id, tagged, unlinking, unlinking_one}
 use Rattle.local_changes.specs.declared.store_err.StoreErr.{StoreErr}
 use Rattle.local_changes.specs.declared.store_err.StoreErr.TheVariants.{NotFound}
 use Rattle.local_store.specs.Tables.{row_at}
 use Rattle.local_store.specs.declared.change.Change.{Change}
-use Rattle.local_store.specs.declared.change.Change.TheVariants.{Saved}
+use Rattle.local_store.specs.declared.change.Change.TheVariants.{Saved, Removed}
 use Rattle.local_store.specs.declared.row.Row.{Row}
 use Rattle.local_store.specs.declared.tables.Tables.{Tables}
 use Rattle.local_commands.specs.Keeping.{AreLocal}
@@ -53,3 +53,18 @@ tagged_local t tag link note title now changes is =
     let found = find (is_tag_of title) t.rows in
     chosen (is_row_of note_kind (row_at t note)) (all_changes t.rows tag link note title now found)
     changes (NotFound note) (all_local t.rows tag link note title now found) is
+
+-- ---- taking a tag off
+
+one_local : (note tag : List ℕ) (r : Row) → OfUser (unlinking_one note tag r)
+one_local note tag r = by (is_link note tag r) where
+  by : (b : Bool) → OfUser (if b then Removed r.id ∷ [] else [])
+  by true = (tt, tt)
+  by false = tt
+
+pub unlinking_local : (note tag : List ℕ) (rows : List Row)
+    → AreLocal false (map MakeChange (unlinking note tag rows))
+unlinking_local note tag [] = tt
+unlinking_local note tag (r ∷ rows) =
+    both_local (unlinking_one note tag r) (unlinking note tag rows) (one_local note tag r)
+    (unlinking_local note tag rows)

@@ -8,6 +8,7 @@ pub mod Stages
 pub mod Following
 pub mod Bodies
 pub mod Books
+pub mod Finding
 pub mod Lines
 pub mod Saving
 pub mod Commands

@@ -11,7 +11,7 @@ use Rattle.local_commands.specs.declared.drawing.Drawing.TheVariants.{NoId}
 use Rattle.local_commands.specs.declared.drawing.Ids.{Ids}
 use Rattle.local_commands.specs.declared.intake.Intake.{Intake}
 use Rattle.local_commands.specs.declared.local_err.LocalErr.{LocalErr}
-use Rattle.local_commands.specs.declared.local_err.LocalErr.TheVariants.{KeeperFault, SourceFault, ClockFault, EntropyFault, NotFound, Sealed, TimeEnd, NotEmpty, NoConflict, TooLarge, NotText, NoMemory}
+use Rattle.local_commands.specs.declared.local_err.LocalErr.TheVariants.{KeeperFault, SourceFault, ClockFault, EntropyFault, NotFound, Sealed, TimeEnd, NotEmpty, BelowItself, NoConflict, TooLarge, NotText, NoMemory}
 use Rattle.local_commands.specs.declared.work.Work.{Work}
 use Rattle.local_commands.specs.Drawing.{DrawsIds, FailsToDraw}
 use Rattle.local_commands.specs.Keeping.{AreDone, AreLocal, DoesSome}
@@ -172,6 +172,7 @@ Runs p old (Err (NotFound id)) new = IsRefusedByTables p old new (NotFound id)
 Runs p old (Err (Sealed id)) new = IsRefusedByTables p old new (Sealed id)
 Runs p old (Err (TimeEnd id)) new = IsRefusedByTables p old new (TimeEnd id)
 Runs p old (Err (NotEmpty id)) new = IsRefusedByTables p old new (NotEmpty id)
+Runs p old (Err (BelowItself id)) new = IsRefusedByTables p old new (BelowItself id)
 Runs p old (Err (NoConflict number)) new = IsRefusedByTables p old new (NoConflict number)
 Runs p old (Err SourceFault) new = IsEndedByInput p old new FailsToGive
 Runs p old (Err (TooLarge len)) new =

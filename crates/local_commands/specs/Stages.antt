@@ -12,7 +12,7 @@ use Rattle.local_commands.specs.declared.drawing.Drawing.{Drawing}
 use Rattle.local_commands.specs.declared.drawing.Ids.{Ids}
 use Rattle.local_commands.specs.declared.intake.Intake.{Intake}
 use Rattle.local_commands.specs.declared.local_err.LocalErr.{LocalErr}
-use Rattle.local_commands.specs.declared.local_err.LocalErr.TheVariants.{SourceFault, NotFound, Sealed, TimeEnd, NotEmpty, NoConflict, TooLarge, NotText, NoMemory}
+use Rattle.local_commands.specs.declared.local_err.LocalErr.TheVariants.{SourceFault, NotFound, Sealed, TimeEnd, NotEmpty, BelowItself, NoConflict, TooLarge, NotText, NoMemory}
 use Rattle.local_commands.specs.declared.needs.Needs.{Needs}
 use Rattle.local_commands.specs.declared.supply.Supply.{Supply}
 use Rattle.local_commands.specs.declared.work.Work.{Work}
@@ -30,6 +30,7 @@ IsOfTables (NotFound id) = Unit {0}
 IsOfTables (Sealed id) = Unit {0}
 IsOfTables (TimeEnd id) = Unit {0}
 IsOfTables (NotEmpty id) = Unit {0}
+IsOfTables (BelowItself id) = Unit {0}
 IsOfTables (NoConflict number) = Unit {0}
 IsOfTables refusal = ⊥
 

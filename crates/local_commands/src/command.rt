@@ -1,26 +1,31 @@
 //! The commands: a variant for each, its room, and what it needs, asks of the tables and makes.
 
 pub(crate) mod add;
+pub(crate) mod amend;
 pub(crate) mod attach;
 pub(crate) mod cat;
 pub(crate) mod clear;
 pub(crate) mod conflicts;
 pub(crate) mod edit;
-pub(crate) mod ls;
+pub(crate) mod listing;
 pub(crate) mod mkbook;
 pub(crate) mod rm;
+pub(crate) mod show;
 pub(crate) mod tag;
+pub(crate) mod untag;
 
 ghost use Rattle.std.specs.Prelude.{◌≡◌};
 ghost use Rattle.local_commands.specs.Commands.{IsWellFormed, plan_of};
 ghost use Rattle.local_commands.specs.Stages.{ChecksOr, IsReadyFor, MakesWork, needs_of};
 
 use crate::books::check_book;
+use crate::command::listing::Listing;
 use crate::local_err::LocalErr;
 use crate::needs::{NOTHING, Needs};
 use crate::supply::Supply;
 use crate::work::Work;
 use jop_base::{Id, Text};
+use local_changes::Amendment;
 use local_store::Tables;
 use std::alloc::Global;
 
@@ -39,14 +44,32 @@ pub enum LocalCommand {
     Conflicts,
     /// Gives a note another title, if one is given, and the input as its body.
     Edit { id: Id, title: Option<Text> },
+    /// Lists the notes whose title or text has this.
+    Find { part: Text },
     /// Lists the notebooks, or the notes of one.
     Ls { book: Option<Id> },
     /// Makes a notebook, at the top or in a parent.
     Mkbook { title: Text, parent: Option<Id> },
+    /// Puts a note or a notebook into a notebook.
+    Move { id: Id, book: Id },
+    /// Gives a note or a notebook another title.
+    Rename { id: Id, title: Text },
+    /// Lists the resources.
+    Resources,
     /// Removes an item.
     Rm { id: Id },
+    /// Prints the text of the conflict note of this number.
+    Show { number: u64 },
     /// Gives a note the tag of a title.
     Tag { note: Id, title: Text },
+    /// Lists the notes that bear a tag.
+    Tagged { tag: Id },
+    /// Lists the tags.
+    Tags,
+    /// Lists the notes and notebooks in Joplin's wastebasket.
+    Trash,
+    /// Takes a tag off a note.
+    Untag { note: Id, tag: Id },
 }
 
 impl LocalCommand {
@@ -61,10 +84,19 @@ impl LocalCommand {
             LocalCommand::Clear { .. } => NOTHING,
             LocalCommand::Conflicts => NOTHING,
             LocalCommand::Edit { .. } => edit::NEEDS,
+            LocalCommand::Find { .. } => NOTHING,
             LocalCommand::Ls { .. } => NOTHING,
             LocalCommand::Mkbook { .. } => mkbook::NEEDS,
+            LocalCommand::Move { .. } => amend::NEEDS,
+            LocalCommand::Rename { .. } => amend::NEEDS,
+            LocalCommand::Resources => NOTHING,
             LocalCommand::Rm { .. } => NOTHING,
+            LocalCommand::Show { .. } => NOTHING,
             LocalCommand::Tag { .. } => tag::NEEDS,
+            LocalCommand::Tagged { .. } => NOTHING,
+            LocalCommand::Tags => NOTHING,
+            LocalCommand::Trash => NOTHING,
+            LocalCommand::Untag { .. } => NOTHING,
         }
     }
 
@@ -79,10 +111,20 @@ impl LocalCommand {
             LocalCommand::Clear { number } => clear::check_number(tables, *number),
             LocalCommand::Conflicts => Ok(()),
             LocalCommand::Edit { id, .. } => edit::check_note(tables, id),
-            LocalCommand::Ls { book } => check_book(tables, book),
+            LocalCommand::Find { .. } => Ok(()),
+            LocalCommand::Ls { book: None } => Ok(()),
+            LocalCommand::Ls { book: Some(book) } => check_book(tables, &Some(*book)),
             LocalCommand::Mkbook { parent, .. } => check_book(tables, parent),
+            LocalCommand::Move { id, book } => amend::check_move(tables, id, book),
+            LocalCommand::Rename { id, .. } => amend::check_entry(tables, id),
+            LocalCommand::Resources => Ok(()),
             LocalCommand::Rm { id } => rm::check_removal(tables, id),
+            LocalCommand::Show { number } => clear::check_number(tables, *number),
             LocalCommand::Tag { note, .. } => tag::check_note(tables, note),
+            LocalCommand::Tagged { tag } => listing::check_tag(tables, tag),
+            LocalCommand::Tags => Ok(()),
+            LocalCommand::Trash => Ok(()),
+            LocalCommand::Untag { note, tag } => untag::check_untag(tables, note, tag),
         }
     }
 
@@ -109,12 +151,31 @@ impl LocalCommand {
             LocalCommand::Clear { number } => clear::make_clear(alloc, number),
             LocalCommand::Conflicts => conflicts::make_list(alloc, tables),
             LocalCommand::Edit { id, title } => edit::make_edit(alloc, tables, id, title, supply),
-            LocalCommand::Ls { book } => ls::make_list(alloc, tables, &book),
+            LocalCommand::Find { part } => {
+                listing::make_list(alloc, tables, Listing::Found(part))
+            }
+            LocalCommand::Ls { book } => {
+                listing::make_list(alloc, tables, listing::listed_by(book))
+            }
             LocalCommand::Mkbook { title, parent } => {
                 mkbook::make_book(alloc, tables, title, parent, supply)
             }
+            LocalCommand::Move { id, book } => {
+                amend::make_amend(alloc, tables, id, Amendment::Book(book), supply.now)
+            }
+            LocalCommand::Rename { id, title } => {
+                amend::make_amend(alloc, tables, id, Amendment::Title(title), supply.now)
+            }
+            LocalCommand::Resources => listing::make_list(alloc, tables, Listing::Resources),
             LocalCommand::Rm { id } => rm::make_removal(alloc, tables, id),
+            LocalCommand::Show { number } => show::make_text(alloc, tables, number),
             LocalCommand::Tag { note, title } => tag::make_tag(alloc, tables, note, title, supply),
+            LocalCommand::Tagged { tag } => {
+                listing::make_list(alloc, tables, Listing::NotesWith(tag))
+            }
+            LocalCommand::Tags => listing::make_list(alloc, tables, Listing::Tags),
+            LocalCommand::Trash => listing::make_list(alloc, tables, Listing::Trash),
+            LocalCommand::Untag { note, tag } => untag::make_untag(alloc, tables, note, tag),
         }
     }
 }

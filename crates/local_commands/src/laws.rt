@@ -1,17 +1,20 @@
 //! What every command leaves, by what a run comes to. Each law is a function with nothing to do, whose
 //! contract says it.
 
-ghost use Rattle.std.specs.Prelude.{◌≡◌, List, false};
+ghost use Rattle.std.specs.Prelude.{◌≡◌, List, Option, false};
 ghost use Rattle.client.specs.Outside.{OutsideNow};
 ghost use Rattle.keeper.specs.Keepers.{Kept};
 ghost use Rattle.local_store.specs.Changing.{after_all};
 ghost use Rattle.local_commands.specs.Commands.{plan_of};
-ghost use Rattle.local_commands.specs.Following.{Follows, FollowsChanges, HasNoCause};
-ghost use Rattle.local_commands.specs.Following.{IsRefusedEarly, IsWellOrMemory, OfEachRun};
+ghost use Rattle.local_commands.specs.Following.{Follows, FollowsChanges, IsRefusedEarly};
+ghost use Rattle.local_commands.specs.Following.{IsUnhindered, IsWellOrMemory, OfEachRun};
 ghost use Rattle.local_commands.specs.Keeping.{AreDone, AreNoted, changes_among, kept_after_all};
 ghost use Rattle.local_commands.specs.Licences.{NotesLicensed};
 ghost use Rattle.local_commands.specs.Running.{IsUnsaved};
 ghost use Rattle.local_commands.specs.declared.act.Act.{Act};
+ghost use Rattle.local_commands.specs.declared.command.LocalCommand.{LocalCommand};
+ghost use Rattle.local_commands.specs.declared.local_err.LocalErr.{LocalErr};
+ghost use Rattle.local_store.specs.declared.tables.Tables.{Tables};
 
 /// Whatever a command answers, what is kept is what some acts made of it, and the changes among them are
 /// written down.
@@ -53,9 +56,17 @@ pub fn refusals_leave_all_as_it_was()
     ensures { OfEachRun (λ command old answer new. IsRefusedEarly answer → IsUnsaved old new) }
 {}
 
-/// A command for whose refusal there is no cause goes well, unless memory runs out.
-#[tactic(auto, using(crate::proofs::Leaving::complete))]
-pub fn runs_without_a_cause_go_well()
+/// A command that nothing hinders goes well, unless memory runs out: its keeper tells tables that allow it,
+/// its input tells bytes that fit, what is made of them isn't refused, and no count of faults rises.
+#[tactic(auto, using(crate::proofs::Unhindered::goes_well))]
+pub fn unhindered_runs_go_well()
     ensures { OfEachRun (λ command old answer new.
-        HasNoCause (plan_of command) old new → IsWellOrMemory answer) }
+        IsUnhindered (plan_of command) old new → IsWellOrMemory answer) }
+{}
+
+/// The tables refuse a command or they don't: they don't do both.
+#[tactic(auto, using(crate::proofs::Unhindered::one_answer))]
+pub fn tables_give_one_answer()
+    ensures { (command : LocalCommand) (t : Tables) (one other : Option LocalErr) →
+        (plan_of command).Checks t one → (plan_of command).Checks t other → one ≡ other }
 {}

@@ -13,6 +13,7 @@ mod books;
 mod clock;
 mod command;
 mod drawing;
+mod finding;
 mod intake;
 mod laws;
 mod lines;
@@ -29,7 +30,7 @@ pub use intake::BODY_LIMIT;
 pub use laws::{
     acts_change_tables_by_their_changes, acts_note_their_changes, commands_make_licensed_changes,
     only_plans_with_bytes_save_some, refusals_leave_all_as_it_was, runs_follow_their_acts,
-    runs_without_a_cause_go_well,
+    tables_give_one_answer, unhindered_runs_go_well,
 };
 pub use local_err::LocalErr;
 pub use obeying::obey;

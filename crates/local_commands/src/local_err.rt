@@ -23,6 +23,8 @@ pub enum LocalErr {
     TimeEnd(Id),
     /// Notes or notebooks are in the notebook of this id.
     NotEmpty(Id),
+    /// The notebook of this id would come into itself, or below itself.
+    BelowItself(Id),
     /// There is no conflict note of this number.
     NoConflict(u64),
     /// The input is past its limit, and this is the limit and one; or the item's text has this many

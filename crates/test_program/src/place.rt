@@ -3,6 +3,7 @@ use crate::machine::{entropy_from, source_of};
 use jop_base::{Seq, Text};
 use jop_outside::{MemClock, MemEntropy, MemSink, MemSource};
 use jop_start::{Opener, Streams, SystemOpener, run_named};
+use jop_watch::Nobody;
 use jop_words::Words;
 use std::alloc::{AllocError, Global};
 use std::path::PathBuf;
@@ -91,7 +92,7 @@ impl Place {
     }
 
     fn meets(&self, words: &Words, around: &mut Around, due: &Due) -> bool {
-        let mut opener = SystemOpener::new(self.rt);
+        let mut opener = SystemOpener::new(self.rt, Nobody);
         is_met(self.rt.alloc(), words, &mut opener, around, due)
     }
 
@@ -127,11 +128,7 @@ pub(crate) fn is_met<P: Opener>(
     due: &Due,
 ) -> bool {
     match run_named(alloc, words, opener, around) {
-        Ok(exit) => due.is_met(
-            exit,
-            around.out.written.as_slice(),
-            around.err.written.as_slice(),
-        ),
+        Ok(exit) => due.is_met(exit, around.out.written(), around.err.written()),
         Err(_) => false,
     }
 }

@@ -52,7 +52,7 @@ pub(crate) fn make_tag(
 }
 
 /// These changes are made in their order, and nothing is printed.
-fn all_changes(alloc: Global, changes: Seq<Change>) -> Result<Work, AllocError>
+pub(crate) fn all_changes(alloc: Global, changes: Seq<Change>) -> Result<Work, AllocError>
     ensures { IfOk result (λ work. work ≡ tag_work changes) }
 {
     let mut acts = Seq::new(alloc);

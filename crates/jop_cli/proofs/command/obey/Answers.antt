@@ -1,6 +1,6 @@
 use Rattle.std.proofs.Common.{refl}
 use Rattle.jop_cli.proofs.Runs.{acts_as}
-use Rattle.jop_words.specs.declared.verb.Verb.TheVariants.{Check, Help, Sync, Upgrade}
+use Rattle.jop_words.specs.declared.verb.Verb.TheVariants.{Check, Help, Sync, Upgrade, Version}
 use Rattle.jop_cli.proofs.command.obey.Goals as goal
 
 pub returns-in-Check-clause-acts : goal.returns-in-Check-clause-acts
@@ -18,7 +18,12 @@ returns-in-Sync-clause-acts g c =
     acts_as _ (Sync c.in-Sync.target) _ _ _ c.in-Sync.is
     (c.obey-in-Sync.ensures.acts c.in-Sync.target)
 
-pub returns-clause-acts : goal.returns-clause-acts
-returns-clause-acts g c =
+pub returns-in-Upgrade-clause-acts : goal.returns-in-Upgrade-clause-acts
+returns-in-Upgrade-clause-acts g c =
     acts_as _ (Upgrade c.in-Upgrade.target) _ _ _ c.in-Upgrade.is
     (c.obey-in-Upgrade.ensures.acts c.in-Upgrade.target)
+
+pub returns-clause-acts : goal.returns-clause-acts
+returns-clause-acts g c =
+    acts_as _ Version _ _ _ c.in-Version.is
+    (c.obey-in-Version.ensures.acts Version (record { idle = refl; comes = λ o. (refl, refl) }))

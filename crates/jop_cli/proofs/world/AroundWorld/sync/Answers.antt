@@ -13,5 +13,6 @@ returns-clause-syncs g c =
       line = line;
       keeps = c.sync_on.ensures.keeps line.more line.trail;
       licensed = λ changes is. c.sync_on.ensures.licensed line.more changes line.trail is;
+      order = c.sync_on.ensures.order line.more line.trail;
       same = refl;
     }
