@@ -22,7 +22,7 @@ usage='usage: jop [--profile PATH] COMMAND'
 
 export LC_ALL=C
 umask 022
-unset CDPATH JOP_PROFILE JOP_TARGET
+unset CDPATH JOP_PROFILE JOP_TARGET RT_JOBS
 
 SKIPPED=77
 
@@ -227,10 +227,10 @@ fails_and_is_told() {
 }
 
 # is_harmless CALL PLACE: whether nothing rests on it. What it is for is done or told by another call, or the next run does it, as what
-# the database does when it closes its file.
+# the database does when it closes its file. A clock of the target that isn't written is made anew.
 is_harmless() {
   case $1:$2 in
-    close:* | flock:* | fcntl:* | mkdir:* | *:*.sqlite*) return 0 ;;
+    close:* | flock:* | fcntl:* | mkdir:* | *:*.sqlite* | write:*.clock.tmp* | statx:*.clock.tmp*'(deleted)') return 0 ;;
   esac
   return 1
 }

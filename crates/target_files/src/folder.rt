@@ -1,5 +1,5 @@
-ghost use Rattle.std.specs.Prelude.{◌≡◌, ◌≤◌, IfOk, IfSome};
-ghost use Rattle.std.specs.Path.{path_buf_bytes, path_join};
+ghost use Rattle.std.specs.Prelude.{◌≡◌, ◌≤◌, IfOk, IfSome, codes};
+ghost use Rattle.std.specs.Path.{path_buf_bytes, path_join, path_set_extension};
 ghost use Rattle.jop_base.specs.Paths.{path_text};
 ghost use Rattle.jop_base.specs.declared.time.TheConstants.{MAX_TIME};
 ghost use Rattle.jop_target.specs.Replies.{IsListing};
@@ -7,13 +7,14 @@ ghost use Rattle.jop_target.specs.Store.{limit_of};
 ghost use Rattle.target_files.specs.Listed.{IsUpToMoment, latest_in};
 ghost use Rattle.target_files.specs.Reading.{IsWithin};
 
+use crate::file_clock::{FileClock, clock_by};
 use crate::files::{Reading, read};
 use crate::folders::{flush_folder, make_folder};
 use crate::listing::{entries_of, is_at_rest, names_in};
 use crate::lock_file::write_in_place;
 use crate::moment::stamp_of;
 use crate::named::{is_file, is_link};
-use crate::temporary::{FileClock, Place, clock_by, moment_by, replace};
+use crate::temporary::{Place, replace};
 use crate::trouble::{Trouble, found};
 use crate::turn::{TakesTurns, Turn, turn_at};
 use jop_base::{Dir, Id, MAX_TIME, Path, Seq, Text};
@@ -33,12 +34,15 @@ const PATIENCE: u64 = 20_000;
 /// How many milliseconds are waited before it is read again.
 const PAUSE: u64 = 2;
 
-/// A folder of the system, and the id of the temporary file that is written there.
+/// A folder of the system.
 #[derive(Drop)]
-pub(crate) struct Folder<R> {
+pub(crate) struct Folder<R: Files> {
     pub rt: R,
     pub root: Text,
+    /// The id of the temporary file that is written there.
     pub temp: Id,
+    /// The clock of its file system. None before it was asked for.
+    pub clock: Option<FileClock<R::File>>,
 }
 
 impl<R: Files + Clock + Alloc + Clone + Drop> Folder<R>
@@ -46,34 +50,16 @@ where
     R::File: TakesTurns,
 {
     /// The files of one of its folders, read while it is at rest. A fault if it comes to none.
-    pub fn list(&self, alloc: Global, dir: Dir) -> Result<Listing, Trouble>
+    pub fn list(&mut self, alloc: Global, dir: Dir) -> Result<Listing, Trouble>
         ensures fits { IfOk result (IsListing dir) }
         ensures timely { IfOk result (IsUpToMoment dir) }
     {
         let name = self.folder_name(alloc, dir)?;
-        let temp = self.temp_name(alloc)?;
-        let mut clock = clock_by(&self.rt, temp.as_str())?;
-        let listing = self.list_by(alloc, dir, name.as_str(), &mut clock);
-        fs::remove_file(&self.rt, &temp)?;
-        listing
-    }
-
-    /// Its files, by the clock of the file system.
-    fn list_by(
-        &self,
-        alloc: Global,
-        dir: Dir,
-        name: &str,
-        clock: &mut FileClock<R::File>,
-    ) -> Result<Listing, Trouble>
-        ensures fits { IfOk result (IsListing dir) }
-        ensures timely { IfOk result (IsUpToMoment dir) }
-    {
-        let _turn = turn_at(&self.rt, name, Turn::Alone)?;
-        let end = stamp_of(&clock.tell()?).saturating_add(PATIENCE);
+        let _turn = turn_at(&self.rt, name.as_str(), Turn::Alone)?;
+        let end = self.moment(alloc)?.saturating_add(PATIENCE);
         for _ in 0..READINGS {
-            let told = clock.tell()?;
-            if let Some(listing) = self.list_at(alloc, dir, name, &told)? {
+            let told = self.tell(alloc)?;
+            if let Some(listing) = self.list_at(alloc, dir, name.as_str(), &told)? {
                 return Ok(listing);
             }
             if end < stamp_of(&told) {
@@ -102,8 +88,7 @@ where
         if !is_at_rest(&self.rt, name, told)? {
             return Ok(None);
         }
-        let clock = Path::Temp(self.temp);
-        let entries = entries_of(alloc, &names, dir, latest_in(dir, now), &clock)?;
+        let entries = entries_of(alloc, &names, dir, latest_in(dir, now))?;
         Ok(Some(Listing { now, entries }))
     }
 
@@ -173,10 +158,24 @@ where
     }
 
     /// The moment, by the clock of the file system.
-    pub fn moment(&self, alloc: Global) -> Result<u64, Trouble>
+    pub fn moment(&mut self, alloc: Global) -> Result<u64, Trouble>
         ensures { IfOk result (λ moment. moment ≤ MAX_TIME) }
     {
-        moment_by(&self.rt, self.temp_name(alloc)?.as_str())
+        Ok(stamp_of(&self.tell(alloc)?))
+    }
+
+    /// What the clock tells this moment. One that fails is let go, and another made.
+    fn tell(&mut self, alloc: Global) -> Result<Metadata, Trouble> {
+        if let Some(mut clock) = self.clock.take() {
+            if let Ok(told) = clock.tell() {
+                self.clock = Some(clock);
+                return Ok(told);
+            }
+        }
+        let name = self.clock_name(alloc)?;
+        let (clock, told) = clock_by(&self.rt, name.as_str())?;
+        self.clock = Some(clock);
+        Ok(told)
     }
 
     /// The name of the temporary file, whose folder it makes.
@@ -187,6 +186,17 @@ where
         self.make(alloc, Dir::Temp)?;
         let temp = Path::Temp(self.temp).text(alloc)?;
         Ok(self.name_of(alloc, temp.as_str())?)
+    }
+
+    /// The name that the clock's file has when it is made, which no file of a target has.
+    fn clock_name(&self, alloc: Global) -> Result<PathBuf, Trouble>
+        ensures { IfOk result (λ name. path_buf_bytes name ≡
+            path_set_extension (path_join self.now.root (path_text (Path.Temp self.now.temp)))
+            (codes "clock.tmp")) }
+    {
+        let mut name = self.temp_name(alloc)?;
+        name.set_extension("clock.tmp")?;
+        Ok(name)
     }
 
     /// The system's name of one of its folders. One below the root is a fault if it is a link, since that leads out of

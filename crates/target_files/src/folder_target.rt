@@ -33,21 +33,25 @@ use std::rt::{Clock, Files};
 ///
 /// **Links.** A symbolic link is no file, wherever it leads: it isn't listed, a get and a delete find nothing there, a
 /// lock that is put there is a fault, and any other file that is put replaces the link. Nothing is written through one.
-/// The temporary file is made anew (`O_EXCL`), and what bears its name is removed first. A lock is written only if the
-/// file that was opened is the one that bore the name, and has that name alone: what has a second one (a hard link) is
-/// a fault. The standard library can't open a file without following a link, so a link that comes between the look and
-/// the opening is opened, seen to be another file, and closed again. A folder below the root that is a link is a fault,
-/// since it leads out of the target, but for one that comes just when it was looked at. The root may be one.
+/// The temporary file and the clock's are made anew (`O_EXCL`), and what bears their name is removed first. A lock is
+/// written only if the file that was opened is the one that bore the name, and has that name alone: what has a second
+/// one (a hard link) is a fault. The standard library can't open a file without following a link, so a link that comes
+/// between the look and the opening is opened, seen to be another file, and closed again. A folder below the root that
+/// is a link is a fault for each call that uses it, since it leads out of the target, but for one that comes just when
+/// it was looked at. The root may be one.
 ///
 /// **If the machine stops.** A put flushes its file (fsync) before the rename, and its folder before its reply; a
 /// delete flushes its folder, and a folder that is made the root. So what was answered `Done` stays done. A file
 /// system that can't flush a folder, and says so, promises no more than it does. A run that is killed, or a machine
 /// that stops, between the rename and the last byte leaves a file whose time is before the moment at which others see
-/// it. The empty file that tells the time isn't flushed, since nobody reads it.
+/// it. The clock's file isn't flushed, since nobody reads it.
 ///
 /// **Times** are those of the file system, in whole milliseconds since 1970, rounded down: 0 before 1970, and at most
-/// `MAX_TIME`. Each call but a put first makes the temporary file, takes its time as `now`, and removes it, a listing
-/// when it was read. The `now` of a put is the time of its own file.
+/// `MAX_TIME`. They are told by a clock, which the first call but a put makes: a file `temp/<temp>.clock.tmp`, whose
+/// name is removed as soon as its time was taken, and which stays open as long as the target. Each later call but a put
+/// first writes a byte of it and takes its time as `now`; a listing does so before each reading. Where that fails,
+/// since the disk is full or the file system keeps no file without a name, another clock is made, and the time of its
+/// making is the moment. The `now` of a put is the time of its own file.
 ///
 /// **What isn't there.** A missing file is `Absent`, a missing folder has no files, and `MakeDir` of a folder that is
 /// there is `Done`. A directory, a link, a pipe or a device is no file, whatever its name: no call opens one, a delete
@@ -63,14 +67,15 @@ use std::rt::{Clock, Files};
 ///
 /// **What is left behind.** A call that fails removes its temporary file, and a lock that it made and couldn't write. A
 /// run that is killed may leave one of each; a later run overwrites its client's lock, and leaves the temporary file,
-/// since it removes nothing that it didn't make.
+/// since it removes nothing that it didn't make. Of the clock nothing is left, but for its file where the run is killed
+/// before the name is removed, and so before there is another temporary file.
 #[derive(Drop)]
-pub struct FolderTarget<R> {
+pub struct FolderTarget<R: Files> {
     folder: Folder<R>,
     faults: u64,
 }
 
-impl<R> Model for FolderTarget<R> {
+impl<R: Files> Model for FolderTarget<R> {
     ghost use Rattle.target_files.specs.Folders.{FolderNow};
 
     ghost Value = { FolderNow };
@@ -88,7 +93,12 @@ where
         ensures { result.faults ≡ 0 }
     {
         FolderTarget {
-            folder: Folder { rt, root, temp },
+            folder: Folder {
+                rt,
+                root,
+                temp,
+                clock: None,
+            },
             faults: 0,
         }
     }
@@ -100,9 +110,10 @@ where
         self.faults
     }
 
-    fn answer(&self, alloc: Global, call: &Call, blob: &mut Bytes) -> Result<Reply, Trouble>
+    fn answer(&mut self, alloc: Global, call: &Call, blob: &mut Bytes) -> Result<Reply, Trouble>
         ensures fits { IfOk result (IsAnswerTo call.now) }
         ensures blob { LeavesBlob blob.old result blob.new }
+        ensures stays { self.new ≡ self.old }
     {
         match call {
             Call::List(dir) => Ok(Reply::Listed(self.folder.list(alloc, *dir)?)),
@@ -125,8 +136,9 @@ where
         }
     }
 
-    fn get(&self, alloc: Global, path: &Path) -> Result<Reply, Trouble>
+    fn get(&mut self, alloc: Global, path: &Path) -> Result<Reply, Trouble>
         ensures fits { IfOk result (IsAnswerTo (Get path.now)) }
+        ensures stays { self.new ≡ self.old }
     {
         let now = self.folder.moment(alloc)?;
         match self.folder.get(alloc, path)? {
@@ -139,9 +151,10 @@ where
         }
     }
 
-    fn get_blob(&self, alloc: Global, id: Id, blob: &mut Bytes) -> Result<Reply, Trouble>
+    fn get_blob(&mut self, alloc: Global, id: Id, blob: &mut Bytes) -> Result<Reply, Trouble>
         ensures fits { IfOk result (IsAnswerTo (GetBlob id)) }
         ensures blob { LeavesBlob blob.old result blob.new }
+        ensures stays { self.new ≡ self.old }
     {
         let now = self.folder.moment(alloc)?;
         match self.folder.get(alloc, &Path::Blob(id))? {
@@ -155,8 +168,9 @@ where
         }
     }
 
-    fn delete(&self, alloc: Global, path: &Path) -> Result<Reply, Trouble>
-        ensures { IfOk result (IsAnswerTo (Delete path.now)) }
+    fn delete(&mut self, alloc: Global, path: &Path) -> Result<Reply, Trouble>
+        ensures fits { IfOk result (IsAnswerTo (Delete path.now)) }
+        ensures stays { self.new ≡ self.old }
     {
         let now = self.folder.moment(alloc)?;
         match self.folder.delete(alloc, path)? {

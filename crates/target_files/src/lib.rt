@@ -5,6 +5,7 @@
 //! `jop_target`. Begin with [`FolderTarget`].
 #![tactic(auto)]
 
+mod file_clock;
 mod files;
 mod folder;
 mod folder_target;

@@ -39,19 +39,18 @@ pub(crate) fn is_at_rest<R: Files>(rt: &R, name: &str, told: &Metadata) -> Resul
 }
 
 /// The files that bear names of a folder, in the order of their paths' texts, with their times, or this one where
-/// that is earlier; without the one that tells the time. A fault where the system names one twice.
+/// that is earlier. A fault where the system names one twice.
 pub(crate) fn entries_of<R: Files, A: Allocator>(
     alloc: Global,
     names: &[DirEntry<R, A>],
     dir: Dir,
     latest: u64,
-    clock: &Path,
 ) -> Result<Seq<Entry>, Trouble>
     ensures { IfOk result (λ entries. AreEntriesOf dir latest entries × IsRising entries) }
 {
     let mut entries = Vec::new(alloc);
     for name in names {
-        if let Some(entry) = read_entry(dir, name, latest, clock)? {
+        if let Some(entry) = read_entry(dir, name, latest)? {
             entries.push(entry)?;
         }
     }
@@ -63,22 +62,18 @@ pub(crate) fn entries_of<R: Files, A: Allocator>(
     }
 }
 
-/// The file that bears a name of the folder. None where the name is none of a target's or the clock's, where there is
-/// no such file any more, and where a link or a directory bears the name.
+/// The file that bears a name of the folder. None where the name is none of a target's, where there is no such file any
+/// more, and where a link or a directory bears the name.
 fn read_entry<R: Files, A: Allocator>(
     dir: Dir,
     name: &DirEntry<R, A>,
     latest: u64,
-    clock: &Path,
 ) -> Result<Option<Entry>, Trouble>
     ensures { IfOk result (λ entry. IfSome entry (IsEntryOf dir latest)) }
 {
     let Some(path) = Path::read(dir, name.file_name().as_bytes()) else {
         return Ok(None);
     };
-    if path == *clock {
-        return Ok(None);
-    }
     match found(name.metadata())? {
         Some(metadata) if metadata.is_file() => Ok(Some(Entry {
             path,

@@ -10,36 +10,6 @@ use std::io::{Seek, SeekFrom, Write};
 use std::os::unix::fs::{MetadataExt, PermissionsExt};
 use std::rt::{Clock, Files};
 
-/// The moment, by the clock of the file system: the time of a temporary file, made empty and removed again.
-pub(crate) fn moment_by<R: Files>(rt: &R, temp: &str) -> Result<u64, Trouble>
-    ensures { IfOk result (λ moment. moment ≤ MAX_TIME) }
-{
-    let metadata = make(rt, temp)?.metadata();
-    fs::remove_file(rt, temp)?;
-    Ok(stamp_of(&metadata?))
-}
-
-/// The clock of the file system: a temporary file, which has the time of its last writing.
-#[derive(Drop)]
-pub(crate) struct FileClock<F> {
-    file: F,
-}
-
-/// A clock, by a temporary file that is made for it. Whoever asks for it removes the file.
-pub(crate) fn clock_by<R: Files>(rt: &R, temp: &str) -> Result<FileClock<R::File>, Trouble> {
-    Ok(FileClock {
-        file: make(rt, temp)?,
-    })
-}
-
-impl<F: OpenFile + Write> FileClock<F> {
-    /// What the system says of the file, which is written this moment.
-    pub fn tell(&mut self) -> Result<Metadata, Trouble> {
-        self.file.write_all(b".".as_slice())?;
-        Ok(self.file.metadata()?)
-    }
-}
-
 /// Where a file is put: the name of the temporary file, the name that it gets then, and the folder of that.
 #[derive(Clone, Copy)]
 pub(crate) struct Place<'a> {
@@ -68,7 +38,7 @@ where
 }
 
 /// Makes a file, which never is what a link of that name leads to. What bears the name is removed first.
-fn make<R: Files>(rt: &R, temp: &str) -> Result<R::File, Trouble> {
+pub(crate) fn make<R: Files>(rt: &R, temp: &str) -> Result<R::File, Trouble> {
     if let Some(file) = created(File::create_new(rt, temp))? {
         return Ok(file);
     }

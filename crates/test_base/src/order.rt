@@ -18,8 +18,9 @@ const AT_ONCE: Reads = Reads {
     fails: false,
 };
 
-/// What each call asks of the system, in this order. Its moment is taken first, or, where it puts a file, when that was
-/// written last: a file is flushed before it has its name, then its last byte is written again, and the folder flushed.
+/// What each call asks of the system, in this order. Its moment is taken first, by a clock that the first one makes,
+/// or, where it puts a file, when that was written last: a file is flushed before it has its name, then its last byte
+/// is written again, and the folder flushed.
 const ORDER: &str = "put an item
 look at /temp
 look past links at /temp/
@@ -38,17 +39,15 @@ flush
 get an item
 look at /temp
 look past links at /temp/
-make /temp/11111111111111111111111111111111.tmp
+make /temp/11111111111111111111111111111111.clock.tmp
 its time
-remove /temp/11111111111111111111111111111111.tmp
+remove /temp/11111111111111111111111111111111.clock.tmp
+another handle
 look at /22222222222222222222222222222222.md
 open /22222222222222222222222222222222.md
 its time
 read
 list the root
-look at /temp
-look past links at /temp/
-make /temp/11111111111111111111111111111111.tmp
 open /
 take a turn alone
 write
@@ -59,13 +58,9 @@ list /
 list /
 look past links at /
 look at /22222222222222222222222222222222.md
-remove /temp/11111111111111111111111111111111.tmp
 delete an item
-look at /temp
-look past links at /temp/
-make /temp/11111111111111111111111111111111.tmp
+write
 its time
-remove /temp/11111111111111111111111111111111.tmp
 look at /22222222222222222222222222222222.md
 remove /22222222222222222222222222222222.md
 open /

@@ -14,6 +14,8 @@ pub(crate) const BLOB: &str = "/.resource/22222222222222222222222222222222";
 
 pub(crate) const TEMP: &str = "/temp/11111111111111111111111111111111.tmp";
 
+pub(crate) const CLOCK: &str = "/temp/11111111111111111111111111111111.clock.tmp";
+
 /// What is done to a file or folder past the target.
 #[derive(Clone, Copy)]
 pub(crate) enum Deed {

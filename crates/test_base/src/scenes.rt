@@ -1,4 +1,4 @@
-use crate::past::{BLOB, Deed, LOCK, NOTE, Sight, TEMP};
+use crate::past::{BLOB, CLOCK, Deed, LOCK, NOTE, Sight, TEMP};
 use crate::scene::{Move, Scene};
 use crate::step::{Name, Step};
 use jop_base::Dir;
@@ -79,18 +79,20 @@ fn a_link_is_no_file(rt: HostRuntime) -> Result<(), Fail> {
     LINK.play(&rt)
 }
 
-/// A link to another file has the temporary name, each time anew.
+/// Links to another file have the names of the clock's file and of the temporary one.
 const LEFTOVER: Scene = Scene {
     moves: &[
         Move::Do(Deed::Write("theirs"), "/theirs"),
         Move::Do(Deed::MakeDir, "/temp"),
+        Move::Do(Deed::MakeLink("../theirs"), CLOCK),
         Move::Do(Deed::MakeLink("../theirs"), TEMP),
         Move::Ask(Step::List(Dir::Temp)),
-        Move::Do(Deed::MakeLink("../theirs"), TEMP),
+        Move::See(Sight::Presence, CLOCK),
         Move::Ask(Step::Put(Name::Note, "")),
+        Move::See(Sight::Presence, TEMP),
         Move::See(Sight::Content, "/theirs"),
     ],
-    said: "listed\ndone\ntheirs\nfaults 0\n",
+    said: "listed\ngone\ndone\ngone\ntheirs\nfaults 0\n",
 };
 
 #[test]
@@ -164,6 +166,26 @@ fn a_folder_is_made_or_the_call_has_failed(rt: HostRuntime) -> Result<(), Fail> 
     FOLDER.play(&rt)
 }
 
+/// The folder of temporary files goes between two puts, and is made again; nothing of the clock is in it.
+const NO_TEMP: Scene = Scene {
+    moves: &[
+        Move::Ask(Step::Get(Name::Note)),
+        Move::Do(Deed::RemoveDir, "/temp"),
+        Move::Ask(Step::List(Dir::Root)),
+        Move::See(Sight::Presence, "/temp"),
+        Move::Ask(Step::Put(Name::Note, "hi")),
+        Move::Do(Deed::RemoveDir, "/temp"),
+        Move::Ask(Step::Put(Name::Note, "ho")),
+        Move::Ask(Step::Get(Name::Note)),
+    ],
+    said: "absent\nlisted\ngone\ndone\ndone\ngot [104, 111]\nfaults 0\n",
+};
+
+#[test]
+fn the_folder_of_temporary_files_may_go_at_any_time(rt: HostRuntime) -> Result<(), Fail> {
+    NO_TEMP.play(&rt)
+}
+
 const PRIVATE: Scene = Scene {
     moves: &[
         Move::Do(Deed::Write("private"), NOTE),
@@ -195,7 +217,8 @@ fn no_file_that_is_put_runs_as_its_owner(rt: HostRuntime) -> Result<(), Fail> {
     OWNERS.play(&rt)
 }
 
-/// The folder of locks is a link to another folder of the target, and so is the one of temporary files at last.
+/// The folder of locks is a link to another folder of the target, and so is the one of temporary files at last, which a
+/// get doesn't use when there is a clock.
 const LINKED_FOLDERS: Scene = Scene {
     moves: &[
         Move::Do(Deed::MakeDir, "/theirs"),
@@ -209,9 +232,10 @@ const LINKED_FOLDERS: Scene = Scene {
         Move::Do(Deed::RemoveDir, "/temp"),
         Move::Do(Deed::MakeLink("theirs"), "/temp"),
         Move::Ask(Step::Get(Name::Note)),
+        Move::Ask(Step::Put(Name::Note, "ho")),
         Move::Do(Deed::RemoveDir, "/theirs"),
     ],
-    said: "failed\nfailed\nfailed\nfailed\nfailed\ndone\nfailed\nfaults 6\n",
+    said: "failed\nfailed\nfailed\nfailed\nfailed\ndone\ngot [104, 105]\nfailed\nfaults 6\n",
 };
 
 #[test]

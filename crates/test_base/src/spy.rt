@@ -144,6 +144,14 @@ impl OpenFile for SpyFile<'_> {
     fn set_permissions(&self, rights: Permissions) -> io::Result<()> {
         self.file.set_permissions(rights)
     }
+
+    fn try_clone(&self) -> io::Result<Self> {
+        self.spy.tell("another handle", "")?;
+        Ok(SpyFile {
+            file: self.file.try_clone()?,
+            spy: self.spy,
+        })
+    }
 }
 
 impl TakesTurns for SpyFile<'_> {

@@ -1,9 +1,10 @@
-use Rattle.std.proofs.Common.{◌≡◌, ℕ, le_of_eq, sym, subst, Result, Ok, Err, IfOk}
+use Rattle.std.proofs.Common.{◌≡◌, ◌≤◌, ℕ, ap, le_of_eq, sym, subst, Result, Ok, Err, IfOk}
 use Rattle.std.specs.declared.alloc.AllocError.{AllocError}
 use Rattle.jop_outside.specs.Outside.{HasRisen}
 use Rattle.jop_target.specs.declared.call.Call.{Call}
 use Rattle.jop_target.specs.declared.reply.Reply.{Reply}
 use Rattle.jop_target.specs.declared.reply.Reply.TheVariants.{Failed}
+use Rattle.target_files.specs.Folders.{FolderNow}
 use Rattle.target_files.specs.Outcome.{IsAnswerTo, Counts}
 use Rattle.target_files.specs.declared.trouble.Trouble.{Trouble}
 use Rattle.target_files.specs.declared.trouble.Trouble.TheVariants.{Fault, NoMemory}
@@ -24,8 +25,12 @@ stays before after (Err Fault) result counts other = absurd (other counts.0)
 stays before after (Err NoMemory) result counts other = counts.1
 
 pub returns-clause-cause : goal.returns-clause-cause
-returns-clause-cause g c = record {
-  later = c.counted.ensures.later;
-  failed = failed c.args.call.now _ _ c.answer-answer.result _ c.answer-answer.ensures.fits c.counted.ensures.counts;
-  stays = stays _ _ c.answer-answer.result _ c.counted.ensures.counts;
-}
+returns-clause-cause g c =
+    let same : c.answer-answer.new.self.faults ≡ c.args.self.now.faults = ap (λ (n : FolderNow). n.faults) c.answer-answer.ensures.stays in
+    let counts : Counts c.args.self.now.faults c.answer-answer.result c.counted.result c.counted.new.self.faults =
+    subst (λ (n : ℕ). Counts n c.answer-answer.result c.counted.result c.counted.new.self.faults) same c.counted.ensures.counts in
+    record {
+      later = subst (λ (n : ℕ). n ≤ c.counted.new.self.faults) same c.counted.ensures.later;
+      failed = failed c.args.call.now _ _ c.answer-answer.result _ c.answer-answer.ensures.fits counts;
+      stays = stays _ _ c.answer-answer.result _ counts;
+    }
