@@ -1,12 +1,12 @@
 -- The chain of blocks that CCM authenticates.
-use Rattle.std.proofs.Common.{◌≡◌, ℕ, zero, suc, ◌+◌, ◌-◌, ◌*◌, ◌/◌, ◌%◌, ◌<◌, ◌≤◌, List, [], ◌∷◌, ◌++◌, length, take, drop, replicate, min, refl, sym, ap, ◌∙◌, arith, inl, inr, length-append, length-drop}
+use Rattle.std.proofs.Common.{◌≡◌, ℕ, zero, suc, ◌+◌, ◌-◌, ◌*◌, ◌/◌, ◌%◌, ◌<◌, ◌≤◌, List, [], ◌∷◌, ◌++◌, length, take, drop, replicate, min, refl, sym, ap, ◌∙◌, arith, inl, inr, length-append, length-drop, take-append-drop}
 use Rattle.std.proofs.lemmas.Bool.{cases_lt}
-use Rattle.std.proofs.lemmas.List.{append_assoc, drop-append-le, take-append-le, drop-drop, drop_at, length-replicate, take_min}
+use Rattle.std.proofs.lemmas.List.{drop-append-le, take-append-le, drop-drop, drop_at, length-replicate, length-take-le}
 use Rattle.std.specs.Int.{to_be_bytes, w16, w128}
 use Rattle.aes_ccm.specs.Aes.{aes, shift_rows, sub_bytes, state_after, schedule, rounds_of, round_key}
-use Rattle.aes_ccm.specs.Ccm.{blocks_in, padded, numbered, adata_flag, first_block, header, formatted, chained, chain_of, counter, stream, ciphered}
+use Rattle.aes_ccm.specs.Ccm.{blocks_in, padded, numbered, adata_flag, first_block, header, formatted, chained, headed, chain_of, counter, stream, ciphered}
 use Rattle.aes_ccm.specs.Lists.{xored}
-use Rattle.aes_ccm.proofs.Xored.{length-xored, xored-append, xored-take_rest, xored-take_zeros, xored-xored}
+use Rattle.aes_ccm.proofs.Xored.{length-xored, xored-append, xored-take_rest, xored-take_zeros, xored-xored, drop-xored}
 
 pub length-aes : (key block : List ℕ) → length (aes key block) ≡ 16
 unfolding aes
@@ -131,35 +131,32 @@ length-header (a ∷ adata) =
 
 -- ---- all that is authenticated
 
-pub chained-all : (key nonce adata text first headed out : List ℕ) (t : ℕ) → length nonce ≤ 14
-    → first ≡ chained key (replicate 16 0) (first_block nonce adata (length text) t) (blocks_in (length (first_block nonce adata (length text) t)))
-    → headed ≡ chained key first (header adata) (length (header adata) / 16)
-    → out ≡ chained key headed text (blocks_in (length text))
-    → out ≡ chain_of key (formatted nonce adata text t)
-chained-all key nonce adata text first headed out t fits ef eh eo =
+-- the chain over the first block and the header, as the code makes it
+pub headed_built : (key nonce adata zeros block first out : List ℕ) (p t : ℕ) → zeros ≡ replicate 16 0 → length block ≡ 16
+    → block ≡ first_block nonce adata p t → first ≡ chained key zeros block (blocks_in (length block))
+    → out ≡ chained key first (header adata) (length (header adata) / 16) → out ≡ headed key nonce adata p t
+headed_built key nonce adata zeros block first out p t ez lb eb ef eo =
+    let one : blocks_in (length block) ≡ 1 = omega arith in
+    let begun : first ≡ chained key (replicate 16 0) (first_block nonce adata p t) 1 = rw (one, ez, eb) at ef in
+    eo ∙ ap (λ (s : List ℕ). chained key s (header adata) (length (header adata) / 16)) begun
+
+-- the text's blocks behind them end the chain
+pub chained-headed : (key nonce adata text : List ℕ) (t : ℕ) → length nonce ≤ 14
+    → chained key (headed key nonce adata (length text) t) text (blocks_in (length text)) ≡ chain_of key (formatted nonce adata text t)
+chained-headed key nonce adata text t fits =
     let b : List ℕ = first_block nonce adata (length text) t in
     let h : List ℕ = header adata in
     let nh : ℕ = length h / 16 in
     let nt : ℕ = blocks_in (length text) in
     let lb : length b ≡ 16 = length-numbered (adata_flag adata + 8 * ((t - 2) / 2) + (14 - length nonce)) nonce (length text) (omega arith) in
-    let one : blocks_in (length b) ≡ 1 = omega arith in
     let lh : length h ≡ 16 * nh = length-header adata in
     let lbh : length (b ++ h) ≡ 16 * (1 + nh) = omega (arith, length-append b h, lh) in
     let count : length ((b ++ h) ++ padded text) / 16 ≡ 1 + nh + nt = omega (arith, length-append (b ++ h) (padded text), length-padded text, lbh) in
     let split : chained key (replicate 16 0) ((b ++ h) ++ padded text) (1 + nh + nt) ≡ chained key (chained key (chained key (replicate 16 0) b 1) h nh) (padded text) nt =
     chained-append key (replicate 16 0) (b ++ h) (padded text) (1 + nh) nt lbh
     ∙ ap (λ (s : List ℕ). chained key s (padded text) nt) (chained-append key (replicate 16 0) b h 1 nh lb) in
-    let start : first ≡ chained key (replicate 16 0) b 1 = ef ∙ ap (λ (n : ℕ). chained key (replicate 16 0) b n) one in
-    let headed' : headed ≡ chained key (chained key (replicate 16 0) b 1) h nh = eh ∙ ap (λ (s : List ℕ). chained key s h nh) start in
-    eo ∙ ap (λ (s : List ℕ). chained key s text nt) headed'
-    ∙ sym (ap (λ (n : ℕ). chained key (replicate 16 0) ((b ++ h) ++ padded text) n) count ∙ split
+    sym (ap (λ (n : ℕ). chained key (replicate 16 0) ((b ++ h) ++ padded text) n) count ∙ split
     ∙ chained-zeros key (chained key (chained key (replicate 16 0) b 1) h nh) text ((16 - length text % 16) % 16) nt (omega arith))
-
--- a block of a text, as the code cuts it out
-pub block_cut : (text : List ℕ) (n e : ℕ) → e ≡ min (16 * n + 16) (length text) → 16 * n ≤ length text → take (e - 16 * n) (drop (16 * n) text) ≡ take 16 (drop (16 * n) text)
-block_cut text n e ee fits =
-    let size : e - 16 * n ≡ min 16 (length (drop (16 * n) text)) = omega (arith, length-drop (16 * n) text) in
-    rw size (take_min 16 (drop (16 * n) text))
 
 -- ---- the stream
 
@@ -168,6 +165,19 @@ unfolding stream
 length-stream key nonce zero = refl
 length-stream key nonce (suc n) =
     omega (arith, length-append (stream key nonce n) (aes key (counter nonce (suc n))), length-stream key nonce n, length-aes key (counter nonce (suc n)))
+
+-- what the stream hasn't reached yet stays
+pub drop-ciphered : (key nonce old text : List ℕ) (n : ℕ) → text ≡ xored old (stream key nonce n) → drop (16 * n) text ≡ drop (16 * n) old
+drop-ciphered key nonce old text n held =
+    rw held (drop-xored old (stream key nonce n) (16 * n) (omega (arith, length-stream key nonce n)))
+
+-- a chain doesn't see what is changed behind its blocks
+pub chained-take : (key start text more : List ℕ) (n : ℕ) → 16 * n ≤ length text → chained key start (take (16 * n) text ++ more) n ≡ chained key start text n
+chained-take key start text more n h =
+    let front : List ℕ = take (16 * n) text in
+    let long : 16 * n ≤ length front = omega (arith, length-take-le (16 * n) text h) in
+    chained-front key start front more n long ∙ sym (chained-front key start front (drop (16 * n) text) n long)
+    ∙ ap (λ (ts : List ℕ). chained key start ts n) (take-append-drop (16 * n) text)
 
 -- one block more of the stream is added
 pub cipher_step : (key nonce old text block : List ℕ) (n : ℕ) → text ≡ xored old (stream key nonce n) → 16 * n ≤ length old → block ≡ aes key (counter nonce (n + 1))
@@ -178,6 +188,12 @@ cipher_step key nonce old text block n held fits made =
     let len = length-stream key nonce n in
     let both = rw len at (xored-append old (stream key nonce n) (aes key (counter nonce (suc n))) (omega (arith, len))) in
     rw (held, made, e) (sym both)
+
+-- the stream's block after next
+pub next_ahead : (key nonce block out : List ℕ) (n : ℕ) → block ≡ counter nonce (n + 2) → out ≡ aes key block → out ≡ aes key (counter nonce (n + 1 + 1))
+next_ahead key nonce block out n eb eo =
+    let e : n + 1 + 1 ≡ n + 2 = omega arith in
+    rw e (eo ∙ ap (aes key) eb)
 
 -- what is ciphered twice is what it was
 pub ciphered-ciphered : (key nonce text : List ℕ) → ciphered key nonce (ciphered key nonce text) ≡ text

@@ -1,22 +1,29 @@
 -- What the rounds of a schedule make of a block.
-use Rattle.std.proofs.Common.{◌≡◌, ℕ, zero, suc, ◌+◌, ◌-◌, ◌*◌, ◌≤◌, ◌<◌, List, length, take, drop, refl, sym, ap, ◌∙◌, arith}
+use Rattle.std.proofs.Common.{◌≡◌, ℕ, zero, suc, ◌+◌, ◌-◌, ◌*◌, ◌≤◌, ◌<◌, List, take, drop, sym, ap, ◌∙◌, arith}
 use Rattle.std.proofs.lemmas.List.{drop-take, take-take}
 use Rattle.aes_ccm.specs.Lists.{xored}
-use Rattle.aes_ccm.specs.Aes.{aes, after_rounds, mix_columns, round_key, rounds_of, schedule, shift_rows, state_after, sub_bytes}
+use Rattle.aes_ccm.specs.Aes.{aes, after_rounds, mix_columns, round_key, schedule, shift_rows, state_after, sub_bytes}
 use Rattle.aes_ccm.specs.Schedule.{scheduled_key, IsSchedule}
 use Rattle.aes_ccm.specs.declared.aes.Aes.TheInside.{Inside}
 
 -- one round more
-pub state_step : (words block state next : List ℕ) (n : ℕ) → 1 ≤ n → state ≡ state_after words block (n - 1)
-    → next ≡ xored (mix_columns (shift_rows (sub_bytes state))) (round_key words n)
+pub state_step : (words block state key next : List ℕ) (n : ℕ) → 1 ≤ n → state ≡ state_after words block (n - 1)
+    → key ≡ round_key words n → next ≡ xored (mix_columns (shift_rows (sub_bytes state))) key
     → next ≡ state_after words block (n + 1 - 1)
 unfolding state_after
-state_step words block state next zero some held made = absurd (omega arith)
-state_step words block state next (suc n) some held made =
+state_step words block state key next zero some held ek made = absurd (omega arith)
+state_step words block state key next (suc n) some held ek made =
     let before : suc n - 1 ≡ n = omega arith in
     let after : suc n + 1 - 1 ≡ suc n = omega arith in
     let same : state ≡ state_after words block n = rw before at held in
-    rw (after, made, same) refl
+    rw after (made ∙ (λ i. xored (mix_columns (shift_rows (sub_bytes (same i)))) (ek i)))
+
+-- the last round
+pub rounds_end : (words block state key out : List ℕ) (n rounds : ℕ) → n ≡ rounds → state ≡ state_after words block (n - 1)
+    → key ≡ round_key words rounds → out ≡ xored (shift_rows (sub_bytes state)) key → out ≡ after_rounds words block rounds
+rounds_end words block state key out n rounds e held ek made =
+    let same : state ≡ state_after words block (rounds - 1) = rw e at held in
+    made ∙ (λ i. xored (shift_rows (sub_bytes (same i))) (ek i))
 
 -- ---- what the rounds need of the words
 

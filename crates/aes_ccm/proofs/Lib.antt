@@ -1,6 +1,7 @@
 pub mod Bytes
-pub mod Mapped
 pub mod Xored
+pub mod TableWords
+pub mod States
 pub mod Words
 pub mod Enciphered
 pub mod Chained

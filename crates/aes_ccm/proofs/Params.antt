@@ -1,5 +1,5 @@
 -- Parameters of CCM, and the blocks that are made of a nonce.
-use Rattle.std.proofs.Common.{◌≡◌, ℕ, zero, suc, ◌+◌, ◌-◌, ◌*◌, ◌/◌, ◌<◌, ◌≤◌, Bool, true, false, List, [], ◌∷◌, ◌++◌, length, take, drop, set, nat_le, nat_lt, nat_eq, ◌==◌, ◌&&◌, ◌%◌, ◌^◌, refl, sym, ap, ◌∙◌, arith, inl, inr}
+use Rattle.std.proofs.Common.{◌≡◌, ℕ, suc, ◌+◌, ◌-◌, ◌*◌, ◌/◌, ◌<◌, ◌≤◌, Bool, true, false, List, ◌∷◌, ◌++◌, length, drop, set, nat_le, nat_lt, nat_eq, ◌==◌, ◌&&◌, ◌%◌, ◌^◌, refl, sym, ◌∙◌, arith, inl, inr}
 use Rattle.std.proofs.lemmas.Bool.{cases_lt, leb-true}
 use Rattle.std.proofs.lemmas.Bool.Decides.{nat_tests}
 use Rattle.std.proofs.Math.Nat.{div-eq_of_lt, lt-mul-div-succ}
@@ -34,11 +34,17 @@ put_over x flags tail nonce ys e =
     let more : length nonce + 1 ≡ suc (length nonce) = omega arith in
     rw (left, more, e) refl
 
--- the tag of good parameters is no longer than a block
-pub good_tag : (n t a p : ℕ) (r : Bool) → r ≡ are_good n t a p → r ≡ true → t ≤ 16
-good_tag n t a p r e good =
+-- what good parameters say of the lengths of nonce and tag
+pub record HasGoodLengths (n t : ℕ) : Type 0 where
+  pub nonce : n ≤ 14
+  pub tag : t ≤ 16
+
+pub good_lengths : (n t a p : ℕ) (r : Bool) → r ≡ are_good n t a p → r ≡ true → HasGoodLengths n t
+good_lengths n t a p r e good =
     let six = both (nat_le 7 n && nat_le n 13 && nat_le 4 t && nat_le t 16 && t % 2 == 0 && nat_lt a 65280) (nat_lt p (2 ^ (8 * (15 - n)))) (sym e ∙ good) in
     let five = both (nat_le 7 n && nat_le n 13 && nat_le 4 t && nat_le t 16 && t % 2 == 0) (nat_lt a 65280) six.0 in
     let four = both (nat_le 7 n && nat_le n 13 && nat_le 4 t && nat_le t 16) (t % 2 == 0) five.0 in
     let three = both (nat_le 7 n && nat_le n 13 && nat_le 4 t) (nat_le t 16) four.0 in
-    leb-true t 16 three.1
+    let two = both (nat_le 7 n && nat_le n 13) (nat_le 4 t) three.0 in
+    let one = both (nat_le 7 n) (nat_le n 13) two.0 in
+    record { nonce = omega (arith, leb-true n 13 one.1); tag = leb-true t 16 three.1 }

@@ -1,5 +1,5 @@
 -- The turns of PBKDF2.
-use Rattle.std.proofs.Common.{◌≡◌, ℕ, zero, suc, ◌+◌, ◌-◌, ◌≤◌, List, [], ◌∷◌, ◌++◌, replicate, refl, sym, ap, ◌∙◌, arith, append_assoc}
+use Rattle.std.proofs.Common.{◌≡◌, ℕ, zero, suc, ◌+◌, ◌-◌, ◌≤◌, List, [], ◌∷◌, ◌++◌, replicate, refl, ap, ◌∙◌, arith, append_assoc}
 use Rattle.sha2.specs.Sha256.{sha256}
 use Rattle.aes_ccm.specs.Hmac.{digest_behind, hmac_of, key_block, turn, turns}
 use Rattle.aes_ccm.specs.Lists.{xored}

@@ -1,10 +1,10 @@
 -- Words of a key schedule.
-use Rattle.std.proofs.Common.{◌≡◌, ℕ, zero, suc, ◌+◌, ◌-◌, ◌*◌, ◌<◌, ◌≤◌, List, [], ◌∷◌, ◌++◌, length, take, drop, get_or, slice_index, refl, sym, ap, ◌∙◌, arith, inl, inr, lit≤, true, ◌%◌, ◌/◌, bit_xor}
-use Rattle.std.proofs.lemmas.List.{get_or-take, length-append, take-append-le, take_all, drop-take, take-take}
+use Rattle.std.proofs.Common.{◌≡◌, ℕ, zero, suc, ◌+◌, ◌-◌, ◌*◌, ◌≤◌, List, [], ◌∷◌, ◌++◌, length, take, slice_index, refl, sym, ap, ◌∙◌, arith, inl, inr, lit≤, true, ◌%◌, ◌/◌, bit_xor}
+use Rattle.std.proofs.lemmas.List.{get_or-take, length-append, take-append-le, take_all, take-take}
 use Rattle.std.proofs.lemmas.Bool.Decides.{eqb_tells}
 use Rattle.std.specs.Int.Bits.{xor_zero_r}
 use Rattle.aes_ccm.specs.Field.{power}
-use Rattle.aes_ccm.specs.Aes.{word_at, next_word, turned, expanded, words_of, rounds_of, schedule, is_key_len, rotated, round_key, state_after, after_rounds, mix_columns, shift_rows, sub_bytes}
+use Rattle.aes_ccm.specs.Aes.{word_at, next_word, turned, expanded, words_of, rounds_of, schedule, is_key_len, rotated, sub_bytes}
 use Rattle.aes_ccm.specs.Lists.{xored}
 use Rattle.aes_ccm.proofs.Xored.{length-xored}
 

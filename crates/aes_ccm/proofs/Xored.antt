@@ -1,5 +1,5 @@
 -- Lists added bit by bit.
-use Rattle.std.proofs.Common.{◌≡◌, ℕ, zero, suc, ◌+◌, ◌-◌, ◌<◌, ◌≤◌, List, [], ◌∷◌, ◌++◌, length, take, drop, replicate, get_or, set, refl, sym, ap, ◌∙◌, arith, bit_xor, inl, inr, min, length-drop}
+use Rattle.std.proofs.Common.{◌≡◌, ℕ, zero, suc, ◌+◌, ◌-◌, ◌<◌, ◌≤◌, List, [], ◌∷◌, ◌++◌, length, take, drop, replicate, get_or, set, refl, sym, ap, ◌∙◌, arith, bit_xor, inl, inr, min, length-drop, take-append-drop}
 use Rattle.std.proofs.lemmas.Bool.{cases_lt}
 use Rattle.std.proofs.lemmas.List.{length-take-le, get_or-append_right, set-append_right, take_all}
 use Rattle.std.specs.Int.Bits.{xor_assoc, xor_self, xor_zero_l, xor_zero_r}
@@ -112,3 +112,19 @@ take-xored zero xs ys = refl
 take-xored (suc n) [] ys = refl
 take-xored (suc n) (x ∷ xs) [] = refl
 take-xored (suc n) (x ∷ xs) (y ∷ ys) = ap (λ (zs : List ℕ). bit_xor x y ∷ zs) (take-xored n xs ys)
+
+-- what stands behind the other list stays
+pub drop-xored : (xs ys : List ℕ) (k : ℕ) → length ys ≤ k → drop k (xored xs ys) ≡ drop k xs
+unfolding xored
+drop-xored [] ys k h = refl
+drop-xored (x ∷ xs) [] k h = refl
+drop-xored (x ∷ xs) (y ∷ ys) zero h = absurd (omega arith)
+drop-xored (x ∷ xs) (y ∷ ys) (suc k) h = drop-xored xs ys k (omega arith)
+
+pub xored-short : (xs ys : List ℕ) (n : ℕ) → length ys ≤ n → xored xs ys ≡ xored (take n xs) ys ++ drop n xs
+unfolding xored
+xored-short [] ys zero h = refl
+xored-short [] ys (suc n) h = refl
+xored-short (x ∷ xs) [] n h = rw (xored-nil (take n (x ∷ xs))) (sym (take-append-drop n (x ∷ xs)))
+xored-short (x ∷ xs) (y ∷ ys) zero h = absurd (omega arith)
+xored-short (x ∷ xs) (y ∷ ys) (suc n) h = ap (λ (zs : List ℕ). bit_xor x y ∷ zs) (xored-short xs ys n (omega arith))

@@ -61,6 +61,12 @@ chained key start text zero = start
 chained key start text (suc n) =
     aes key (xored (chained key start text n) (take 16 (drop (16 * n) text)))
 
+-- the chain over the first block and the header, of a text of p bytes under a tag of t
+abbrev pub headed : List ℕ → List ℕ → List ℕ → ℕ → ℕ → List ℕ
+headed key nonce adata p t =
+    chained key (chained key (replicate 16 0) (first_block nonce adata p t) 1)
+    (header adata) (length (header adata) / 16)
+
 -- the last block of the chain over the whole blocks of a text
 abbrev pub chain_of : List ℕ → List ℕ → List ℕ
 chain_of key text = chained key (replicate 16 0) text (length text / 16)

@@ -1,6 +1,6 @@
 -- The field of 256 elements of FIPS 197, section 4: a byte is a polynomial, its bits the coefficients, the lowest bit
 -- that of x to the power 0, modulo x^8 + x^4 + x^3 + x + 1.
-use Rattle.std.specs.Prelude.{ℕ, zero, suc, ◌+◌, ◌-◌, ◌*◌, ◌/◌, ◌%◌, ◌^◌, bit_xor, nat_lt, if◌then◌else◌, ◌==◌}
+use Rattle.std.specs.Prelude.{ℕ, zero, suc, ◌+◌, ◌*◌, ◌/◌, ◌%◌, ◌^◌, bit_xor, nat_lt, if◌then◌else◌, ◌==◌}
 
 -- x^8 + x^4 + x^3 + x + 1
 abbrev pub modulus : ℕ

@@ -1,6 +1,8 @@
 ghost use Rattle.std.specs.Prelude.{◌≡◌, ◌≤◌, length};
 ghost use Rattle.aes_ccm.specs.Ccm.{numbered, counter, first_block};
 
+use crate::state::State;
+
 /// A byte of flags, the nonce, and a number in the bytes that are left, the highest first.
 fn numbered(flags: u8, nonce: &[u8], number: u64) -> [u8; 16]
     requires { length nonce.now ≤ 15 }
@@ -13,11 +15,11 @@ fn numbered(flags: u8, nonce: &[u8], number: u64) -> [u8; 16]
 }
 
 /// Counter block `j`.
-pub(crate) fn counter(nonce: &[u8], j: u64) -> [u8; 16]
+pub(crate) fn counter(nonce: &[u8], j: u64) -> State
     requires { length nonce.now ≤ 14 }
     ensures { result ≡ counter nonce.now j }
 {
-    numbered(14 - nonce.len() as u8, nonce, j)
+    State::of(numbered(14 - nonce.len() as u8, nonce, j))
 }
 
 /// The first block that is authenticated, of a text of `text_len` bytes under a tag of `tag_len`.

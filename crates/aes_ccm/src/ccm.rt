@@ -1,12 +1,16 @@
-ghost use Rattle.std.specs.Prelude.{◌≡◌, ◌≢◌, ◌≤◌, ◌<◌, ◌-◌, ◌*◌, ◌^◌, ◌++◌, ◌↔◌, true, false, Err, OnOk, OnErr, IfOk, IfErr, length, replicate, nat_lt};
-ghost use Rattle.aes_ccm.specs.Ccm.{are_good, ciphered, tag_of};
+ghost use Rattle.std.specs.Prelude.{◌≡◌, ◌≢◌, ◌≤◌, ◌<◌, ◌-◌, ◌*◌, ◌^◌, ◌++◌, ◌↔◌, true, false, Err, OnOk, OnErr, IfOk, IfErr, length, take, replicate, nat_lt};
+ghost use Rattle.aes_ccm.specs.Aes.{aes};
+ghost use Rattle.aes_ccm.specs.Lists.{xored};
+ghost use Rattle.aes_ccm.specs.Ccm.{are_good, counter, ciphered, tag_of};
 
 use crate::aes::Aes;
 use crate::block::counter;
 use crate::ccm_err::CcmErr;
-use crate::chain::chain_all;
-use crate::cipher::cipher;
-use crate::xor::{filled, xor_from};
+use crate::chain::headed;
+use crate::opening::open_text;
+use crate::sealing::seal_text;
+use crate::state::State;
+use crate::xor::filled;
 
 /// Whether a length can be written in so many bytes.
 fn fits(len: usize, bytes: usize) -> bool
@@ -26,16 +30,14 @@ fn are_good(nonce: &[u8], tag_len: usize, adata: &[u8], text: &[u8]) -> bool
         && fits(text.len(), 15 - nonce.len())
 }
 
-/// The tag of a plain text, and zeros behind it.
-fn tag_of(key: &Aes, nonce: &[u8], adata: &[u8], text: &[u8], tag_len: usize) -> [u8; 16]
+/// The tag that the chain over all blocks gives, and zeros behind it.
+fn tag_behind(key: &Aes, nonce: &[u8], chain: &State, tag_len: usize) -> [u8; 16]
     requires nonce { length nonce.now ≤ 14 }
     requires tag { tag_len ≤ 16 }
-    requires adata { length adata.now < 65280 }
-    ensures { result
-        ≡ tag_of key.now nonce.now adata.now text.now tag_len ++ replicate (16 - tag_len) 0 }
+    ensures { result ≡ take tag_len (xored chain.now (aes key.now (counter nonce.now 0)))
+        ++ replicate (16 - tag_len) 0 }
 {
-    let mut whole = chain_all(key, nonce, adata, text, tag_len);
-    xor_from(&mut whole, 0, &key.encrypt_block(counter(nonce, 0)));
+    let whole = chain.plus(&key.encrypt(&counter(nonce, 0))).bytes();
     filled(&whole[..tag_len])
 }
 
@@ -60,9 +62,9 @@ pub fn ccm_seal(
     if !are_good(nonce, tag_len, adata, text) {
         return Err(CcmErr::BadParams);
     }
-    let tag = tag_of(key, nonce, adata, text, tag_len);
-    cipher(key, nonce, text);
-    Ok(tag)
+    let start = headed(key, nonce, adata, text.len(), tag_len);
+    let chain = seal_text(key, nonce, start, text);
+    Ok(tag_behind(key, nonce, &chain, tag_len))
 }
 
 /// Opens a sealed text in place by CCM (SP 800-38C). A tag that differs is found when the text is
@@ -90,11 +92,12 @@ pub fn ccm_open(
     if !are_good(nonce, tag.len(), adata, text) {
         return Err(CcmErr::BadParams);
     }
-    cipher(key, nonce, text);
-    let own = tag_of(key, nonce, adata, text, tag.len());
+    let start = headed(key, nonce, adata, text.len(), tag.len());
+    let chain = open_text(key, nonce, start, text);
+    let own = tag_behind(key, nonce, &chain, tag.len());
     if &own[..tag.len()] == tag {
         return Ok(());
     }
-    cipher(key, nonce, text);
+    seal_text(key, nonce, chain, text);
     Err(CcmErr::BadTag)
 }

@@ -9,13 +9,16 @@ mod block;
 mod ccm;
 mod ccm_err;
 mod chain;
-mod cipher;
 mod keyed_hash;
 mod laws;
+mod opening;
 mod password_key;
 mod rounds;
 mod schedule;
+mod sealing;
+mod state;
 mod substitution;
+mod tables;
 mod xor;
 
 pub use aes::Aes;

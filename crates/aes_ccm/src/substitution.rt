@@ -1,8 +1,7 @@
 //! The byte substitution of FIPS 197, 5.1.1.
 
-ghost use Rattle.std.specs.Prelude.{◌≡◌, map};
+ghost use Rattle.std.specs.Prelude.{◌≡◌};
 ghost use Rattle.aes_ccm.specs.Field.{substituted};
-ghost use Rattle.aes_ccm.specs.Aes.{sub_bytes};
 
 /// Each byte's substitute.
 #[rattlefmt::skip]
@@ -30,14 +29,4 @@ pub(crate) fn substituted(byte: u8) -> u8
     ensures { result ≡ substituted byte }
 {
     SUBSTITUTES[byte as usize]
-}
-
-/// Each byte of a state substituted.
-pub(crate) fn sub_bytes(mut state: [u8; 16]) -> [u8; 16]
-    ensures { result ≡ sub_bytes state }
-{
-    for byte in &mut state {
-        *byte = substituted(*byte);
-    }
-    state
 }

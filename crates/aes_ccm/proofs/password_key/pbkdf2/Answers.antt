@@ -1,4 +1,4 @@
-use Rattle.std.proofs.Common.{◌≡◌, ◌-◌, arith}
+use Rattle.std.proofs.Common.{◌≡◌, arith}
 use Rattle.aes_ccm.specs.Hmac.{turns}
 use Rattle.aes_ccm.proofs.Turns.{first_turn, next_turn, next_sum}
 use Rattle.aes_ccm.proofs.password_key.pbkdf2.Goals as goal

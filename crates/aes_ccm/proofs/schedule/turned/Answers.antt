@@ -1,4 +1,4 @@
-use Rattle.std.proofs.Common.{◌≡◌, ◌<◌, ◌≤◌, ◌-◌, ◌*◌, ◌/◌, slice_index, arith}
+use Rattle.std.proofs.Common.{◌<◌, ◌-◌, ◌/◌, slice_index, arith}
 use Rattle.std.proofs.Math.Nat.{div-lt_iff_lt-mul}
 use Rattle.aes_ccm.specs.declared.schedule.TheConstants.{POWERS}
 use Rattle.aes_ccm.proofs.Bytes.{powers}

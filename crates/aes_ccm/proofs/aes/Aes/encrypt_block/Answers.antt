@@ -1,11 +1,6 @@
-use Rattle.std.proofs.Common.{List, ℕ, ◌≤◌, ap, ◌∙◌, arith}
+use Rattle.std.proofs.Common.{ap, ◌∙◌}
 use Rattle.aes_ccm.specs.Aes.{aes}
-use Rattle.aes_ccm.proofs.Enciphered.{enciphered}
 use Rattle.aes_ccm.proofs.aes.Aes.encrypt_block.Goals as goal
 
 pub returns : goal.returns
-returns c =
-    let some : 1 ≤ c.self.inside.rounds = omega (arith, c.self.invariant.rounds) in
-    c.after_rounds.ensures
-    ∙ enciphered c.self.inside c.args.block c.self.invariant some
-    ∙ ap (λ (key : List ℕ). aes key c.args.block) c.self.view_is
+returns c = c.bytes.ensures ∙ c.encrypt.ensures ∙ ap (aes c.args.self.now) c.of.ensures
