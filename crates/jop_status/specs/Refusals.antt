@@ -29,6 +29,7 @@ local_status local_errors.SourceFault = statuses.SourceFault
 local_status local_errors.ClockFault = statuses.ClockFault
 local_status local_errors.EntropyFault = statuses.EntropyFault
 local_status (local_errors.NotFound id) = statuses.NotFound id
+local_status (local_errors.NotOne count) = statuses.NotOne count
 local_status (local_errors.Sealed id) = statuses.Sealed id
 local_status (local_errors.TimeEnd id) = statuses.TimeEnd id
 local_status (local_errors.NotEmpty id) = statuses.NotEmpty id

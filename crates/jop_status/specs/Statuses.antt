@@ -32,6 +32,11 @@ busy_text name stamp = codes "busy " ++ (file_name name ++ (codes " " ++ decimal
 abbrev pub within_text : List ℕ → ℕ → List ℕ → List ℕ
 within_text word number behind = word ++ (decimal number ++ behind)
 
+-- the first digits of an id, and how many rows have an id that begins so
+abbrev pub not_one_text : List ℕ → ℕ → List ℕ
+not_one_text start count =
+    codes "not found " ++ (start ++ (codes ", " ++ (decimal count ++ codes " ids begin so")))
+
 -- why a text is no item's, in words
 abbrev pub why_text : BadWhy → List ℕ
 why_text NotText = codes "not text"
@@ -67,6 +72,7 @@ row_of statuses.SinkFault = row 12 (line_of (codes "output fault"))
 row_of statuses.ClockFault = row 13 (line_of (codes "clock fault"))
 row_of statuses.EntropyFault = row 14 (line_of (codes "random source fault"))
 row_of (statuses.NotFound id) = row 15 (line_of (codes "not found " ++ id))
+row_of (statuses.NotOne count) = row 15 (line_of (not_one_text count.start count.count))
 row_of (statuses.Sealed id) = row 16 (line_of (codes "sealed " ++ id))
 row_of (statuses.TimeEnd id) = row 17 (line_of (codes "time end " ++ id))
 row_of (statuses.TooLarge length) = row 18 (line_of (codes "too large " ++ decimal length))

@@ -6,8 +6,8 @@ ghost use Rattle.jop_status.specs.declared.status.Status.TheVariants.{Refused};
 
 use crate::piece::{Piece, write_pieces};
 use crate::status_line::{
-    why_text, write_bad_item, write_busy, write_id, write_number, write_version, write_within,
-    write_word,
+    why_text, write_bad_item, write_busy, write_id, write_not_one, write_number, write_version,
+    write_within, write_word,
 };
 use client::OwnErr;
 use conflicts::Refusal;
@@ -15,7 +15,7 @@ use item_text::BadItem;
 use jop_base::Id;
 use jop_outside::{Failed, Sink};
 use lease::{Lock, Seen};
-use local_commands::LocalErr;
+use local_commands::{LocalErr, StartCount};
 use sync_run::SessionErr;
 
 /// How the program is called: the line of `Usage`, and what `help` prints.
@@ -48,6 +48,8 @@ pub enum Status {
     EntropyFault,
     /// No row of this id is of the kind that is wanted.
     NotFound(Id),
+    /// It isn't one row whose id begins so, but none or several.
+    NotOne(StartCount),
     /// The item of this id is sealed.
     Sealed(Id),
     /// The note of this id was last changed at the end of time.
@@ -88,7 +90,7 @@ impl Status {
             Status::SinkFault => 12,
             Status::ClockFault => 13,
             Status::EntropyFault => 14,
-            Status::NotFound(_) => 15,
+            Status::NotFound(_) | Status::NotOne(_) => 15,
             Status::Sealed(_) => 16,
             Status::TimeEnd(_) => 17,
             Status::TooLarge(_) => 18,
@@ -128,6 +130,7 @@ fn write_line<E: Sink>(err: &mut E, status: &Status) -> Result<(), Failed>
         Status::ClockFault => write_word(err, "clock fault"),
         Status::EntropyFault => write_word(err, "random source fault"),
         Status::NotFound(id) => write_id(err, "not found ", *id),
+        Status::NotOne(count) => write_not_one(err, &count.start, count.count),
         Status::Sealed(id) => write_id(err, "sealed ", *id),
         Status::TimeEnd(id) => write_id(err, "time end ", *id),
         Status::TooLarge(len) => write_number(err, "too large ", *len),
@@ -201,6 +204,7 @@ impl From<LocalErr> for Status {
             LocalErr::ClockFault => Status::ClockFault,
             LocalErr::EntropyFault => Status::EntropyFault,
             LocalErr::NotFound(id) => Status::NotFound(id),
+            LocalErr::NotOne(count) => Status::NotOne(count),
             LocalErr::Sealed(id) => Status::Sealed(id),
             LocalErr::TimeEnd(id) => Status::TimeEnd(id),
             LocalErr::NotEmpty(id) => Status::NotEmpty(id),

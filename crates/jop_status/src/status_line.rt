@@ -5,6 +5,7 @@ ghost use Rattle.jop_status.specs.Statuses.{
   bad_item_text,
   busy_text,
   line_of,
+  not_one_text,
   version_text,
   why_text,
   within_text,
@@ -14,6 +15,7 @@ use crate::piece::{Piece, write_pieces};
 use item_text::BadWhy;
 use jop_base::{Id, LockName};
 use jop_outside::{Failed, Sink};
+use local_commands::IdStart;
 use target_upgrade::SUPPORTED;
 
 /// Writes the name of the lock that is in the way, and its stamp.
@@ -38,6 +40,23 @@ pub(crate) fn write_id<E: Sink>(err: &mut E, word: &str, id: Id) -> Result<(), F
     ensures { WritesAll (E.state err.old) (line_of (word.now ++ id)) result (E.state err.new) }
 {
     write_pieces(err, &[Piece::Word(word), Piece::Id(id), Piece::Word("\n")])
+}
+
+/// Writes the first digits of an id, and how many rows have an id that begins so.
+pub(crate) fn write_not_one<E: Sink>(err: &mut E, start: &IdStart, count: u64) -> Result<(), Failed>
+    ensures { WritesAll (E.state err.old) (line_of (not_one_text start.now count)) result
+        (E.state err.new) }
+{
+    write_pieces(
+        err,
+        &[
+            Piece::Word("not found "),
+            Piece::Bytes(start.as_slice()),
+            Piece::Word(", "),
+            Piece::Number(count),
+            Piece::Word(" ids begin so\n"),
+        ],
+    )
 }
 
 /// Writes the version of a target, and how it stands to the one of this program.

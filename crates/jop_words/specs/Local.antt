@@ -5,7 +5,8 @@ use Rattle.jop_base.specs.Decimals.{decimal_in}
 use Rattle.item_text.specs.Lines.{has, trimmed}
 use Rattle.local_commands.specs.declared.command.LocalCommand.{LocalCommand}
 use Rattle.local_commands.specs.declared.command.LocalCommand.TheVariants.{Add, Attach, Cat, Clear, Conflicts, Edit, Find, Ls, Mkbook, Move, Rename, Resources, Rm, Show, Tag, Tagged, Tags, Trash, Untag}
-use Rattle.jop_words.specs.Words.{word_id}
+use Rattle.local_commands.specs.declared.typed_id.TypedId.{TypedId}
+use Rattle.local_commands.specs.TypedIds.{typed_id}
 
 -- ---- single words
 
@@ -39,7 +40,7 @@ local_alone command words = None
 
 -- a notebook and a title
 abbrev pub add_words : List (List ℕ) → Option LocalCommand
-add_words (book ∷ title ∷ []) = both Add (word_id book) (line_in title)
+add_words (book ∷ title ∷ []) = both Add (typed_id book) (line_in title)
 add_words words = None
 
 -- a name and a type of content
@@ -49,7 +50,7 @@ attach_words words = None
 
 -- an id
 abbrev pub cat_words : List (List ℕ) → Option LocalCommand
-cat_words (id ∷ []) = option_map Cat (word_id id)
+cat_words (id ∷ []) = option_map Cat (typed_id id)
 cat_words words = None
 
 -- nothing, or the number of a conflict note to clear, or to show
@@ -60,17 +61,17 @@ conflicts_words (option ∷ number ∷ []) =
     else if bytes_eq option (codes "--show") then option_map Show (count_in number) else None
 conflicts_words words = None
 
-abbrev pub keeps_title : List ℕ → LocalCommand
+abbrev pub keeps_title : TypedId → LocalCommand
 keeps_title id = Edit id None
 
-abbrev pub edit_to : List ℕ → List ℕ → LocalCommand
+abbrev pub edit_to : TypedId → List ℕ → LocalCommand
 edit_to id title = Edit id (Some title)
 
 -- an id, and another title if one is given
 abbrev pub edit_words : List (List ℕ) → Option LocalCommand
-edit_words (id ∷ []) = option_map keeps_title (word_id id)
+edit_words (id ∷ []) = option_map keeps_title (typed_id id)
 edit_words (id ∷ option ∷ title ∷ []) =
-    if bytes_eq option (codes "--title") then both edit_to (word_id id) (line_in title) else None
+    if bytes_eq option (codes "--title") then both edit_to (typed_id id) (line_in title) else None
 edit_words words = None
 
 -- any text
@@ -78,53 +79,53 @@ abbrev pub find_words : List (List ℕ) → Option LocalCommand
 find_words (part ∷ []) = Some (Find part)
 find_words words = None
 
-abbrev pub ls_in : List ℕ → LocalCommand
+abbrev pub ls_in : TypedId → LocalCommand
 ls_in book = Ls (Some book)
 
 -- nothing, or a notebook, or a tag
 abbrev pub ls_words : List (List ℕ) → Option LocalCommand
 ls_words [] = Some (Ls None)
-ls_words (book ∷ []) = option_map ls_in (word_id book)
+ls_words (book ∷ []) = option_map ls_in (typed_id book)
 ls_words (option ∷ tag ∷ []) =
-    if bytes_eq option (codes "--tag") then option_map Tagged (word_id tag) else None
+    if bytes_eq option (codes "--tag") then option_map Tagged (typed_id tag) else None
 ls_words words = None
 
 abbrev pub at_top : List ℕ → LocalCommand
 at_top title = Mkbook title None
 
-abbrev pub in_parent : List ℕ → List ℕ → LocalCommand
+abbrev pub in_parent : List ℕ → TypedId → LocalCommand
 in_parent title parent = Mkbook title (Some parent)
 
 -- a title, and the notebook that it is to stand in if one is given
 abbrev pub mkbook_words : List (List ℕ) → Option LocalCommand
 mkbook_words (title ∷ []) = option_map at_top (line_in title)
 mkbook_words (title ∷ option ∷ parent ∷ []) =
-    if bytes_eq option (codes "--in") then both in_parent (line_in title) (word_id parent) else None
+    if bytes_eq option (codes "--in") then both in_parent (line_in title) (typed_id parent) else None
 mkbook_words words = None
 
 -- an id and a notebook
 abbrev pub move_words : List (List ℕ) → Option LocalCommand
-move_words (id ∷ book ∷ []) = both Move (word_id id) (word_id book)
+move_words (id ∷ book ∷ []) = both Move (typed_id id) (typed_id book)
 move_words words = None
 
 -- an id and a title
 abbrev pub rename_words : List (List ℕ) → Option LocalCommand
-rename_words (id ∷ title ∷ []) = both Rename (word_id id) (line_in title)
+rename_words (id ∷ title ∷ []) = both Rename (typed_id id) (line_in title)
 rename_words words = None
 
 -- an id
 abbrev pub rm_words : List (List ℕ) → Option LocalCommand
-rm_words (id ∷ []) = option_map Rm (word_id id)
+rm_words (id ∷ []) = option_map Rm (typed_id id)
 rm_words words = None
 
 -- a note and a title
 abbrev pub tag_words : List (List ℕ) → Option LocalCommand
-tag_words (note ∷ title ∷ []) = both Tag (word_id note) (line_in title)
+tag_words (note ∷ title ∷ []) = both Tag (typed_id note) (line_in title)
 tag_words words = None
 
 -- a note and a tag
 abbrev pub untag_words : List (List ℕ) → Option LocalCommand
-untag_words (note ∷ tag ∷ []) = both Untag (word_id note) (word_id tag)
+untag_words (note ∷ tag ∷ []) = both Untag (typed_id note) (typed_id tag)
 untag_words words = None
 
 -- a row for each: its first word, and what the others are

@@ -42,8 +42,9 @@ impl From<AllocError> for WordsErr {
 ///   `resources`; `rm ID`; `tag ID TITLE`; `tags`; `trash`; `untag ID TAG`.
 ///
 /// TARGET is `mem:`, `dir:PATH` with a path that isn't empty, or `dav:URL` with a URL that names a
-/// server. BOOK, CLIENT, ID and TAG are ids. TITLE, NAME and MIME have no line feed or carriage return,
-/// MIME has no blanks at its ends, and TEXT is any. N is 1 to 20 decimal digits, below 2^64.
+/// server. CLIENT is an id; BOOK, ID and TAG are ids or the first 4 to 31 digits of one. TITLE, NAME and
+/// MIME have no line feed or carriage return, MIME has no blanks at its ends, and TEXT is any. N is 1 to
+/// 20 decimal digits, below 2^64.
 /// `--profile PATH` may stand before each.
 pub fn read_words(alloc: Global, words: &Words) -> Result<Command, WordsErr>
     ensures ok { IfOk result (λ command. command_of words.now.list ≡ Some command) }

@@ -6,14 +6,14 @@ ghost use Rattle.jop_words.specs.Local.{conflicts_words, count_in, edit_to, edit
 ghost use Rattle.jop_words.specs.Local.{find_words, in_parent, is_line, line_in, local_alone};
 ghost use Rattle.jop_words.specs.Local.{local_words, ls_words, mime_in, mkbook_words, move_words};
 ghost use Rattle.jop_words.specs.Local.{rename_words, rm_words, tag_words, untag_words};
-ghost use Rattle.jop_words.specs.Words.{word_id};
 ghost use Rattle.local_commands.specs.Commands.{IsWellFormed};
+ghost use Rattle.local_commands.specs.TypedIds.{typed_id};
 ghost use Rattle.local_commands.specs.declared.command.LocalCommand.TheVariants as commands;
 
-use crate::words::read_id;
+use crate::words::read_typed;
 use item_text::trimmed;
 use jop_base::{Copied, Text, let_go, read_decimal};
-use local_commands::LocalCommand;
+use local_commands::{LocalCommand, TypedId};
 use std::alloc::{AllocError, Global};
 
 /// A row for each command on the tables: its first word, and who reads the others.
@@ -73,6 +73,25 @@ fn read_line(alloc: Global, word: &Text) -> Result<Option<Text>, AllocError>
     Ok(Some(line))
 }
 
+/// An id as it is typed, and a title.
+fn read_id_and_line(
+    alloc: Global,
+    id: &Text,
+    line: &Text,
+) -> Result<Option<(TypedId, Text)>, AllocError>
+    ensures means { IfOk result
+        (λ pair. pair ≡ both (λ id line. (id, line)) (typed_id id.now) (line_in line.now)) }
+    ensures fit { IfOk result (λ pair. IfSome pair (λ pair. IsLine pair.1)) }
+{
+    let Some(id) = read_typed(id) else {
+        return Ok(None);
+    };
+    let Some(line) = read_line(alloc, line)? else {
+        return Ok(None);
+    };
+    Ok(Some((id, line)))
+}
+
 /// A type of content.
 #[tactic(auto, using(crate::proofs::Lines::line_of))]
 fn read_mime(alloc: Global, word: &Text) -> Result<Option<Text>, AllocError>
@@ -117,23 +136,12 @@ fn read_add(alloc: Global, words: &[Text]) -> Result<Option<LocalCommand>, Alloc
     ensures fit { IfOk result (λ command. IfSome command IsWellFormed) }
 {
     match words {
-        [book, title] => read_add_to(alloc, book, title),
+        [book, title] => match read_id_and_line(alloc, book, title)? {
+            Some((book, title)) => Ok(Some(LocalCommand::Add { book, title })),
+            None => Ok(None),
+        },
         _ => Ok(None),
     }
-}
-
-fn read_add_to(alloc: Global, book: &Text, title: &Text) -> Result<Option<LocalCommand>, AllocError>
-    ensures means { IfOk result
-        (λ command. command ≡ both commands.Add (word_id book.now) (line_in title.now)) }
-    ensures fit { IfOk result (λ command. IfSome command IsWellFormed) }
-{
-    let Some(book) = read_id(book) else {
-        return Ok(None);
-    };
-    let Some(title) = read_line(alloc, title)? else {
-        return Ok(None);
-    };
-    Ok(Some(LocalCommand::Add { book, title }))
 }
 
 fn read_attach(alloc: Global, words: &[Text]) -> Result<Option<LocalCommand>, AllocError>
@@ -169,7 +177,9 @@ fn read_cat(words: &[Text]) -> Option<LocalCommand>
     ensures fit { IfSome result IsWellFormed }
 {
     match words {
-        [id] => Some(LocalCommand::Cat { id: read_id(id)? }),
+        [id] => Some(LocalCommand::Cat {
+            id: read_typed(id)?,
+        }),
         _ => None,
     }
 }
@@ -196,7 +206,13 @@ fn read_edit(alloc: Global, words: &[Text]) -> Result<Option<LocalCommand>, Allo
 {
     match words {
         [id] => Ok(read_edit_body(id)),
-        [id, option, title] if option.as_str() == "--title" => read_edit_to(alloc, id, title),
+        [id, option, title] if option.as_str() == "--title" => {
+            let Some((id, title)) = read_id_and_line(alloc, id, title)? else {
+                return Ok(None);
+            };
+            let title = Some(title);
+            Ok(Some(LocalCommand::Edit { id, title }))
+        }
         _ => Ok(None),
     }
 }
@@ -206,26 +222,9 @@ fn read_edit_body(id: &Text) -> Option<LocalCommand>
     ensures fit { IfSome result IsWellFormed }
 {
     Some(LocalCommand::Edit {
-        id: read_id(id)?,
+        id: read_typed(id)?,
         title: None,
     })
-}
-
-fn read_edit_to(alloc: Global, id: &Text, title: &Text) -> Result<Option<LocalCommand>, AllocError>
-    ensures means { IfOk result
-        (λ command. command ≡ both edit_to (word_id id.now) (line_in title.now)) }
-    ensures fit { IfOk result (λ command. IfSome command IsWellFormed) }
-{
-    let Some(id) = read_id(id) else {
-        return Ok(None);
-    };
-    let Some(title) = read_line(alloc, title)? else {
-        return Ok(None);
-    };
-    Ok(Some(LocalCommand::Edit {
-        id,
-        title: Some(title),
-    }))
 }
 
 /// Any text.
@@ -248,10 +247,10 @@ fn read_ls(words: &[Text]) -> Option<LocalCommand>
     match words {
         [] => Some(LocalCommand::Ls { book: None }),
         [book] => Some(LocalCommand::Ls {
-            book: Some(read_id(book)?),
+            book: Some(read_typed(book)?),
         }),
         [option, tag] if option.as_str() == "--tag" => Some(LocalCommand::Tagged {
-            tag: read_id(tag)?,
+            tag: read_typed(tag)?,
         }),
         _ => None,
     }
@@ -289,13 +288,13 @@ fn read_mkbook_in(
     parent: &Text,
 ) -> Result<Option<LocalCommand>, AllocError>
     ensures means { IfOk result
-        (λ command. command ≡ both in_parent (line_in title.now) (word_id parent.now)) }
+        (λ command. command ≡ both in_parent (line_in title.now) (typed_id parent.now)) }
     ensures fit { IfOk result (λ command. IfSome command IsWellFormed) }
 {
     let Some(title) = read_line(alloc, title)? else {
         return Ok(None);
     };
-    let Some(parent) = read_id(parent) else {
+    let Some(parent) = read_typed(parent) else {
         return Ok(None);
     };
     Ok(Some(LocalCommand::Mkbook {
@@ -310,8 +309,8 @@ fn read_move(words: &[Text]) -> Option<LocalCommand>
 {
     match words {
         [id, book] => Some(LocalCommand::Move {
-            id: read_id(id)?,
-            book: read_id(book)?,
+            id: read_typed(id)?,
+            book: read_typed(book)?,
         }),
         _ => None,
     }
@@ -322,27 +321,12 @@ fn read_rename(alloc: Global, words: &[Text]) -> Result<Option<LocalCommand>, Al
     ensures fit { IfOk result (λ command. IfSome command IsWellFormed) }
 {
     match words {
-        [id, title] => read_rename_to(alloc, id, title),
+        [id, title] => match read_id_and_line(alloc, id, title)? {
+            Some((id, title)) => Ok(Some(LocalCommand::Rename { id, title })),
+            None => Ok(None),
+        },
         _ => Ok(None),
     }
-}
-
-fn read_rename_to(
-    alloc: Global,
-    id: &Text,
-    title: &Text,
-) -> Result<Option<LocalCommand>, AllocError>
-    ensures means { IfOk result
-        (λ command. command ≡ both commands.Rename (word_id id.now) (line_in title.now)) }
-    ensures fit { IfOk result (λ command. IfSome command IsWellFormed) }
-{
-    let Some(id) = read_id(id) else {
-        return Ok(None);
-    };
-    let Some(title) = read_line(alloc, title)? else {
-        return Ok(None);
-    };
-    Ok(Some(LocalCommand::Rename { id, title }))
 }
 
 fn read_rm(words: &[Text]) -> Option<LocalCommand>
@@ -350,7 +334,9 @@ fn read_rm(words: &[Text]) -> Option<LocalCommand>
     ensures fit { IfSome result IsWellFormed }
 {
     match words {
-        [id] => Some(LocalCommand::Rm { id: read_id(id)? }),
+        [id] => Some(LocalCommand::Rm {
+            id: read_typed(id)?,
+        }),
         _ => None,
     }
 }
@@ -360,27 +346,12 @@ fn read_tag(alloc: Global, words: &[Text]) -> Result<Option<LocalCommand>, Alloc
     ensures fit { IfOk result (λ command. IfSome command IsWellFormed) }
 {
     match words {
-        [note, title] => read_tag_with(alloc, note, title),
+        [note, title] => match read_id_and_line(alloc, note, title)? {
+            Some((note, title)) => Ok(Some(LocalCommand::Tag { note, title })),
+            None => Ok(None),
+        },
         _ => Ok(None),
     }
-}
-
-fn read_tag_with(
-    alloc: Global,
-    note: &Text,
-    title: &Text,
-) -> Result<Option<LocalCommand>, AllocError>
-    ensures means { IfOk result
-        (λ command. command ≡ both commands.Tag (word_id note.now) (line_in title.now)) }
-    ensures fit { IfOk result (λ command. IfSome command IsWellFormed) }
-{
-    let Some(note) = read_id(note) else {
-        return Ok(None);
-    };
-    let Some(title) = read_line(alloc, title)? else {
-        return Ok(None);
-    };
-    Ok(Some(LocalCommand::Tag { note, title }))
 }
 
 fn read_untag(words: &[Text]) -> Option<LocalCommand>
@@ -389,8 +360,8 @@ fn read_untag(words: &[Text]) -> Option<LocalCommand>
 {
     match words {
         [note, tag] => Some(LocalCommand::Untag {
-            note: read_id(note)?,
-            tag: read_id(tag)?,
+            note: read_typed(note)?,
+            tag: read_typed(tag)?,
         }),
         _ => None,
     }

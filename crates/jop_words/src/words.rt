@@ -1,9 +1,11 @@
 ghost use Rattle.std.specs.Prelude.{◌≡◌, IfOk};
+ghost use Rattle.local_commands.specs.TypedIds.{typed_id};
 ghost use Rattle.jop_words.specs.Words.{folder_of, word_id, kind_of, server_of, word_target};
 
 use crate::target_name::{TargetKind, TargetName};
 use dav_address::read_address;
 use jop_base::{Copied, Id, Seq, Text};
+use local_commands::TypedId;
 use std::alloc::{AllocError, Global};
 
 /// The words behind the program's name on its command line.
@@ -18,6 +20,13 @@ pub(crate) fn read_id(word: &Text) -> Option<Id>
     ensures { result ≡ word_id word.now }
 {
     Id::read(word.as_slice())
+}
+
+/// The id that a word types, whole or by its first digits.
+pub(crate) fn read_typed(word: &Text) -> Option<TypedId>
+    ensures { result ≡ typed_id word.now }
+{
+    TypedId::read(word.as_slice())
 }
 
 /// The target that a word names, if it names one.

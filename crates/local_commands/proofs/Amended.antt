@@ -78,6 +78,7 @@ told errors.SourceFault P Q so makes = absurd makes
 told errors.ClockFault P Q so makes = absurd makes
 told errors.EntropyFault P Q so makes = absurd makes
 told (errors.NotFound id) P Q so makes = absurd makes
+told (errors.NotOne count) P Q so makes = absurd makes
 told (errors.Sealed id) P Q so makes = absurd makes
 told (errors.TimeEnd id) P Q so makes = absurd makes
 told (errors.NotEmpty id) P Q so makes = absurd makes

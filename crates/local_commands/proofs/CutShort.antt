@@ -10,7 +10,7 @@ use Rattle.keeper.specs.Keepers.{KeeperNow}
 use Rattle.keeper.specs.declared.keeper_err.KeeperErr.{KeeperErr}
 use Rattle.keeper.specs.declared.keeper_err.KeeperErr.TheVariants as keeper_errors
 use Rattle.local_commands.specs.Drawing.{DrawsIds}
-use Rattle.local_commands.specs.Keeping.{ActsAll, AreDone, DoesSome, changes_among, kept_after_all, trail_of}
+use Rattle.local_commands.specs.Keeping.{ActsAll, AreDone, changes_among, kept_after_all, trail_of}
 use Rattle.local_commands.specs.Refusals.{keeper_refusal}
 use Rattle.local_commands.specs.Running.{IsCutShort, IsMade, NoneHasFailed, Plan, Runs}
 use Rattle.local_commands.specs.Stages.{IsSupplied, MakesWork, Supplies}

@@ -3,10 +3,12 @@ pub mod CutShort
 pub mod Edits
 pub mod InARow
 pub mod Leaving
+pub mod Naming
 pub mod Places
 pub mod Plain
 pub mod Shown
 pub mod Sparing
+pub mod Starts
 pub mod Tags
 pub mod Unhindered
 pub mod UserActs

@@ -15,21 +15,30 @@ use Rattle.local_store.specs.Tables.{row_at}
 use Rattle.local_store.specs.declared.tables.Tables.{Tables}
 use Rattle.local_commands.proofs.Edits.{one_updated}
 use Rattle.local_commands.proofs.Leaving.{drawn_fault, given_fault}
+use Rattle.local_commands.proofs.Naming.{one_meant}
 use Rattle.local_commands.specs.Commands.{plan_of}
-use Rattle.local_commands.specs.Commands.Amend.{ChecksAmend, comes_below, missing_for, why_fixed}
-use Rattle.local_commands.specs.Commands.Edit.{ChecksNote, why_last}
-use Rattle.local_commands.specs.Commands.Lists.{ChecksList, listed_by}
+use Rattle.local_commands.specs.Commands.Add.{add_plan}
+use Rattle.local_commands.specs.Commands.Amend.{ChecksAmend, amend_plan, comes_below, missing_for, why_fixed}
+use Rattle.local_commands.specs.Commands.Cat.{cat_plan}
+use Rattle.local_commands.specs.Commands.Edit.{ChecksNote, edit_plan, why_last}
+use Rattle.local_commands.specs.Commands.Lists.{ChecksList, list_plan, listed_by}
+use Rattle.local_commands.specs.Commands.Mkbook.{mkbook_plan}
+use Rattle.local_commands.specs.Commands.Rm.{rm_plan}
+use Rattle.local_commands.specs.Commands.Tag.{tag_plan}
+use Rattle.local_commands.specs.Commands.Untag.{untag_plan}
 use Rattle.local_commands.specs.Drawing.{DrawsIds}
 use Rattle.local_commands.specs.Following.{IsUnhindered, IsWellOrMemory, TellsFit}
+use Rattle.local_commands.specs.Naming.{of_id}
 use Rattle.local_commands.specs.Running.{IsRefusedByTables, IsUnmakeable, Plan, Runs}
 use Rattle.local_commands.specs.Taking.{GivesNoText, GivesTooMuch, IsTextIf, Takes}
+use Rattle.local_commands.specs.TypedIds.{meant_id, meant_id_if}
 use Rattle.local_commands.specs.declared.command.LocalCommand.{LocalCommand}
 use Rattle.local_commands.specs.declared.command.LocalCommand.TheVariants as commands
 use Rattle.local_commands.specs.declared.command.listing.Listing.{Listing}
 use Rattle.local_commands.specs.declared.command.listing.Listing.TheVariants as lists
 use Rattle.local_commands.specs.declared.intake.Intake.{Intake}
 use Rattle.local_commands.specs.declared.local_err.LocalErr.{LocalErr}
-use Rattle.local_commands.specs.declared.local_err.LocalErr.TheVariants.{KeeperFault, SourceFault, ClockFault, EntropyFault, NotFound, Sealed, TimeEnd, NotEmpty, BelowItself, NoConflict, TooLarge, NotText, NoMemory}
+use Rattle.local_commands.specs.declared.local_err.LocalErr.TheVariants.{KeeperFault, SourceFault, ClockFault, EntropyFault, NotFound, NotOne, Sealed, TimeEnd, NotEmpty, BelowItself, NoConflict, TooLarge, NotText, NoMemory}
 
 -- ---- the tables' answer
 
@@ -57,31 +66,57 @@ one_list lists.Resources t one other h k = h ∙ sym k
 one_list lists.Tags t one other h k = h ∙ sym k
 one_list lists.Trash t one other h k = h ∙ sym k
 
+one_move : (t : Tables) (book id : List ℕ) (one other : Option LocalErr)
+    → (amend_plan id (amendments.Book book)).Checks t one
+    → (amend_plan id (amendments.Book book)).Checks t other → one ≡ other
+one_move t book id one other h k =
+    one_amend id (missing_for t (amendments.Book book)) (comes_below t id (amendments.Book book))
+    (plain_entry id (row_at t id)) one other h k
+
 pub one_answer : (command : LocalCommand) (t : Tables) (one other : Option LocalErr)
     → (plan_of command).Checks t one → (plan_of command).Checks t other → one ≡ other
 one_answer (commands.Edit id title) t one other h k =
-    one_note id (plain_note id (row_at t id)) one other h k
-one_answer (commands.Add book title) t one other h k = h ∙ sym k
+    one_meant (meant_id t id) (λ id. (edit_plan id title).Checks t) one other
+    (λ id. one_note id (plain_note id (row_at t id)) one other) h k
+one_answer (commands.Add book title) t one other h k =
+    one_meant (meant_id t book) (λ book. (add_plan book title).Checks t) one other
+    (λ book h k. h ∙ sym k) h k
 one_answer (commands.Attach name mime) t one other h k = h ∙ sym k
-one_answer (commands.Cat id) t one other h k = h ∙ sym k
+one_answer (commands.Cat id) t one other h k =
+    one_meant (meant_id t id) (λ id. (cat_plan id).Checks t) one other (λ id h k. h ∙ sym k) h k
 one_answer (commands.Clear number) t one other h k = h ∙ sym k
 one_answer commands.Conflicts t one other h k = h ∙ sym k
 one_answer (commands.Find part) t one other h k = one_list (lists.Found part) t one other h k
-one_answer (commands.Ls book) t one other h k = one_list (listed_by book) t one other h k
-one_answer (commands.Mkbook title parent) t one other h k = h ∙ sym k
+one_answer (commands.Ls book) t one other h k =
+    one_meant (meant_id_if t book) (λ book. (list_plan (listed_by book)).Checks t) one other
+    (λ book. one_list (listed_by book) t one other) h k
+one_answer (commands.Mkbook title parent) t one other h k =
+    one_meant (meant_id_if t parent) (λ parent. (mkbook_plan title parent).Checks t) one other
+    (λ parent h k. h ∙ sym k) h k
 one_answer (commands.Move id book) t one other h k =
-    one_amend id (missing_for t (amendments.Book book)) (comes_below t id (amendments.Book book))
-    (plain_entry id (row_at t id)) one other h k
+    one_meant (meant_id t id)
+    (λ id. (of_id book (λ book. amend_plan id (amendments.Book book))).Checks t) one other
+    (λ id. one_meant (meant_id t book) (λ book. (amend_plan id (amendments.Book book)).Checks t)
+    one other (λ book. one_move t book id one other)) h k
 one_answer (commands.Rename id title) t one other h k =
-    one_amend id None false (plain_entry id (row_at t id)) one other h k
+    one_meant (meant_id t id) (λ id. (amend_plan id (amendments.Title title)).Checks t) one other
+    (λ id. one_amend id None false (plain_entry id (row_at t id)) one other) h k
 one_answer commands.Resources t one other h k = one_list lists.Resources t one other h k
-one_answer (commands.Rm id) t one other h k = h ∙ sym k
+one_answer (commands.Rm id) t one other h k =
+    one_meant (meant_id t id) (λ id. (rm_plan id).Checks t) one other (λ id h k. h ∙ sym k) h k
 one_answer (commands.Show number) t one other h k = h ∙ sym k
-one_answer (commands.Tag note title) t one other h k = h ∙ sym k
-one_answer (commands.Tagged tag) t one other h k = one_list (lists.NotesWith tag) t one other h k
+one_answer (commands.Tag note title) t one other h k =
+    one_meant (meant_id t note) (λ note. (tag_plan note title).Checks t) one other
+    (λ note h k. h ∙ sym k) h k
+one_answer (commands.Tagged tag) t one other h k =
+    one_meant (meant_id t tag) (λ tag. (list_plan (lists.NotesWith tag)).Checks t) one other
+    (λ tag. one_list (lists.NotesWith tag) t one other) h k
 one_answer commands.Tags t one other h k = one_list lists.Tags t one other h k
 one_answer commands.Trash t one other h k = one_list lists.Trash t one other h k
-one_answer (commands.Untag note tag) t one other h k = h ∙ sym k
+one_answer (commands.Untag note tag) t one other h k =
+    one_meant (meant_id t note) (λ note. (of_id tag (λ tag. untag_plan note tag)).Checks t) one other
+    (λ note. one_meant (meant_id t tag) (λ tag. (untag_plan note tag).Checks t) one other
+    (λ tag h k. h ∙ sym k)) h k
 
 -- ---- what is told
 
@@ -164,6 +199,8 @@ by_answer p old new (Err KeeperFault) decided (inl is) free =
 by_answer p old new (Err KeeperFault) decided (inr is) free = absurd (free.unfailed.keeper is.1)
 by_answer p old new (Err (NotFound id)) decided is free =
     absurd (not_refused p old new (NotFound id) decided free is)
+by_answer p old new (Err (NotOne count)) decided is free =
+    absurd (not_refused p old new (NotOne count) decided free is)
 by_answer p old new (Err (Sealed id)) decided is free =
     absurd (not_refused p old new (Sealed id) decided free is)
 by_answer p old new (Err (TimeEnd id)) decided is free =

@@ -4,6 +4,7 @@ use Rattle.std.proofs.Common.{sym, ap, subst, inl, inr}
 use Rattle.client.specs.Outside.{OutsideNow}
 use Rattle.law_licences.specs.Deeds.{deeds_of}
 use Rattle.law_licences.specs.Licences.{Each, IsLocal, MayDo, ObeysData}
+use Rattle.law_licences.specs.Sealing.{no_keys}
 use Rattle.law_licences.specs.Views.{View, at_rest, view_after_change}
 use Rattle.local_store.specs.Changing.{after}
 use Rattle.local_store.specs.declared.change.Change.{Change}
@@ -68,12 +69,12 @@ follows_changes p old new answer runs none =
 
 -- a user's change leaves a client in no session
 local_rest : (t : Tables) (change : Change) → IsLocal change
-    → view_after_change (at_rest t) change ≡ at_rest (after t change)
+    → view_after_change (at_rest no_keys t) change ≡ at_rest no_keys (after t change)
 local_rest t (ContextIs context) local = absurd local
 local_rest t change local = refl
 
 licensed : (bytes : Bool) (n : ℕ) (t : Tables) (acts : List Act) → AreLocal bytes acts
-    → ObeysData (at_rest t) (deeds_of (trail_of n (changes_among acts)) (changes_among acts))
+    → ObeysData (at_rest no_keys t) (deeds_of (trail_of n (changes_among acts)) (changes_among acts))
 unfolding deeds_of Each
 licensed bytes n t [] local = tt
 licensed bytes n t (SaveBlob blob ∷ acts) local = licensed bytes n t acts local.1

@@ -28,6 +28,7 @@ use Rattle.local_commands.specs.Commands.Rm.{rm_plan}
 use Rattle.local_commands.specs.Commands.Show.{show_plan}
 use Rattle.local_commands.specs.Commands.Tag.{tag_plan}
 use Rattle.local_commands.specs.Commands.Untag.{untag_plan}
+use Rattle.local_commands.specs.Naming.{of_id, of_id_if, of_two_ids}
 use Rattle.local_commands.specs.Running.{Plan}
 use Rattle.local_changes.specs.declared.amend.Amendment.TheVariants as amendments
 use Rattle.local_commands.specs.declared.command.listing.Listing.TheVariants as lists
@@ -58,22 +59,23 @@ IsWellFormed (commands.Untag note tag) = Unit {0}
 
 -- what each command is
 abbrev pub plan_of : LocalCommand → Plan
-plan_of (commands.Add book title) = add_plan book title
+plan_of (commands.Add book title) = of_id book (λ book. add_plan book title)
 plan_of (commands.Attach name mime) = attach_plan name mime
-plan_of (commands.Cat id) = cat_plan id
+plan_of (commands.Cat id) = of_id id (λ id. cat_plan id)
 plan_of (commands.Clear number) = clear_plan number
 plan_of commands.Conflicts = conflicts_plan
-plan_of (commands.Edit id title) = edit_plan id title
+plan_of (commands.Edit id title) = of_id id (λ id. edit_plan id title)
 plan_of (commands.Find part) = list_plan (lists.Found part)
-plan_of (commands.Ls book) = list_plan (listed_by book)
-plan_of (commands.Mkbook title parent) = mkbook_plan title parent
-plan_of (commands.Move id book) = amend_plan id (amendments.Book book)
-plan_of (commands.Rename id title) = amend_plan id (amendments.Title title)
+plan_of (commands.Ls book) = of_id_if book (λ book. list_plan (listed_by book))
+plan_of (commands.Mkbook title parent) = of_id_if parent (λ parent. mkbook_plan title parent)
+plan_of (commands.Move id book) =
+    of_two_ids id book (λ id book. amend_plan id (amendments.Book book))
+plan_of (commands.Rename id title) = of_id id (λ id. amend_plan id (amendments.Title title))
 plan_of commands.Resources = list_plan lists.Resources
-plan_of (commands.Rm id) = rm_plan id
+plan_of (commands.Rm id) = of_id id (λ id. rm_plan id)
 plan_of (commands.Show number) = show_plan number
-plan_of (commands.Tag note title) = tag_plan note title
-plan_of (commands.Tagged tag) = list_plan (lists.NotesWith tag)
+plan_of (commands.Tag note title) = of_id note (λ note. tag_plan note title)
+plan_of (commands.Tagged tag) = of_id tag (λ tag. list_plan (lists.NotesWith tag))
 plan_of commands.Tags = list_plan lists.Tags
 plan_of commands.Trash = list_plan lists.Trash
-plan_of (commands.Untag note tag) = untag_plan note tag
+plan_of (commands.Untag note tag) = of_two_ids note tag (λ note tag. untag_plan note tag)

@@ -1,8 +1,11 @@
+pub mod IdStarts
+pub mod TypedIds
 pub mod Refusals
 pub mod Keeping
 pub mod Taking
 pub mod Drawing
 pub mod Running
+pub mod Naming
 pub mod Sparing
 pub mod Stages
 pub mod Following

@@ -11,7 +11,7 @@ use Rattle.local_commands.specs.declared.drawing.Drawing.TheVariants.{NoId}
 use Rattle.local_commands.specs.declared.drawing.Ids.{Ids}
 use Rattle.local_commands.specs.declared.intake.Intake.{Intake}
 use Rattle.local_commands.specs.declared.local_err.LocalErr.{LocalErr}
-use Rattle.local_commands.specs.declared.local_err.LocalErr.TheVariants.{KeeperFault, SourceFault, ClockFault, EntropyFault, NotFound, Sealed, TimeEnd, NotEmpty, BelowItself, NoConflict, TooLarge, NotText, NoMemory}
+use Rattle.local_commands.specs.declared.local_err.LocalErr.TheVariants.{KeeperFault, SourceFault, ClockFault, EntropyFault, NotFound, NotOne, Sealed, TimeEnd, NotEmpty, BelowItself, NoConflict, TooLarge, NotText, NoMemory}
 use Rattle.local_commands.specs.declared.work.Work.{Work}
 use Rattle.local_commands.specs.Drawing.{DrawsIds, FailsToDraw}
 use Rattle.local_commands.specs.Keeping.{AreDone, AreLocal, DoesSome}
@@ -169,6 +169,7 @@ abbrev pub Runs : Plan → OutsideNow → Result (List ℕ) LocalErr → Outside
 Runs p old (Ok text) new = IsDone p old new text
 Runs p old (Err KeeperFault) new = IsEndedByKeeper p old new
 Runs p old (Err (NotFound id)) new = IsRefusedByTables p old new (NotFound id)
+Runs p old (Err (NotOne count)) new = IsRefusedByTables p old new (NotOne count)
 Runs p old (Err (Sealed id)) new = IsRefusedByTables p old new (Sealed id)
 Runs p old (Err (TimeEnd id)) new = IsRefusedByTables p old new (TimeEnd id)
 Runs p old (Err (NotEmpty id)) new = IsRefusedByTables p old new (NotEmpty id)

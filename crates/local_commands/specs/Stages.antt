@@ -12,7 +12,7 @@ use Rattle.local_commands.specs.declared.drawing.Drawing.{Drawing}
 use Rattle.local_commands.specs.declared.drawing.Ids.{Ids}
 use Rattle.local_commands.specs.declared.intake.Intake.{Intake}
 use Rattle.local_commands.specs.declared.local_err.LocalErr.{LocalErr}
-use Rattle.local_commands.specs.declared.local_err.LocalErr.TheVariants.{SourceFault, NotFound, Sealed, TimeEnd, NotEmpty, BelowItself, NoConflict, TooLarge, NotText, NoMemory}
+use Rattle.local_commands.specs.declared.local_err.LocalErr.TheVariants.{SourceFault, NotFound, NotOne, Sealed, TimeEnd, NotEmpty, BelowItself, NoConflict, TooLarge, NotText, NoMemory}
 use Rattle.local_commands.specs.declared.needs.Needs.{Needs}
 use Rattle.local_commands.specs.declared.supply.Supply.{Supply}
 use Rattle.local_commands.specs.declared.work.Work.{Work}
@@ -27,6 +27,7 @@ use Rattle.local_commands.specs.Taking.{FailsToGive, GivesNoText, GivesTooMuch, 
 -- the refusals that are the tables' to give
 abbrev pub IsOfTables : LocalErr → Type 0
 IsOfTables (NotFound id) = Unit {0}
+IsOfTables (NotOne count) = Unit {0}
 IsOfTables (Sealed id) = Unit {0}
 IsOfTables (TimeEnd id) = Unit {0}
 IsOfTables (NotEmpty id) = Unit {0}

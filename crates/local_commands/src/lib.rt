@@ -14,18 +14,22 @@ mod clock;
 mod command;
 mod drawing;
 mod finding;
+mod id_start;
 mod intake;
 mod laws;
 mod lines;
 mod local_err;
 mod needs;
 mod obeying;
+mod start_count;
 mod supply;
+mod typed_id;
 mod work;
 
 pub use act::Act;
 pub use command::LocalCommand;
 pub use command::attach::BLOB_LIMIT;
+pub use id_start::IdStart;
 pub use intake::BODY_LIMIT;
 pub use laws::{
     acts_change_tables_by_their_changes, acts_note_their_changes, commands_make_licensed_changes,
@@ -34,3 +38,5 @@ pub use laws::{
 };
 pub use local_err::LocalErr;
 pub use obeying::obey;
+pub use start_count::StartCount;
+pub use typed_id::TypedId;

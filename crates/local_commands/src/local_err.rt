@@ -1,3 +1,4 @@
+use crate::start_count::StartCount;
 use jop_base::Id;
 use keeper::KeeperErr;
 use local_changes::StoreErr;
@@ -17,6 +18,8 @@ pub enum LocalErr {
     EntropyFault,
     /// No row of this id is of the kind that is wanted.
     NotFound(Id),
+    /// It isn't one row whose id begins so, but none or several.
+    NotOne(StartCount),
     /// The row of this id is sealed.
     Sealed(Id),
     /// The note of this id was last changed at [`jop_base::MAX_TIME`].
@@ -43,6 +46,17 @@ impl From<AllocError> for LocalErr {
 
     fn from(_error: AllocError) -> LocalErr {
         LocalErr::NoMemory
+    }
+}
+
+impl From<StartCount> for LocalErr {
+    ghost use Rattle.std.specs.Prelude.{◌≡◌};
+    ghost use Rattle.local_commands.specs.declared.local_err.LocalErr.TheVariants.{NotOne};
+
+    ghost from_gives = { λ c e. e ≡ NotOne c };
+
+    fn from(count: StartCount) -> LocalErr {
+        LocalErr::NotOne(count)
     }
 }
 

@@ -44,6 +44,12 @@ abbrev pub comes_below : Tables → List ℕ → Amendment → Bool
 comes_below t id (amendments.Title title) = false
 comes_below t id (amendments.Book book) = is_within (length t.rows) t id book
 
+-- what the tables refuse of a move into a notebook
+abbrev pub ChecksMove : Tables → List ℕ → List ℕ → Option LocalErr → Type 0
+ChecksMove t id book refusal =
+    ChecksAmend id (option_map NotFound (missing_book t (Some book)))
+    (is_within (length t.rows) t id book) (plain_entry id (row_at t id)) refusal
+
 -- ---- what is made
 
 -- the note or notebook is saved with another title, or in another notebook

@@ -4,7 +4,7 @@ ghost use Rattle.local_changes.specs.Amending.{IsFitAmendment, plain_entry};
 ghost use Rattle.local_store.specs.Tables.{row_at};
 ghost use Rattle.local_commands.specs.Books.{is_within, missing_book};
 ghost use Rattle.local_store.specs.Sound.{IsSound};
-ghost use Rattle.local_commands.specs.Commands.Amend.{ChecksAmend, MakesAmend, amend_plan};
+ghost use Rattle.local_commands.specs.Commands.Amend.{ChecksAmend, ChecksMove, MakesAmend, amend_plan};
 ghost use Rattle.local_commands.specs.Stages.{ChecksOr, MakesOr};
 ghost use Rattle.local_commands.specs.declared.local_err.LocalErr.TheVariants.{NotFound};
 
@@ -42,10 +42,7 @@ pub(crate) fn check_entry(tables: &Tables, id: &Id) -> Result<(), LocalErr>
 /// `NotFound` exactly if no row of `book` is a notebook, then as [`check_entry`], and then `BelowItself` exactly
 /// if `book` is the notebook that is moved, or stands below it.
 pub(crate) fn check_move(tables: &Tables, id: &Id, book: &Id) -> Result<(), LocalErr>
-    ensures { ChecksOr (ChecksAmend id.now
-        (option_map NotFound (missing_book tables.now (Some book.now)))
-        (is_within (length tables.now.rows) tables.now id.now book.now)
-        (plain_entry id.now (row_at tables.now id.now))) result }
+    ensures { ChecksOr (ChecksMove tables.now id.now book.now) result }
 {
     check_book(tables, &Some(*book))?;
     check_entry(tables, id)?;
