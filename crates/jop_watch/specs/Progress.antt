@@ -1,5 +1,5 @@
 -- How far a session has come, by its calls and their replies, and when that is drawn.
-use Rattle.std.specs.Prelude.{ℕ, ◌-◌, Bool, true, List, ◌++◌, codes, filter, length, nat_le, nat_eq, if◌then◌else◌, Option, Some, None}
+use Rattle.std.specs.Prelude.{ℕ, ◌-◌, Bool, true, false, List, ◌++◌, codes, filter, length, nat_le, nat_eq, if◌then◌else◌, Option, Some, None}
 use Rattle.std.specs.Fmt.{decimal}
 use Rattle.jop_base.specs.declared.dir.Dir.TheVariants.{Root}
 use Rattle.jop_base.specs.declared.path.Path.TheVariants.{Item}
@@ -14,6 +14,16 @@ use Rattle.local_store.specs.declared.row.Row.{Row}
 -- how many of these rows wait to be uploaded
 abbrev pub count_waiting : List Row → ℕ
 count_waiting rows = length (filter (λ (r : Row). r.pending) rows)
+
+-- nothing was done yet, and nothing is known to wait
+abbrev pub no_progress : Progress
+no_progress = record {
+  waiting = record { rows = 0; deletions = 0 };
+  uploaded = 0;
+  deleted = 0;
+  listed = false;
+  received = 0;
+}
 
 -- what is got before the root is listed is what an upload checks, and isn't received
 abbrev pub progress_after : Progress → Call → Reply → Progress

@@ -1,3 +1,7 @@
+ghost use Rattle.std.specs.Prelude.{◌≡◌, IfOk};
+ghost use Rattle.std.specs.String.{string_bytes};
+ghost use Rattle.jop_watch.specs.Watching.{log_line};
+
 use crate::waiting::Waiting;
 use crate::watcher::Watcher;
 use jop_outside::{Sink, write_whole};
@@ -12,12 +16,20 @@ pub struct CallLog<S: Sink + Drop> {
 }
 
 impl<S: Sink + Drop> CallLog<S> {
-    pub fn new(sink: S) -> CallLog<S> {
+    /// Nothing is written yet.
+    pub fn new(sink: S) -> CallLog<S>
+        ensures { result ≡ record { sink = sink } }
+    {
         CallLog { sink }
     }
 }
 
 impl<S: Sink + Drop> Watcher for CallLog<S> {
+    ghost use Rattle.jop_watch.specs.Watching.{Logs};
+
+    ghost hears = { λ old waiting call reply new.
+        Logs (S.state old.sink) call reply (S.state new.sink) };
+
     fn heard(&mut self, alloc: Global, _waiting: Waiting, call: &Call, reply: &Reply) {
         if let Ok(line) = line_of(alloc, call, reply) {
             let _ = write_whole(&mut self.sink, line.as_bytes());
@@ -25,7 +37,9 @@ impl<S: Sink + Drop> Watcher for CallLog<S> {
     }
 }
 
-fn line_of(alloc: Global, call: &Call, reply: &Reply) -> Result<String, AllocError> {
+fn line_of(alloc: Global, call: &Call, reply: &Reply) -> Result<String, AllocError>
+    ensures { IfOk result (λ line. string_bytes line ≡ log_line call.now reply.now) }
+{
     match reply {
         Reply::Listed(listing) => {
             let (now, count) = (listing.now, listing.entries.len());

@@ -1,5 +1,6 @@
-ghost use Rattle.std.specs.Prelude.{◌≡◌};
-ghost use Rattle.jop_watch.specs.Progress.{may_draw};
+ghost use Rattle.std.specs.Prelude.{◌≡◌, None};
+ghost use Rattle.jop_watch.specs.Progress.{may_draw, no_progress};
+ghost use Rattle.jop_watch.specs.Watching.{SendsLine, MayDrawLine, TakesAway};
 
 use crate::progress::Progress;
 use crate::waiting::Waiting;
@@ -8,6 +9,7 @@ use jop_base::Path;
 use jop_outside::{Clock, Sink, write_whole};
 use jop_target::{Call, Reply};
 use std::alloc::Global;
+use std::marker::Model;
 
 /// For so many milliseconds nothing is drawn.
 const PATIENCE: u64 = 1000;
@@ -28,9 +30,29 @@ pub struct Gauge<C: Clock + Drop, S: Sink + Drop> {
     drawn: Option<u64>,
 }
 
+impl<C: Clock + Drop, S: Sink + Drop> Model for Gauge<C, S> {
+    ghost use Rattle.jop_watch.specs.Watching.{GaugeNow};
+
+    ghost Value = { GaugeNow };
+
+    ghost view = { λ g. record {
+      clock = C.state g.clock;
+      terminal = S.state g.terminal;
+      progress = g.progress;
+      began = g.began;
+      drawn = g.drawn;
+    } };
+}
+
 impl<C: Clock + Drop, S: Sink + Drop> Gauge<C, S> {
     /// Nothing stands on the terminal yet. The clock shows milliseconds, since whenever.
-    pub fn new(clock: C, terminal: S) -> Gauge<C, S> {
+    pub fn new(clock: C, terminal: S) -> Gauge<C, S>
+        ensures clock { result.clock ≡ C.state clock }
+        ensures terminal { result.terminal ≡ S.state terminal }
+        ensures progress { result.progress ≡ no_progress }
+        ensures began { result.began ≡ None }
+        ensures drawn { result.drawn ≡ None }
+    {
         Gauge {
             clock,
             terminal,
@@ -41,7 +63,9 @@ impl<C: Clock + Drop, S: Sink + Drop> Gauge<C, S> {
     }
 
     /// Draws the line, if it is time to.
-    fn draw(&mut self, alloc: Global) {
+    fn draw(&mut self, alloc: Global)
+        ensures { MayDrawLine self.old self.new }
+    {
         if let Ok(now) = self.clock.now() {
             let began = self.began.unwrap_or(now);
             self.began = Some(began);
@@ -52,7 +76,10 @@ impl<C: Clock + Drop, S: Sink + Drop> Gauge<C, S> {
         }
     }
 
-    fn show(&mut self, alloc: Global) {
+    fn show(&mut self, alloc: Global)
+        ensures drawn { SendsLine self.old.progress self.old.terminal self.new.terminal }
+        ensures same { self.new ≡ record self.old { terminal = self.new.terminal } }
+    {
         let progress = self.progress;
         if let Ok(line) = format!(in alloc; "\r\u{1b}[K{progress}") {
             let _ = write_whole(&mut self.terminal, line.as_bytes());
@@ -60,7 +87,9 @@ impl<C: Clock + Drop, S: Sink + Drop> Gauge<C, S> {
     }
 
     /// Takes the line away.
-    fn clear(&mut self) {
+    fn clear(&mut self)
+        ensures { TakesAway self.old self.new }
+    {
         if self.drawn.take().is_some() {
             let _ = write_whole(&mut self.terminal, b"\r\x1b[K");
         }
@@ -79,6 +108,10 @@ fn is_due(began: u64, drawn: Option<u64>, now: u64) -> bool
 }
 
 impl<C: Clock + Drop, S: Sink + Drop> Watcher for Gauge<C, S> {
+    ghost use Rattle.jop_watch.specs.Watching.{Gauges};
+
+    ghost hears = { Gauges };
+
     fn heard(&mut self, alloc: Global, waiting: Waiting, call: &Call, reply: &Reply) {
         self.progress.waiting = waiting;
         self.progress.after(call, reply);

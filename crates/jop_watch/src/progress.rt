@@ -1,6 +1,6 @@
 ghost use Rattle.std.specs.Prelude.{◌≡◌, false};
 ghost use Rattle.jop_outside.specs.Outside.{risen};
-ghost use Rattle.jop_watch.specs.Progress.{progress_after};
+ghost use Rattle.jop_watch.specs.Progress.{no_progress, progress_after};
 
 use crate::waiting::Waiting;
 use jop_base::{Dir, Path};
@@ -21,13 +21,7 @@ pub struct Progress {
 impl Progress {
     /// Nothing was done yet.
     pub fn new() -> Progress
-        ensures { result ≡ record {
-          waiting = record { rows = 0; deletions = 0 };
-          uploaded = 0;
-          deleted = 0;
-          listed = false;
-          received = 0;
-        } }
+        ensures { result ≡ no_progress }
     {
         Progress {
             waiting: Waiting::none(),
