@@ -1,3 +1,4 @@
+ghost use Rattle.sync_run.specs.Ordering.{AddsTaskInOrder, GoesInOrder};
 ghost use Rattle.sync_run.specs.Sessions.{AddsTask, EndsAs, GoesBy, HasBegun, RunsBy};
 
 use crate::session_err::{SessionErr, has_ended};
@@ -16,6 +17,7 @@ pub(crate) fn make_session<W: Task, T: Target>(
     ensures session { AddsTask W.calls W.answers client.now diary.old.events diary.new.events result }
     ensures line { GoesBy W.calls client.now diary.old.events diary.new.events (T.state target.old)
         (T.state target.new) }
+    ensures order { AddsTaskInOrder diary.old.events result diary.new.events }
 {
     diary.begin()?;
     let outcome = hold::<W, T>(alloc, target, client, diary);
@@ -36,6 +38,7 @@ fn hold<W: Task, T: Target>(
     ensures runs { RunsBy W.calls client.now diary.old.events diary.new.events (T.state target.old)
         (T.state target.new) }
     ensures ends { EndsAs W.answers client.now diary.old.events diary.new.events result }
+    ensures order { GoesInOrder diary.old.events result diary.new.events }
 {
     let mut line = TargetLine { target, diary };
     W::run(alloc, &mut line, client)

@@ -1,6 +1,7 @@
 ghost use Rattle.std.specs.Prelude.{List, Result, ℕ};
 ghost use Rattle.jop_target.specs.declared.event.Event.{Event};
 ghost use Rattle.lease.specs.WholeSession.{IsInner};
+ghost use Rattle.sync_run.specs.Ordering.{GoesInOrder};
 ghost use Rattle.sync_run.specs.Sessions.{HasBegun, RunsTask};
 ghost use Rattle.sync_run.specs.declared.session_err.SessionErr.{SessionErr};
 
@@ -29,6 +30,8 @@ pub(crate) trait Task {
         requires { HasBegun client.now (L.state line.old).trail }
         ensures runs { RunsTask
             calls answers client.now (L.state line.old) (L.state line.new) result }
+        // The refusal that its calls call for is given, and nothing is called behind them.
+        ensures order { GoesInOrder (L.state line.old).trail result (L.state line.new).trail }
         ensures keeps { L.keeps line.old line.new };
 
     ghost inner: { (client : List ℕ) (event : Event) → calls client event → IsInner event };

@@ -1,7 +1,9 @@
-ghost use Rattle.std.specs.Prelude.{◌≡◌};
+ghost use Rattle.std.specs.Prelude.{◌≡◌, Ok};
 ghost use Rattle.target_upgrade.specs.Answers.{StandsAt, WorkGoesOn};
 ghost use Rattle.target_upgrade.specs.Reading.{IsFoundAt};
 ghost use Rattle.target_upgrade.specs.Steps.{Reads};
+ghost use Rattle.target_upgrade.specs.Verdict.{AwaitsInfo, judged_version};
+ghost use Rattle.sync_run.specs.Ordering.{AddsTaskInOrder, ComesInOrderAfter, LeavesInOrder};
 ghost use Rattle.sync_run.specs.Outcomes.{Comes, StandsFor};
 ghost use Rattle.sync_run.specs.Upgrades.{AddsUpgrade, RunsUpgrade, UpgradeAnswers, UpgradeCalls};
 ghost use Rattle.sync_run.specs.Upgrades.{UpgradeGoesOn, UpgradeKeepsLease, answer_by, answer_released};
@@ -41,6 +43,10 @@ pub fn upgrade_on<T: Target>(
     // busy answer names stood in the way; and done once, or behind an upgrade that was stopped
     // anywhere, it leaves the upgraded target.
     ensures keeps { UpgradeKeepsLease client.now result diary.old.events diary.new.events }
+
+    // Once its calls say that the target's version is newer, or that its info can't be read, nothing more is called but
+    // what the lease does by itself, and that is what is answered, unless memory runs out.
+    ensures order { AddsTaskInOrder diary.old.events result diary.new.events }
 {
     held_apart();
     exclusive();
@@ -76,6 +82,8 @@ fn upgrade_held<L: Line>(
 ) -> Result<Outcome, LeaseErr>
     requires { StandsAt lease.old (L.state line.old).trail Reads }
     ensures comes { Comes lease.old lease.new (L.state line.old) (L.state line.new) result }
+    ensures order { ComesInOrderAfter AwaitsInfo
+        (L.state line.old).trail result (L.state line.new).trail }
     ensures goes { WorkGoesOn lease.old.client (L.state line.old) (L.state line.new) }
     ensures keeps { L.keeps line.old line.new }
 {
@@ -95,6 +103,8 @@ fn upgrade_found<L: Line>(
 ) -> Result<Outcome, LeaseErr>
     requires { IsFoundAt lease.old found (L.state line.old).trail }
     ensures comes { Comes lease.old lease.new (L.state line.old) (L.state line.new) result }
+    ensures order { ComesInOrderAfter (judged_version found.version)
+        (L.state line.old).trail result (L.state line.new).trail }
     ensures goes { WorkGoesOn lease.old.client (L.state line.old) (L.state line.new) }
     ensures keeps { L.keeps line.old line.new }
 {
@@ -115,6 +125,7 @@ fn leave<L: Line>(
 ) -> Result<u64, SessionErr>
     requires { StandsFor lease (L.state line.old).trail outcome }
     ensures runs { RunsUpgrade lease.client (L.state line.old) (L.state line.new) result }
+    ensures order { LeavesInOrder outcome (L.state line.old).trail result (L.state line.new).trail }
     ensures keeps { L.keeps line.old line.new }
 {
     let released = release(alloc, line, lease);

@@ -4,6 +4,7 @@ ghost use Rattle.sync_info.specs.Info.{new_info};
 ghost use Rattle.target_upgrade.specs.Answers.{HasCome, StandsAt, Stops, WorkGoesOn};
 ghost use Rattle.target_upgrade.specs.Reading.{HasFound, StopsReading, ReplyTells};
 ghost use Rattle.target_upgrade.specs.Steps.{Reads, ReadsOld, starts};
+ghost use Rattle.target_upgrade.specs.Verdict.{AwaitsInfo, FindsInOrder, upgrade_verdict_of};
 
 use crate::asking::ask;
 use jop_base::Path;
@@ -51,6 +52,11 @@ pub fn read_version<L: Line>(
     ensures ok { IfOk result (λ found. HasFound lease.old lease.new found (L.state line.new)) }
     ensures err { let before = L.state line.old in
         IfErr result (StopsReading lease.old lease.new before (L.state line.new)) }
+
+    // If its session had called nothing, it finds what its calls say, and calls nothing behind a refusal that is due.
+    ensures order { upgrade_verdict_of (L.state line.old).trail ≡ AwaitsInfo
+        → FindsInOrder result (upgrade_verdict_of (L.state line.new).trail) }
+
     ensures goes { WorkGoesOn lease.old.client (L.state line.old) (L.state line.new) }
     ensures keeps { L.keeps line.old line.new }
 {

@@ -6,6 +6,7 @@ use Rattle.lease.proofs.WholeSessions.{continues_marked, continues_unmarked}
 use Rattle.sync_run.specs.Sessions.{IsMarkOr}
 use Rattle.sync_run.proofs.Held.{has_begun}
 use Rattle.sync_run.proofs.Whole.{adds_ended, adds_nothing, adds_unended, as_marked}
+use Rattle.sync_run.proofs.Ordered.{begins_unread, none_in_order, open_in_order, whole_in_order}
 use Rattle.sync_run.proofs.making.make_session.Goals as goal
 
 pub hold-outcome-requires : goal.hold-outcome-requires
@@ -57,3 +58,25 @@ returns-else-has_ended-clause-line g c =
     let P = IsMarkOr (g.W.Task.calls c.args.client.now) in
     continues_on P _ _ _ (continues_marked P _ _ _ _ refl tt c.in_ok-begin.ensures.ok)
     (as_marked (g.W.Task.calls c.args.client.now) _ _ c.hold-outcome.ensures.runs.goes.line)
+
+pub returns-in_err-begin-clause-order : goal.returns-in_err-begin-clause-order
+returns-in_err-begin-clause-order g c = none_in_order _ _ _ c.in_err-begin.ensures.err
+
+-- there was room for the end
+pub returns-in_err-end-clause-order : goal.returns-in_err-end-clause-order
+returns-in_err-end-clause-order g c =
+    absurd (has_room _ _ c.hold-outcome.ensures.runs.goes.running c.in_err-end.ensures.ends)
+
+pub returns-in_ok-end-clause-order : goal.returns-in_ok-end-clause-order
+returns-in_ok-end-clause-order g c =
+    let begun = c.in_ok-begin.ensures.ok in
+    let line = c.hold-outcome.ensures.runs.goes.line in
+    whole_in_order _ _ _ line.more _ _ begun line.trail c.in_ok-end.ensures.ok
+    (c.hold-outcome.ensures.order (begins_unread _ _ begun))
+
+pub returns-else-has_ended-clause-order : goal.returns-else-has_ended-clause-order
+returns-else-has_ended-clause-order g c =
+    let begun = c.in_ok-begin.ensures.ok in
+    let line = c.hold-outcome.ensures.runs.goes.line in
+    open_in_order _ _ _ line.more _ begun line.trail
+    (c.hold-outcome.ensures.order (begins_unread _ _ begun))

@@ -5,6 +5,7 @@ use Rattle.lease.proofs.NoFailures.{none_failed_on}
 use Rattle.lease.proofs.Works.{none_failed}
 use Rattle.sync_run.proofs.Starved.{none_failed_outcome, none_failed_starved}
 use Rattle.sync_run.proofs.Held.{goes_acquired, goes_left, goes_under, released_none, runs_left, runs_stopped, runs_upgrade, stands_acquired, whose, work_of}
+use Rattle.sync_run.proofs.Ordered.{read_under, still_unread, stops_in_order}
 use Rattle.sync_run.proofs.upgrading.UpgradeTask.run.Goals as goal
 
 pub returns-in_err-lease-clause-runs : goal.returns-in_err-lease-clause-runs
@@ -40,3 +41,18 @@ returns-clause-runs g c =
     c.upgrade_held.ensures.goes) in
     runs_left _ after _ _ _ _ (client_same lease after same ∙ whose _ _ _ c.in_ok-lease.ensures.gives)
     goes none c.leave.ensures.runs
+
+pub returns-in_err-lease-clause-order : goal.returns-in_err-lease-clause-order
+returns-in_err-lease-clause-order g c = still_unread _ _ _ _ c.acquire.ensures.goes
+
+pub returns-in_err-outcome-clause-order : goal.returns-in_err-outcome-clause-order
+returns-in_err-outcome-clause-order g c unread =
+    let p = err_from_is_err_and c.from_residual-in_err-outcome.result
+    c.from_residual-in_err-outcome.ensures.1 in
+    rw (p.1, p.2) (stops_in_order _ _
+    (c.in_err-outcome.ensures.order (read_under _ _ _ c.acquire.ensures.goes unread)))
+
+pub returns-clause-order : goal.returns-clause-order
+returns-clause-order g c unread =
+    c.leave.ensures.order
+    (c.in_ok-outcome.ensures.order (read_under _ _ _ c.acquire.ensures.goes unread))
