@@ -15,6 +15,7 @@ use Rattle.law_licences.specs.Conflicts.{MayConflict}
 use Rattle.law_licences.specs.Items.{item_of_file}
 use Rattle.law_licences.specs.Leaving.{MayMove}
 use Rattle.law_licences.specs.Licences.{IsInside, IsLocal, MayChange, MayMakeAt, MayMake}
+use Rattle.law_licences.specs.Opens.{MayOpen}
 use Rattle.law_licences.specs.Pages.{MayTake, MayGo}
 use Rattle.law_licences.specs.Puts.{MayUpload}
 use Rattle.law_licences.specs.Views.{View, Stage, Outside, Working, Finished}
@@ -26,10 +27,10 @@ use Rattle.law_kept.specs.Own.{OwnSession, Out, Own, own_after}
 use Rattle.law_kept.specs.Standing.{Standing, stands_changed, stands_after, file_after, without_number}
 use Rattle.law_kept.specs.Telling.{number_if, change_act, item_change, change_told}
 use Rattle.law_kept.proofs.Copies.{copies_less}
-use Rattle.law_kept.proofs.Licensed.{idle_row, its_licence, upload_known, take_known, conflict_known}
+use Rattle.law_kept.proofs.Licensed.{idle_row, its_licence, upload_known, take_known, conflict_known, open_known}
 use Rattle.law_kept.proofs.Rows.{with_own, with_other, without_own, without_other, base_known, put_known, put_beside, cut_known, cut_beside, uploaded_known, uploaded_beside, opened_known, opened_beside, conflicted_known, conflicted_beside, removed_known, removed_beside, dropped_known, dropped_beside, by_id}
 use Rattle.law_kept.proofs.TrueCalls.{GotIsTrue, IsTrue}
-use Rattle.law_kept.proofs.TrueChanges.{Parts, parts_of, parts_beside, uploaded_parts, uploaded_aside, conflicted_aside, taken_parts, conflict_parts, moved_parts, parts_by_id, session_change}
+use Rattle.law_kept.proofs.TrueChanges.{Parts, parts_of, parts_beside, uploaded_parts, uploaded_aside, conflicted_aside, taken_parts, conflict_parts, moved_parts, parts_by_id, session_change, none_opened}
 
 -- ---- known
 
@@ -98,6 +99,9 @@ change_inside id next v (tables.Moved i) is may =
 change_inside id next v (tables.Gone i) is may =
     its_licence id i (known id v) Gone
     (λ e. idle_row v id (subst (λ (k : List ℕ). MayGo v k) e may).unchanged)
+change_inside id next v (tables.Opened i item) is may =
+    its_licence id i (known id v) (Opened item)
+    (λ e. open_known v id item (subst (λ (k : List ℕ). MayOpen v k item) e may))
 change_inside id next v (tables.InfoIs info) is may = refl
 change_inside id next v (tables.ContextIs context) is may = refl
 change_inside id next v c is may = absurd may
@@ -179,7 +183,8 @@ change_parts id v t s file (tables.Gone i) h may =
     (λ d. parts_beside id v.tables (without_row v.tables i) s h.row h.copies
     (without_other v.tables i id d) refl)
 change_parts id v t s file (tables.Opened i item) h may =
-    absurd (session_change v.stage v (tables.Opened i item) (λ l. l) may)
+    let may_open = session_change v.stage v (tables.Opened i item) (λ l. l) may in
+    absurd (none_opened v.sealing may_open.outer item h.keyless may_open.opens)
 change_parts id v t s file (tables.Cleared number) h may = record {
   row = h.row;
   copies = ap (without_number number) h.copies ∙ copies_less id number v.tables.conflicts;
@@ -205,6 +210,7 @@ true_changed id v t s file c h may allowed =
       got = subst
           (λ (got : Option Item). GotIsTrue id (check_known (last_on id v.calls)) got)
           (sym parts.got) h.got;
+      keyless = h.keyless;
     })
 
 -- a change leaves the file

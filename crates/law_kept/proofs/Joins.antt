@@ -11,7 +11,9 @@ use Rattle.local_store.specs.declared.change.Change.{Change}
 use Rattle.local_store.specs.declared.tables.Tables.{Tables}
 use Rattle.law_licences.proofs.Joins.{Each-append}
 use Rattle.law_licences.specs.Deeds.{Deed, Begins, Asks, Makes, MakesUntold, Ends, Stops, deed_by, deeds_in, deeds_of}
-use Rattle.law_licences.specs.Licences.{Each, MayDo, ObeysData}
+use Rattle.law_licences.specs.Licences.{Each, MayDoBySome, ObeysBySome, ObeysData}
+use Rattle.law_licences.specs.Sealing.{Sealing, no_keys}
+use Rattle.law_licences.proofs.Keyed.{by_some, by_some_keyed}
 use Rattle.law_licences.specs.Views.{View, seen, at_rest, view_from}
 use Rattle.law_kept.proofs.Clients.{same_or_not}
 use Rattle.law_kept.proofs.Keeping.{item_obeyed}
@@ -83,10 +85,10 @@ deeds_told client (s ∷ ss) told goes =
 
 -- ---- all obey
 
-stops_obey : (v : View) (ds : List Deed) → AreStops ds → ObeysData v ds
+stops_obey : (v : View) (ds : List Deed) → AreStops ds → ObeysBySome v ds
 unfolding Each AreStops
 stops_obey v [] over = tt
-stops_obey v (Stops ∷ ds) over = (tt, stops_obey (seen v Stops) ds over)
+stops_obey v (Stops ∷ ds) over = ((v.sealing, tt), stops_obey (seen v Stops) ds over)
 stops_obey v (Begins ∷ ds) over = absurd over
 stops_obey v (Asks call reply ∷ ds) over = absurd over
 stops_obey v (Makes change ∷ ds) over = absurd over
@@ -103,31 +105,34 @@ run_told tale client t trail made ends =
     (sym changes)
     ∙ deeds_told client ends.run ends.told.told ends.whole)
 
-client_obeys : (tale : Tale) (client : List ℕ) (t : Tables) (trail : List Event)
+client_obeys : (tale : Tale) (client : List ℕ) (s : Sealing) (t : Tables) (trail : List Event)
     (made : List Change) → EndsInRun tale client t trail made
-    → ObeysData (at_rest t) (deeds_of trail made) → ClientObeys tale client
-client_obeys tale client t trail made ends obeys =
+    → ObeysData (at_rest s t) (deeds_of trail made) → ClientObeys tale client
+client_obeys tale client s t trail made ends obeys =
     let first = deeds_in client ends.earlier in
     let run = deeds_in client ends.run in
     let later = deeds_in client ends.later in
-    let told = subst (λ (ds : List Deed). ObeysData (at_rest t) ds)
+    let told = subst (λ (ds : List Deed). ObeysData (at_rest s t) ds)
     (run_told tale client t trail made ends) obeys in
-    let seen_there = subst (λ (v : View). ObeysData v run) (sym ends.left) told in
+    let some = by_some_keyed no_keys (at_rest s t) run (by_some (at_rest s t) run told) in
+    let seen_there = subst (λ (v : View). ObeysBySome v run) (sym ends.left) some in
     let last = stops_obey (view_from (view_from new_view first) run) later ends.over in
-    let both = Each-append MayDo (view_from new_view first) run later seen_there last in
-    let all = Each-append MayDo new_view first (run ++ later) ends.obeyed both in
+    let both = Each-append MayDoBySome (view_from new_view first) run later seen_there last in
+    let all = Each-append MayDoBySome new_view first (run ++ later) ends.obeyed both in
     let parts : deeds_in client tale.steps ≡ first ++ (run ++ later) =
     ap (deeds_in client) ends.steps
     ∙ (deeds_in-append client ends.earlier (ends.run ++ ends.later)
     ∙ ap (λ (ds : List Deed). first ++ ds) (deeds_in-append client ends.run ends.later)) in
-    subst (λ (ds : List Deed). ObeysData new_view ds) (sym parts) all
+    subst (λ (ds : List Deed). ObeysBySome new_view ds) (sym parts) all
 
-pub all_obey : (id : List ℕ) (tale : Tale) (client : List ℕ) (t : Tables) (trail : List Event)
-    (made : List Change) → EndsInRun tale client t trail made → OthersObey id tale client
-    → ObeysData (at_rest t) (deeds_of trail made) → AllObey (item_of_file id) (steps_of id tale)
-all_obey id tale client t trail made ends others obeys other = elim (same_or_not other client) [
+pub all_obey : (id : List ℕ) (tale : Tale) (client : List ℕ) (s : Sealing) (t : Tables)
+    (trail : List Event) (made : List Change)
+    → EndsInRun tale client t trail made → OthersObey id tale client
+    → ObeysData (at_rest s t) (deeds_of trail made)
+    → AllObey (item_of_file id) (steps_of id tale)
+all_obey id tale client s t trail made ends others obeys other = elim (same_or_not other client) [
   | inl same ↦
       subst (λ (c : List ℕ). DoesAsItMay (item_of_file id) (steps_of id tale) c) (sym same)
-      (item_obeyed id client tale (client_obeys tale client t trail made ends obeys))
+      (item_obeyed id client tale (client_obeys tale client s t trail made ends obeys))
   | inr differ ↦ others other differ
 ]

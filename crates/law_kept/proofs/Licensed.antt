@@ -1,5 +1,5 @@
 -- What asks for a licence by what one has seen, by what the client knows of each item.
-use Rattle.std.proofs.Common.{◌≡◌, ◌∙◌, refl, ap, cond, ℕ, List, [], ◌∷◌, Bool, true, false, not, Option, Some, None}
+use Rattle.std.proofs.Common.{◌≡◌, ◌∙◌, refl, ap, cond, ℕ, List, Bool, true, false, not, Option, Some, None}
 use Rattle.std.specs.Prelude.{bytes_eq, is_some, option_map, ◌&&◌, ◌||◌}
 use Rattle.std.proofs.lemmas.Bool.{false≢true, and_from}
 use Rattle.item_text.specs.declared.item.Item.{Item as AnItem}
@@ -15,13 +15,15 @@ use Rattle.law_licences.specs.Checks.{WasGot, IsPending, IsBase, IsOther}
 use Rattle.law_licences.specs.Checks as checks
 use Rattle.law_licences.specs.Conflicts.{MayConflict}
 use Rattle.law_licences.specs.Copies.{must_copy}
-use Rattle.law_licences.specs.Items.{is_plain_note, content_without_keys, item_of_file}
+use Rattle.law_licences.specs.Items.{is_plain_note, content_with_keys, item_of_file}
 use Rattle.law_licences.specs.Licences.{IsInside}
+use Rattle.law_licences.specs.Opens.{MayOpen}
 use Rattle.law_licences.specs.Pages.{MayTake}
 use Rattle.law_licences.specs.Puts.{MayUpload}
+use Rattle.law_licences.specs.Sealing.{Sealing}
 use Rattle.law_licences.specs.Views.{Heard, View, Stage, Outside, Working, Finished}
 use Rattle.law_kept.specs.Acts.{ItemChange, Taken, Conflict}
-use Rattle.law_kept.specs.Licences.{is_waiting, is_idle, is_copied, is_copied_from, has_read_base, has_read_nothing, has_written, has_read_item, may_change, may_act}
+use Rattle.law_kept.specs.Licences.{is_waiting, is_idle, is_copied, is_copied_from, has_read_base, has_read_nothing, has_written, has_read_item, holds_sealed, is_sealed_row, may_change, may_act}
 use Rattle.law_kept.specs.Own.{OwnRow, Wrote, OwnSession, In, Own}
 use Rattle.law_kept.specs.Own as own
 use Rattle.law_kept.proofs.Clients.{some_same}
@@ -79,28 +81,28 @@ base_read id (Some base) Failed row session based is same = absurd same
 base_read id (Some base) (TooLarge len) row session based is same = absurd same
 
 -- another file was got, and is an item's text
-other_read : (id : List ℕ) (base : Option (List ℕ)) (reply : Reply) (remote : List ℕ × Content)
-    (session : OwnSession)
-    → session ≡ In (check_by (Get (Item id)) (Some reply)) → IsOther id base reply (Some remote)
+other_read : (s : Sealing) (id : List ℕ) (base : Option (List ℕ)) (reply : Reply)
+    (remote : List ℕ × Content) (session : OwnSession)
+    → session ≡ In (check_by (Get (Item id)) (Some reply)) → IsOther s id base reply (Some remote)
     → has_read_item (item_of_file id) session remote.0 ≡ true
-other_read id base (Got now bytes) remote session is other =
+other_read s id base (Got now bytes) remote session is other =
     by (item_of_file id bytes) refl other.1
   where
     by : (item : Option AnItem) → item_of_file id bytes ≡ item
-        → option_map (λ i. (bytes, content_without_keys i)) item ≡ Some remote
+        → option_map (λ i. (bytes, content_with_keys s i)) item ≡ Some remote
         → has_read_item (item_of_file id) session remote.0 ≡ true
     by None reads same = cc
     by (Some item) reads same =
         let these : bytes ≡ remote.0 =
-        ap (λ (r : List ℕ × Content). r.0) (some_same (bytes, content_without_keys item) remote same) in
+        ap (λ (r : List ℕ × Content). r.0) (some_same (bytes, content_with_keys s item) remote same) in
         rw (is, ← these, bytes_eq-refl bytes, reads) refl
-other_read id None (Absent now) remote session is other = absurd other
-other_read id (Some base) (Absent now) remote session is other = absurd other
-other_read id base (Listed listing) remote session is other = absurd other
-other_read id base (GotBlob now len) remote session is other = absurd other
-other_read id base (Done now) remote session is other = absurd other
-other_read id base Failed remote session is other = absurd other
-other_read id base (TooLarge len) remote session is other = absurd other
+other_read s id None (Absent now) remote session is other = absurd other
+other_read s id (Some base) (Absent now) remote session is other = absurd other
+other_read s id base (Listed listing) remote session is other = absurd other
+other_read s id base (GotBlob now len) remote session is other = absurd other
+other_read s id base (Done now) remote session is other = absurd other
+other_read s id base Failed remote session is other = absurd other
+other_read s id base (TooLarge len) remote session is other = absurd other
 
 -- ---- changes of a session
 
@@ -128,7 +130,8 @@ pub take_known : (v : View) (id bytes : List ℕ) (content : Content) → IsInsi
 take_known v id bytes content is may =
     and_from (is_idle (known id v).row) (has_read_item (item_of_file id) (known id v).session bytes)
     (idle_row v id may.unchanged)
-    (other_read id (base_of (row_at v.tables id)) may.reply (bytes, content) (known id v).session
+    (other_read v.sealing id (base_of (row_at v.tables id)) may.reply (bytes, content)
+    (known id v).session
     (got_known v id may.reply is may.check) may.other)
 
 -- a note that must be copied is
@@ -163,6 +166,12 @@ conflict_known v id (Some remote) copies next is may =
     and_from (is_waiting (known id v).row) (read && copied)
     (pending_row v id may.row may.pending)
     (and_from read copied
-    (other_read id may.row.base may.reply remote (known id v).session
+    (other_read v.sealing id may.row.base may.reply remote (known id v).session
     (got_known v id may.reply is may.check) may.other)
     (copied_from (row_at v.tables id) may.row remote.1 copies next may.pending.at may.copied))
+
+-- a row that is opened is sealed
+pub open_known : (v : View) (id : List ℕ) (item : AnItem) → MayOpen v id item
+    → is_sealed_row (known id v).row ≡ true
+open_known v id item may =
+    ap (λ (row : Option Row). is_sealed_row (row_known row)) may.at ∙ ap holds_sealed may.is_sealed

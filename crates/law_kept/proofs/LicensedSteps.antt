@@ -1,7 +1,7 @@
 -- What has its licence by what one has seen has it by what the client knows of each item.
 use Rattle.std.proofs.Common.{◌≡◌, ◌∙◌, refl, ap, sym, subst, cond, ℕ, List, [], ◌∷◌, Bool, true, false, Option, Some, None}
-use Rattle.std.specs.Prelude.{bytes_eq, is_some, ◌&&◌, ◌||◌}
-use Rattle.std.proofs.lemmas.Bool.{false≢true, and_from}
+use Rattle.std.specs.Prelude.{bytes_eq, is_some, ◌||◌}
+use Rattle.std.proofs.lemmas.Bool.{and_from}
 use Rattle.jop_base.specs.declared.path.Path.{Path}
 use Rattle.jop_target.specs.History as target
 use Rattle.jop_target.specs.declared.call.Call.{Call}
@@ -16,7 +16,7 @@ use Rattle.law_licences.specs.Checks.{is_file_of}
 use Rattle.law_licences.specs.Deeds.{Deed, deed_by, deeds_in}
 use Rattle.law_licences.specs.Deletions.{MayDelete}
 use Rattle.law_licences.specs.Items.{item_of_file}
-use Rattle.law_licences.specs.Licences.{IsInside, MayCall, MayDo, Each, ObeysData}
+use Rattle.law_licences.specs.Licences.{IsInside, MayCall, MayDo, Each, ObeysBySome}
 use Rattle.law_licences.specs.Puts.{MayPut}
 use Rattle.law_licences.specs.Views.{View, seen}
 use Rattle.law_kept.specs.Acts.{Act, Gets, Puts, Deletes, Elsewhere}
@@ -29,7 +29,8 @@ use Rattle.law_kept.proofs.Calls.{its_path}
 use Rattle.law_kept.proofs.EachChange.{change_licensed}
 use Rattle.law_kept.proofs.Licensed.{pending_row, got_known, base_read}
 use Rattle.law_kept.proofs.Rows.{base_known}
-use Rattle.law_kept.proofs.Seeing.{known_next, ordered_seen}
+use Rattle.law_licences.proofs.Keyed.{with_keys}
+use Rattle.law_kept.proofs.Seeing.{known_by_some, ordered_seen}
 
 -- ---- calls
 
@@ -94,9 +95,9 @@ step_licensed id next v target.Stopped c may = refl
 obeys_step : (id : List ℕ) (next : ℕ) (v : View) (s : TaleStep) (ds : List Deed) (rest : List Act)
     (mine : Bool)
     → IsOrdered v.tables
-    → ((u : View) → IsOrdered u.tables → ObeysData u ds
+    → ((u : View) → IsOrdered u.tables → ObeysBySome u ds
     → obeys (item_of_file id) (known id u) rest ≡ true)
-    → ObeysData v (cond mine (deed_by s.step.happens s.change ∷ ds) ds)
+    → ObeysBySome v (cond mine (deed_by s.step.happens s.change ∷ ds) ds)
     → obeys (item_of_file id) (known id v)
     (cond mine (act_of id next s.step.happens s.change ∷ rest) rest)
     ≡ true
@@ -106,14 +107,14 @@ obeys_step id next v s ds rest true o later may =
     let act : Act = act_of id next s.step.happens s.change in
     and_from (may_act (item_of_file id) (known id v) act)
     (obeys (item_of_file id) (own_after (known id v) act) rest)
-    (step_licensed id next v s.step.happens s.change may.0)
+    (step_licensed id next (with_keys may.0.0 v) s.step.happens s.change may.0.1)
     (subst (λ (own : Own). obeys (item_of_file id) own rest ≡ true)
-    (known_next id next v s.step.happens s.change o may.0)
+    (known_by_some id next v s.step.happens s.change o may.0)
     (later (seen v d) (ordered_seen v d o) may.1))
 obeys_step id next v s ds rest false o later may = later v o may
 
 pub obeys_from : (id client : List ℕ) (clients : List ℕ → Tables) (v : View) (ss : List TaleStep)
-    → IsOrdered v.tables → ObeysData v (deeds_in client ss)
+    → IsOrdered v.tables → ObeysBySome v (deeds_in client ss)
     → obeys (item_of_file id) (known id v) (acts_by client (steps_told id clients ss)) ≡ true
 unfolding deeds_in obeys acts_by steps_told
 obeys_from id client clients v [] o may = refl

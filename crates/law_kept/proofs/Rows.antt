@@ -1,5 +1,5 @@
 -- What a change of all tables is for what is known of one item.
-use Rattle.std.proofs.Common.{◌≡◌, ◌∙◌, refl, ap, sym, subst, cond, ℕ, List, Bool, true, false, Option, Some, None}
+use Rattle.std.proofs.Common.{◌≡◌, refl, ap, sym, subst, cond, ℕ, List, Bool, true, false, Option, Some, None}
 use Rattle.std.specs.Prelude.{bytes_eq, is_some, ◌||◌}
 use Rattle.jop_base.specs.Keyed.{at, put}
 use Rattle.jop_base.proofs.KeyedLaws.{same_text, at-put_same, at-put_other, at-cut, at-cut_other}

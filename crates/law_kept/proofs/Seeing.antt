@@ -1,7 +1,6 @@
 -- What is seen of a client after a step says what it knows of an item then.
-use Rattle.std.proofs.Common.{◌≡◌, ◌∙◌, refl, ap, cond, ℕ, List, [], ◌∷◌, Bool, true, false, Option, Some, None}
+use Rattle.std.proofs.Common.{sym, ◌≡◌, ◌∙◌, refl, ap, cond, ℕ, List, [], ◌∷◌, Bool, true, false, Option, Some, None}
 use Rattle.std.specs.Prelude.{bytes_eq}
-use Rattle.std.proofs.lemmas.Bool.{false≢true}
 use Rattle.jop_base.specs.Keyed.{at}
 use Rattle.jop_target.specs.History as target
 use Rattle.jop_target.specs.declared.call.Call.{Call}
@@ -15,7 +14,8 @@ use Rattle.local_store.specs.declared.change.Change.TheVariants.{ContextIs}
 use Rattle.local_store.specs.declared.tables.Tables.{Tables}
 use Rattle.law_licences.specs.Checks.{is_file_of, is_on, last_on}
 use Rattle.law_licences.specs.Deeds.{Deed, Begins, Asks, Makes, MakesUntold, Ends, Stops, deed_by, deeds_in}
-use Rattle.law_licences.specs.Licences.{MayMakeAt, MayMake, MayDo, Each, ObeysData}
+use Rattle.law_licences.specs.Licences.{MayMakeAt, MayMake, MayDo, MayDoBySome, Each, ObeysBySome}
+use Rattle.law_licences.proofs.Keyed.{seen_keyed, with_keys}
 use Rattle.law_licences.specs.Views.{Heard, View, Stage, Outside, Working, Finished, view_after_call, seen, stage_after, view_from}
 use Rattle.law_licences.specs.Views as views
 use Rattle.law_kept.specs.Acts.{Act, Gets, Puts, Deletes, Elsewhere}
@@ -142,6 +142,13 @@ known_next id next v target.Begins c o may = known_begun id v
 known_next id next v target.Ends c o may = refl
 known_next id next v target.Stopped c o may = refl
 
+pub known_by_some : (id : List ℕ) (next : ℕ) (v : View) (x : target.Happening) (c : Option Change)
+    → IsOrdered v.tables → MayDoBySome v (deed_by x c)
+    → known id (seen v (deed_by x c)) ≡ own_after (known id v) (act_of id next x c)
+known_by_some id next v x c o may =
+    ap (known id) (sym (seen_keyed may.0 v (deed_by x c)))
+    ∙ known_next id next (with_keys may.0 v) x c o may.1
+
 pub ordered_seen : (v : View) (d : Deed) → IsOrdered v.tables → IsOrdered (seen v d).tables
 ordered_seen v Begins o = o
 ordered_seen v (Asks call reply) o = o
@@ -156,9 +163,9 @@ ordered_seen v Stops o = o
 known_if_mine : (id : List ℕ) (next : ℕ) (v : View) (s : TaleStep) (ds : List Deed)
     (rest : List Act) (mine : Bool)
     → IsOrdered v.tables
-    → ((u : View) → IsOrdered u.tables → ObeysData u ds
+    → ((u : View) → IsOrdered u.tables → ObeysBySome u ds
     → known id (view_from u ds) ≡ own_from (known id u) rest)
-    → ObeysData v (cond mine (deed_by s.step.happens s.change ∷ ds) ds)
+    → ObeysBySome v (cond mine (deed_by s.step.happens s.change ∷ ds) ds)
     → known id (view_from v (cond mine (deed_by s.step.happens s.change ∷ ds) ds))
     ≡ own_from (known id v) (cond mine (act_of id next s.step.happens s.change ∷ rest) rest)
 unfolding Each view_from own_from
@@ -166,11 +173,11 @@ known_if_mine id next v s ds rest true o later may =
     let d : Deed = deed_by s.step.happens s.change in
     later (seen v d) (ordered_seen v d o) may.1
     ∙ ap (λ (own : Own). own_from own rest)
-    (known_next id next v s.step.happens s.change o may.0)
+    (known_by_some id next v s.step.happens s.change o may.0)
 known_if_mine id next v s ds rest false o later may = later v o may
 
 pub known_from : (id client : List ℕ) (clients : List ℕ → Tables) (v : View) (ss : List TaleStep)
-    → IsOrdered v.tables → ObeysData v (deeds_in client ss)
+    → IsOrdered v.tables → ObeysBySome v (deeds_in client ss)
     → known id (view_from v (deeds_in client ss))
     ≡ own_from (known id v) (acts_by client (steps_told id clients ss))
 unfolding view_from deeds_in own_from acts_by steps_told

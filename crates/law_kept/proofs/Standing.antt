@@ -52,7 +52,14 @@ true_quiet : (id : List ℕ) (v : View) (t : Tables) (s : Standing) (stage : Sta
     (record s { crossed = crossed })
 unfolding last_on
 true_quiet id v t s stage crossed h =
-    record { same = h.same; sound = h.sound; row = h.row; copies = h.copies; got = tt }
+    record {
+      same = h.same;
+      sound = h.sound;
+      row = h.row;
+      copies = h.copies;
+      got = tt;
+      keyless = h.keyless;
+    }
 
 true_next : (id : List ℕ) (v : View) (t : Tables) (s : Standing) (file : Option Version)
     (x : target.Happening) (c : Option Change)
@@ -154,7 +161,14 @@ tables_then t (Some c) cs false = refl
 true_beside : (id : List ℕ) (v : View) (t : Tables) (s : Standing) (act : Act)
     → IsTrue id v t s → IsTrue id v t (stands_beside s act)
 true_beside id v t s act h =
-    record { same = h.same; sound = h.sound; row = h.row; copies = h.copies; got = h.got }
+    record {
+      same = h.same;
+      sound = h.sound;
+      row = h.row;
+      copies = h.copies;
+      got = h.got;
+      keyless = h.keyless;
+    }
 
 all_next : (id : List ℕ) (w : World) (vs : List ℕ → View) (ts : List ℕ → Tables) (s : TaleStep)
     → AllTrue id w vs ts

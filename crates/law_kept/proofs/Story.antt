@@ -25,6 +25,8 @@ use Rattle.law_licences.specs.Deeds.{deeds_in, deeds_of}
 use Rattle.law_licences.specs.Items.{remote_in}
 use Rattle.law_licences.specs.Infos.{info_read}
 use Rattle.law_licences.specs.Licences.{Each, ObeysData}
+use Rattle.law_licences.specs.Sealing.{no_keys}
+use Rattle.law_licences.proofs.Keyed.{by_some}
 use Rattle.law_licences.specs.Views.{at_rest, view_from}
 use Rattle.law_kept.proofs.Clients.{same_or_not}
 use Rattle.law_kept.proofs.TaleTold.{told_fair}
@@ -32,11 +34,10 @@ use Rattle.law_kept.specs.Stories.{first_client, second_client}
 use Rattle.law_kept.proofs.Keeping.{item_obeyed}
 use Rattle.law_licences.specs.Stories.{it}
 use Rattle.law_kept.specs.ToldStories.{a_text, first_text, second_text, tells, tells_change, a_told_conflict}
-use Rattle.law_kept.specs.FairTables.{new_view, AllObeyData, IsServed}
+use Rattle.law_kept.specs.FairTables.{new_view, AllObeyData, AllObeyWithoutKeys, IsServed}
 use Rattle.law_kept.specs.Holding.{IsToldWell}
 use Rattle.law_kept.specs.TableStories.{a_trail, a_list}
 use Rattle.law_kept.specs.Trails.{IsUnstopped, AreStops, EndsInRun, OthersObey}
-use Rattle.sync_info.specs.declared.info.Info.{Info}
 
 pub served : IsServed it a_told_conflict
 served = record { honest = told_fair.honest; text = told_fair.text; gapless = told_fair.gapless }
@@ -48,9 +49,6 @@ first_row = record { id = it; content = Plain first_text; base = None; pending =
 
 second_row : Row
 second_row = record { id = it; content = Plain second_text; base = None; pending = true }
-
-none_read : (info : Info) → None ≡ Some info → ⊥
-none_read info e = cc
 
 one_obeys : ObeysData new_view (deeds_in first_client a_told_conflict.steps)
 unfolding deeds_in Each at put last_on info_read first_row
@@ -69,10 +67,7 @@ one_obeys = (
             pending = record { at = refl; pending = refl };
             check = refl;
             same = tt;
-            text = record {
-              readable = record { own = refl; merge = λ remote told. absurd (none_read remote told) };
-              text = refl;
-            };
+            text = refl;
           },
         ),
         (tt, tt),
@@ -81,7 +76,7 @@ one_obeys = (
   ),
 )
 
-read_back : remote_in it (written first_text) ≡ Some (written first_text, Plain first_text)
+read_back : remote_in no_keys it (written first_text) ≡ Some (written first_text, Plain first_text)
 unfolding item_in is_utf8 chars encode first_fault lines_fault block_fault colon_fault type_fault
     block above_block item_of_lines pair_of written joined lines has_text trimmed value_of
     is_type_value
@@ -118,8 +113,8 @@ none_obeys : (client : List ℕ) → bytes_eq first_client client ≡ false → 
 unfolding deeds_in Each
 none_obeys client first second = rw (first, second) tt
 
-pub all_obey_told : AllObeyData a_told_conflict
-all_obey_told client = elim (same_or_not first_client client) [
+pub keyless : AllObeyWithoutKeys a_told_conflict
+keyless client = elim (same_or_not first_client client) [
   | inl same ↦
       subst (λ (c : List ℕ). ObeysData new_view (deeds_in c a_told_conflict.steps)) same one_obeys
   | inr first ↦ elim (same_or_not second_client client) [
@@ -130,9 +125,13 @@ all_obey_told client = elim (same_or_not first_client client) [
   ]
 ]
 
+pub all_obey_told : AllObeyData a_told_conflict
+all_obey_told client =
+    by_some new_view (deeds_in client a_told_conflict.steps) (keyless client)
+
 -- ---- the second client's run
 
-pub run_obeys : ObeysData (at_rest new_tables) (deeds_of a_trail a_list)
+pub run_obeys : ObeysData (at_rest no_keys new_tables) (deeds_of a_trail a_list)
 unfolding deeds_of Each at put last_on value_of is_type_value second_row
 run_obeys = (
   tt,

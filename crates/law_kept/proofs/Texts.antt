@@ -14,6 +14,7 @@ use Rattle.local_store.specs.Sound.{IsContentOf}
 use Rattle.local_store.specs.declared.content.Content.{Content}
 use Rattle.local_store.specs.declared.content.Content.TheVariants.{Plain, Sealed}
 use Rattle.law_licences.specs.Items.{content_without_keys, if_of, item_of_file, remote_in, says}
+use Rattle.law_licences.specs.Sealing.{no_keys}
 use Rattle.law_kept.proofs.Clients.{some_same}
 
 -- whatever the bytes read to, this is it
@@ -61,7 +62,7 @@ item_of-content_without_keys item = by (says (codes "encryption_applied") (codes
 
 -- what was got stands for the item of the content that is made of it
 pub remote_reads : (id bytes : List ℕ) (remote : List ℕ × Content) (stood : Option Item)
-    → ReadsTo id bytes stood → remote_in id bytes ≡ Some remote
+    → ReadsTo id bytes stood → remote_in no_keys id bytes ≡ Some remote
     → stood ≡ Some (item_of remote.1)
 remote_reads id bytes remote stood reads is = by (item_of_file id bytes) refl is where
   by : (read : Option Item) → item_of_file id bytes ≡ read

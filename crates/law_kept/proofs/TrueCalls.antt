@@ -15,7 +15,10 @@ use Rattle.local_store.specs.declared.tables.Tables.{Tables}
 use Rattle.law_licences.specs.Checks.{is_file_of, is_on, last_on}
 use Rattle.law_licences.specs.Items.{item_of_file}
 use Rattle.law_licences.specs.Licences.{MayCall}
-use Rattle.law_licences.specs.Puts.{MayPut}
+use Rattle.item_text.specs.Grammar.{written}
+use Rattle.law_licences.specs.Puts.{IsPutText, IsTextFor, MayPut, seals_files}
+use Rattle.law_licences.specs.Sealing.{Sealing, no_keys}
+use Rattle.std.proofs.lemmas.Bool.{false≢true}
 use Rattle.law_licences.specs.Views.{Heard, View, with_call, view_after_call}
 use Rattle.law_kept.proofs.Clients.{some_same, text_is}
 use Rattle.law_kept.specs.Acts.{Gets, Puts, Deletes, Elsewhere, Version}
@@ -49,6 +52,7 @@ pub record IsTrue (id : List ℕ) (v : View) (t : Tables) (s : Standing) : Type 
   pub row : RowIsTrue (row_at v.tables id) s.row
   pub copies : s.copies ≡ copies_of id v.tables.conflicts
   pub got : GotIsTrue id (check_known (last_on id v.calls)) s.got
+  pub keyless : v.sealing ≡ no_keys
 
 -- ---- calls
 
@@ -77,6 +81,7 @@ true_on id v t s call r got crossed h on g = record {
   copies = h.copies;
   got = subst (λ (last : Option Heard). GotIsTrue id (check_known last) got)
       (sym (on_heard id call r v.calls on)) g;
+  keyless = h.keyless;
 }
 
 -- any other leaves the check as it is
@@ -89,6 +94,7 @@ true_off id v t s call r h off = record {
   copies = h.copies;
   got = subst (λ (last : Option Heard). GotIsTrue id (check_known last) s.got)
       (sym (off_heard id call r v.calls off)) h.got;
+  keyless = h.keyless;
 }
 
 put_got : (id : List ℕ) (path : Path) (bytes : List ℕ) (r : Option Reply) (got : Option AnItem)
@@ -173,6 +179,18 @@ pub row_is : (row : Option Row) (r : Row) (stood : Option AnItem) → RowIsTrue 
     → row ≡ Some r → stood ≡ Some (item_of r.content)
 row_is row r stood is at = subst (λ (o : Option Row). RowIsTrue o stood) at is
 
+-- without keys no text is put but the item's own
+text_for : (sealed : Bool) (s : Sealing) (item : AnItem) (content : List ℕ) → s ≡ no_keys
+    → IsTextFor sealed s item content → content ≡ written item
+text_for false s item content keyless is = is
+text_for true s item content keyless is =
+    absurd (false≢true (subst (λ (z : Sealing). z.seals item content ≡ true) keyless is))
+
+written_text : (v : View) (row : Row) (content : List ℕ) → v.sealing ≡ no_keys
+    → IsPutText v row content → content ≡ written (item_of row.content)
+written_text v row content keyless is =
+    text_for (seals_files v.tables.info v.calls) v.sealing (item_of row.content) content keyless is
+
 -- a put's bytes read to what its row stands for
 put_reads : (id bytes : List ℕ) (v : View) (t : Tables) (s : Standing) → IsTrue id v t s
     → MayPut v id bytes → ReadsTo id bytes s.row
@@ -180,7 +198,8 @@ put_reads id bytes v t s h may item reads =
     let stood = row_is (row_at v.tables id) may.row s.row h.row may.pending.at in
     let valid = valid_content id may.row.content
     (content_at v.tables id may.row h.sound may.pending.at) in
-    let these = subst (λ (b : List ℕ). item_of_file id b ≡ Some item) may.text.text reads in
+    let these = subst (λ (b : List ℕ). item_of_file id b ≡ Some item)
+    (written_text v may.row bytes h.keyless may.text) reads in
     stood ∙ written_reads id (item_of may.row.content) valid item these
 
 pub file_called : (id : List ℕ) (v : View) (t : Tables) (s : Standing) (file : Option Version)

@@ -19,7 +19,9 @@ use Rattle.law_licences.specs.Checks.{WasGot, IsOther}
 use Rattle.law_licences.specs.Licences.{IsLocal, MayChange, MayMakeAt}
 use Rattle.law_licences.specs.Conflicts.{MayConflict}
 use Rattle.law_licences.specs.Leaving.{MayMove}
+use Rattle.law_licences.specs.Items.{remote_in}
 use Rattle.law_licences.specs.Pages.{MayTake}
+use Rattle.law_licences.specs.Sealing.{Sealing, no_keys}
 use Rattle.law_licences.specs.Views.{Heard, View, Stage, Outside, Working, Finished}
 use Rattle.law_kept.proofs.Clients.{some_same}
 use Rattle.law_kept.specs.Acts.{ItemChange, Taken, Conflict, Moved, Version}
@@ -146,12 +148,14 @@ conflicted_aside id i t remote copies (Some r) s differ is same =
 -- what was got stands for what the row becomes
 got_reads : (id : List ℕ) (v : View) (t : Tables) (s : Standing) (base : Option (List ℕ))
     (reply : Reply) (remote : List ℕ × Content)
-    → IsTrue id v t s → WasGot v id reply → IsOther id base reply (Some remote)
+    → IsTrue id v t s → WasGot v id reply → IsOther v.sealing id base reply (Some remote)
     → s.got ≡ Some (item_of remote.1)
 got_reads id v t s base (Got now bytes) remote h was other =
     let reads : ReadsTo id bytes s.got =
     subst (λ (last : Option Heard). GotIsTrue id (check_known last) s.got) was h.got in
-    remote_reads id bytes remote s.got reads other.1
+    let read : remote_in no_keys id bytes ≡ Some remote =
+    subst (λ (z : Sealing). remote_in z id bytes ≡ Some remote) h.keyless other.1 in
+    remote_reads id bytes remote s.got reads read
 got_reads id v t s None (Absent now) remote h was other = absurd other
 got_reads id v t s (Some base) (Absent now) remote h was other = absurd other
 got_reads id v t s base (Listed listing) remote h was other = absurd other
@@ -239,3 +243,10 @@ pub session_change : (stage : Stage) (v : View) (c : Change) → ¬ IsLocal c �
 session_change Outside v c isnt may = absurd (isnt may)
 session_change Working v c isnt may = may
 session_change Finished v c isnt may = absurd may
+
+-- without keys nothing is opened
+pub none_opened : (s : Sealing) (outer item : AnItem) → s ≡ no_keys → s.opens outer ≡ Some item → ⊥
+none_opened s outer item keyless opens =
+    let none : None ≡ Some item =
+    subst (λ (z : Sealing). z.opens outer ≡ Some item) keyless opens in
+    cc

@@ -5,7 +5,8 @@ use Rattle.jop_target.specs.History.{IsHonest}
 use Rattle.local_store.specs.Tables.{new_tables}
 use Rattle.local_store.specs.Tale.{Tale, plain}
 use Rattle.law_licences.specs.Deeds.{deeds_in}
-use Rattle.law_licences.specs.Licences.{ObeysData}
+use Rattle.law_licences.specs.Licences.{ObeysBySome, ObeysData}
+use Rattle.law_licences.specs.Sealing.{no_keys}
 use Rattle.law_licences.specs.Views.{View, at_rest, view_from}
 use Rattle.law_kept.specs.Fates.{IsKept}
 use Rattle.law_kept.specs.Gap.{NoOtherUploadBetween}
@@ -15,11 +16,11 @@ use Rattle.law_kept.specs.Telling.{history_of, steps_of}
 
 -- a client that has nothing yet
 abbrev pub new_view : View
-new_view = at_rest new_tables
+new_view = at_rest no_keys new_tables
 
--- all that the client did by then has its licences
+-- all that the client did by then has its licences, each session with some keys
 abbrev pub ClientObeys : Tale → List ℕ → Type 0
-ClientObeys tale client = ObeysData new_view (deeds_in client tale.steps)
+ClientObeys tale client = ObeysBySome new_view (deeds_in client tale.steps)
 
 -- what one has seen of the client in the end
 abbrev pub view_at_end : Tale → List ℕ → View
@@ -27,6 +28,10 @@ view_at_end tale client = view_from new_view (deeds_in client tale.steps)
 
 abbrev pub AllObeyData : Tale → Type 0
 AllObeyData tale = (client : List ℕ) → ClientObeys tale client
+
+-- and no session of any client had keys, so that nothing was sealed or opened
+abbrev pub AllObeyWithoutKeys : Tale → Type 0
+AllObeyWithoutKeys tale = (client : List ℕ) → ObeysData new_view (deeds_in client tale.steps)
 
 -- the store tells the truth, and no other client's put of the item lands between a check and the
 -- put that follows it

@@ -8,7 +8,7 @@ use Rattle.local_store.specs.Tale.{Tale, IsToldStep, MakesAllowed, changes_of}
 use Rattle.local_store.specs.declared.conflict_note.ConflictNote.{ConflictNote}
 use Rattle.local_store.specs.declared.row.Row.{Row}
 use Rattle.local_store.specs.declared.tables.Tables.{Tables}
-use Rattle.law_kept.specs.FairTables.{AllObeyData, IsServed}
+use Rattle.law_kept.specs.FairTables.{AllObeyWithoutKeys, IsServed}
 use Rattle.law_kept.specs.Standing.{Copy, Standing, world_end}
 use Rattle.law_kept.specs.Telling.{history_of}
 
@@ -56,8 +56,9 @@ pub record IsToldWell (tale : Tale) : Type 0 where
   pub told : All IsToldStep tale.steps
   pub allowed : (client : List ℕ) → MakesAllowed tale client
 
--- so it is where the store tells the truth, all obey, and each change is told
+-- So it is where the store tells the truth, all obey and have no keys, and each change is told. With
+-- keys a row may hold what another client's record of a key opened, and not what was sealed.
 abbrev pub TablesHoldAsTold : Type 0
 TablesHoldAsTold =
-    (id client : List ℕ) (tale : Tale) → IsServed id tale → AllObeyData tale →
+    (id client : List ℕ) (tale : Tale) → IsServed id tale → AllObeyWithoutKeys tale →
     IsToldWell tale → HoldsAsTold id tale client

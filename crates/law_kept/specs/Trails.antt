@@ -6,7 +6,8 @@ use Rattle.local_store.specs.Tale.{Tale, TaleStep, IsRun}
 use Rattle.local_store.specs.declared.change.Change.{Change}
 use Rattle.local_store.specs.declared.tables.Tables.{Tables}
 use Rattle.law_licences.specs.Deeds.{Deed, Stops, deeds_in, deeds_of}
-use Rattle.law_licences.specs.Licences.{ObeysData}
+use Rattle.law_licences.specs.Licences.{ObeysBySome, ObeysData}
+use Rattle.law_licences.specs.Sealing.{Sealing, no_keys}
 use Rattle.law_licences.specs.Views.{at_rest, view_from}
 use Rattle.law_licences.specs.Items.{item_of_file}
 use Rattle.law_kept.specs.Fair.{DoesAsItMay}
@@ -36,8 +37,8 @@ pub record EndsInRun (tale : Tale) (client : List ℕ) (t : Tables) (trail : Lis
   pub run : List TaleStep
   pub later : List TaleStep
   pub steps : tale.steps ≡ earlier ++ (run ++ later)
-  pub obeyed : ObeysData new_view (deeds_in client earlier)
-  pub left : view_from new_view (deeds_in client earlier) ≡ at_rest t
+  pub obeyed : ObeysBySome new_view (deeds_in client earlier)
+  pub left : view_from new_view (deeds_in client earlier) ≡ at_rest no_keys t
   pub told : IsRun client trail made run
   pub whole : All (IsUnstopped client) run
   pub over : AreStops (deeds_in client later)
@@ -55,8 +56,8 @@ KeepsNotes client t trail made =
     (id : List ℕ) (tale : Tale) → IsServed id tale → EndsInRun tale client t trail made
     → OthersObey id tale client → KeepsItem id tale
 
--- so it is of each run that obeys from the tables with which it began
+-- so it is of each run that obeys from the tables with which it began, whatever its keys
 abbrev pub ObeyingRunsKeepNotes : Type 0
 ObeyingRunsKeepNotes =
-    (client : List ℕ) (t : Tables) (trail : List Event) (made : List Change) →
-    ObeysData (at_rest t) (deeds_of trail made) → KeepsNotes client t trail made
+    (client : List ℕ) (s : Sealing) (t : Tables) (trail : List Event) (made : List Change) →
+    ObeysData (at_rest s t) (deeds_of trail made) → KeepsNotes client t trail made

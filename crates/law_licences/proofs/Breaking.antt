@@ -1,10 +1,14 @@
 -- The sessions that break a licence are refused.
 use Rattle.std.specs.Prelude.{ℕ, ◌≡◌, List, [], ◌∷◌, Bool, true, false, bytes_eq, codes, Option, Some, None, refl}
 use Rattle.std.proofs.Common.{sym, ◌∙◌, ap, subst, inl, inr}
-use Rattle.item_text.specs.Grammar.{written}
-use Rattle.item_text.specs.Lines.{joined}
+use Rattle.std.specs.Str.{chars, is_utf8}
+use lib.Utf8.{encode}
+use Rattle.item_text.specs.Grammar.{above_block, block, block_fault, colon_fault, first_fault, item_in, item_of_lines, lines_fault, pair_of, type_fault, written}
+use Rattle.item_text.specs.Lines.{has_text, joined, lines, trimmed}
+use Rattle.item_text.specs.declared.item.Item.{Item}
 use Rattle.item_text.specs.Props.{value_of}
 use Rattle.item_text.specs.Valid.{is_type_value}
+use Rattle.jop_base.proofs.KeyedLaws.{bytes_eq-refl}
 use Rattle.jop_base.specs.Keyed.{at}
 use Rattle.jop_base.specs.declared.path.Path.TheVariants.{Item as ItemFile}
 use Rattle.jop_target.specs.declared.call.Call.{Call}
@@ -14,19 +18,19 @@ use Rattle.jop_target.specs.declared.reply.Reply.TheVariants.{Got, Absent, Done,
 use Rattle.local_store.specs.Rows.{item_of}
 use Rattle.local_store.specs.Tables.{row_at}
 use Rattle.local_store.specs.declared.content.Content.{Content}
-use Rattle.local_store.specs.declared.content.Content.TheVariants.{Plain}
+use Rattle.local_store.specs.declared.content.Content.TheVariants.{Plain, Sealed}
 use Rattle.local_store.specs.declared.deletion.Deletion.{Deletion}
 use Rattle.local_store.specs.declared.row.Row.{Row}
-use Rattle.law_licences.specs.Breaches.{Breaks, editor, reader, sealer, put_unchecked, put_over_another, put_over_nothing, put_after_failure, put_unheard, put_in_next_session, put_after_stop, put_twice, put_of_another_text, put_after_check, put_of_unchanged, put_outside, upload_failed, upload_unput, upload_of_others, blob_behind, blob_at_once, conflict_without_copy, conflict_with_needless_copy, conflict_with_base, conflict_as_if_gone, conflict_of_new, take_unlisted, take_unread, take_at_once, go_unlisted, go_at_once, move_for_nothing, finish_unlisted, change_behind_page, delete_for_nothing, delete_blob, drop_undone, drop_failed, drop_half, puts_info, sets_info, opens, save_inside, gone_outside}
+use Rattle.law_licences.specs.Breaches.{Breaks, editor, reader, sealer, put_unchecked, put_over_another, put_over_nothing, put_after_failure, put_unheard, put_in_next_session, put_after_stop, put_twice, put_of_another_text, put_after_check, put_of_unchanged, put_outside, upload_failed, upload_unput, upload_of_others, blob_behind, blob_at_once, conflict_without_copy, conflict_with_needless_copy, conflict_with_base, conflict_as_if_gone, conflict_of_new, take_unlisted, take_unread, take_at_once, go_unlisted, go_at_once, move_for_nothing, finish_unlisted, change_behind_page, delete_for_nothing, delete_blob, drop_undone, drop_failed, drop_half, puts_info, sets_info, opens, save_inside, gone_outside, my_keys, opener, conflict_unopened, opens_to_another}
 use Rattle.law_licences.specs.Checks.{IsBase, IsOther, IsPending, last_on}
 use Rattle.law_licences.specs.Conflicts.{MayConflict}
 use Rattle.law_licences.specs.Copies.{copies_for}
 use Rattle.law_licences.specs.Deletions.{IsDeleted, WasDeleted}
 use Rattle.law_licences.specs.Infos.{info_read}
-use Rattle.law_licences.specs.Items.{is_resource}
+use Rattle.law_licences.specs.Items.{is_resource, remote_in}
 use Rattle.law_licences.specs.Licences.{Each, MergesInfo}
 use Rattle.law_licences.specs.Puts.{MayPut, has_put}
-use Rattle.law_licences.specs.Stories.{it, mine, theirs, a_resource, edited, synced, having}
+use Rattle.law_licences.specs.Stories.{it, mine, theirs, a_resource, a_sealed, edited, synced, having, sealing_with}
 use Rattle.law_licences.specs.Views.{Heard, View}
 
 -- ---- small facts
@@ -150,15 +154,15 @@ twice o =
     cc
 
 pub text : Breaks (editor None) put_of_another_text
-unfolding Each at
+unfolding Each at info_read
 text o =
     let may = o.1.1.0.1 in
     let same = is-row _ it may.row (edited it mine None) refl may.pending in
-    not-mine [] refl (may.text.text ∙ ap (λ (row : Row). written (item_of row.content)) same)
+    not-mine [] refl (may.text ∙ ap (λ (row : Row). written (item_of row.content)) same)
 
 pub sealed : Breaks sealer put_after_check
-unfolding Each
-sealed o = clash o.1.1.0.1.text.readable.own
+unfolding Each info_read
+sealed o = clash (sym o.1.1.0.1.text)
 
 pub unchanged : Breaks reader put_of_unchanged
 unfolding Each at
@@ -218,14 +222,15 @@ blob-note o =
 yields : (v : View) (id : List ℕ) (remote : Option (List ℕ × Content)) (copies : Bool) (r : Row)
     (call : Call) (reply : Reply)
     → MayConflict v id remote copies → row_at v.tables id ≡ Some r
-    → last_on id v.calls ≡ answered call (Some reply) → IsOther id r.base reply remote
+    → last_on id v.calls ≡ answered call (Some reply)
+    → IsOther v.sealing id r.base reply remote
 unfolding answered
 yields v id remote copies r call reply may there last =
     let same : may.row ≡ r = is-row v id may.row r there may.pending in
     let told : may.reply ≡ reply =
     heard-reply (Get (ItemFile id)) call may.reply reply (sym may.check ∙ last) in
-    subst (λ (row : Row). IsOther id row.base reply remote) same
-    (subst (λ (got : Reply). IsOther id may.row.base got remote) told may.other)
+    subst (λ (row : Row). IsOther v.sealing id row.base reply remote) same
+    (subst (λ (got : Reply). IsOther v.sealing id may.row.base got remote) told may.other)
 
 copied : (v : View) (id : List ℕ) (remote : Option (List ℕ × Content)) (copies : Bool) (r : Row)
     → MayConflict v id remote copies → row_at v.tables id ≡ Some r
@@ -363,9 +368,49 @@ pub set-info : Breaks reader sets_info
 unfolding Each info_read
 set-info o = none-some _ o.1.0.read
 
+-- what is sealed in a row, if the row is
+outer_of : Content → Option Item
+outer_of (Plain item) = None
+outer_of (Sealed item) = Some item
+
+outer_in : Option (List ℕ × Content) → Option Item
+outer_in None = None
+outer_in (Some remote) = outer_of remote.1
+
+theirs-written : bytes_eq (written mine) (written theirs) ≡ false
+unfolding written joined
+theirs-written = refl
+
+read_opened : remote_in my_keys it (written a_sealed) ≡ Some (written a_sealed, Plain mine)
+unfolding item_in is_utf8 chars encode first_fault lines_fault block_fault colon_fault type_fault
+    block above_block item_of_lines pair_of written joined lines has_text trimmed value_of
+    is_type_value
+read_opened = refl
+
 pub opening : Breaks reader opens
-unfolding Each
-opening o = o.1.0
+unfolding Each at outer_of
+opening o =
+    let may = o.1.0 in
+    let same = some-same (synced it mine (written mine)) may.row may.at in
+    none-some may.outer (ap outer_of (ap (λ (row : Row). row.content) same ∙ may.is_sealed))
+
+pub opening-other : Breaks opener opens_to_another
+unfolding Each at value_of
+opening-other o =
+    let e : written mine ≡ written theirs = ap written (some-same mine theirs o.1.0.opens) in
+    clash (sym (bytes_eq-refl (written theirs))
+    ∙ (sym (ap (λ (b : List ℕ). bytes_eq b (written theirs)) e) ∙ theirs-written))
+
+pub unsealed : Breaks (sealing_with my_keys (edited it mine None ∷ [])) put_after_check
+unfolding Each at written joined info_read
+unsealed o = clash (sym o.1.1.0.1.text)
+
+pub unopened : Breaks (sealing_with my_keys (edited it mine (Some []) ∷ [])) conflict_unopened
+unfolding Each last_on at answered outer_in outer_of
+unopened o =
+    let other = (yields _ it (Some (written a_sealed, Sealed a_sealed)) true
+    (edited it mine (Some [])) (Get (ItemFile it)) (Got 1 (written a_sealed)) o.1.1.0 refl refl).1 in
+    none-some a_sealed (ap outer_in (sym read_opened ∙ other))
 
 pub inside : Breaks reader save_inside
 unfolding Each

@@ -3,12 +3,14 @@ use Rattle.std.specs.Prelude.{ℕ, ◌≡◌, List, Bool, true, false, bytes_eq,
 use Rattle.std.proofs.Common.{sym, ap, subst, ◌∙◌}
 use Rattle.jop_base.specs.Keyed.{at, put, cut, IsSorted}
 use Rattle.jop_base.proofs.KeyedLaws.{at-put, at-cut, at-cut_other, same_text}
-use Rattle.local_store.specs.Changing.{after, with_row, without_row, uploaded, noted_if, with_remote, conflicted}
+use Rattle.item_text.specs.declared.item.Item.{Item}
+use Rattle.local_store.specs.Changing.{after, with_row, without_row, uploaded, noted_if, with_remote, conflicted, opened}
 use Rattle.local_store.specs.Rows.{row_id, item_of}
 use Rattle.local_store.specs.Tables.{row_at}
 use Rattle.local_store.specs.declared.change.Change.{Change}
-use Rattle.local_store.specs.declared.change.Change.TheVariants.{Uploaded, Dropped, Taken, Conflict, Moved, Gone, InfoIs, ContextIs}
+use Rattle.local_store.specs.declared.change.Change.TheVariants.{Uploaded, Dropped, Taken, Conflict, Moved, Gone, Opened, InfoIs, ContextIs}
 use Rattle.local_store.specs.declared.content.Content.{Content}
+use Rattle.local_store.specs.declared.content.Content.TheVariants.{Plain}
 use Rattle.local_store.specs.declared.row.Row.{Row}
 use Rattle.local_store.specs.declared.tables.Tables.{Tables}
 use Rattle.law_licences.specs.Checks.{is_pending}
@@ -129,6 +131,28 @@ apart t other id e still waits =
     sym still ∙ (ap (λ (i : List ℕ). is_pending (row_at t i)) e ∙ waits) in
     cc
 
+-- ---- rows that are opened
+
+opened_if : (same : Bool) (other id : List ℕ) (t : Tables) (r new : Row) → bytes_eq other id ≡ same
+    → row_at t other ≡ Some r → new.pending ≡ r.pending
+    → is_pending (if same then Some new else row_at t id) ≡ is_pending (row_at t id)
+opened_if true other id t r new e there waits =
+    let same : row_at t id ≡ Some r =
+    subst (λ (k : List ℕ). row_at t k ≡ Some r) (same_text other id e) there in
+    waits ∙ sym (ap is_pending same)
+opened_if false other id t r new e there waits = refl
+
+-- a row that is opened waits as it did
+pending_opened : (t : Tables) (other : List ℕ) (item : Item) (id : List ℕ) (row : Option Row)
+    → row_at t other ≡ row
+    → is_pending (row_at (opened t other item row) id) ≡ is_pending (row_at t id)
+pending_opened t other item id None there = refl
+pending_opened t other item id (Some r) there =
+    let new : Row =
+    record { id = other; content = Plain item; base = r.base; pending = r.pending } in
+    ap is_pending (at-put row_id t.rows new id)
+    ∙ opened_if (bytes_eq other id) other id t r new refl there refl
+
 -- ---- changes
 
 -- a row that waits then waited before
@@ -146,6 +170,8 @@ pending-after v t (Conflict other remote copies) id sorted may h =
 pending-after v t (Moved other) id sorted may h =
     pending_conflicted t other id None true (row_at t other) sorted h
 pending-after v t (Gone other) id sorted may h = pending-without_row t other id sorted h
+pending-after v t (Opened other item) id sorted may h =
+    sym (pending_opened t other item id (row_at t other) refl) ∙ h
 pending-after v t (InfoIs info) id sorted may h = h
 pending-after v t (ContextIs context) id sorted may h = h
 pending-after v t c id sorted may h = absurd may
@@ -170,6 +196,10 @@ settled_by v (Moved other) id may was is =
 settled_by v (Gone other) id may was is =
     absurd (apart v.tables other id
     (by_cut v.tables.rows other id (bytes_eq other id) refl was is) may.unchanged was)
+settled_by v (Opened other item) id may was is =
+    let e : false ≡ true =
+    sym is ∙ (pending_opened v.tables other item id (row_at v.tables other) refl ∙ was) in
+    absurd cc
 settled_by v (InfoIs info) id may was is = absurd cc
 settled_by v (ContextIs context) id may was is = absurd cc
 settled_by v c id may was is = absurd may

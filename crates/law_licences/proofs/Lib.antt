@@ -5,3 +5,4 @@ pub mod Settling
 pub mod Told
 pub mod Obeying
 pub mod Breaking
+pub mod Keyed

@@ -21,19 +21,16 @@ use Rattle.jop_target.specs.declared.reply.Listing.{Listing}
 use Rattle.jop_target.specs.declared.reply.Reply.TheVariants.{Got, Absent, Done}
 use Rattle.local_store.specs.declared.content.Content.TheVariants.{Plain}
 use Rattle.local_store.specs.declared.deletion.Deletion.{Deletion}
-use Rattle.law_licences.specs.Breaches.{editor}
+use Rattle.law_licences.specs.Breaches.{editor, my_keys, opener}
 use Rattle.law_licences.specs.Checks.{last_on}
 use Rattle.law_licences.specs.Deletions.{WasDeleted}
 use Rattle.law_licences.specs.Items.{remote_in}
 use Rattle.law_licences.specs.Infos.{info_read}
 use Rattle.law_licences.specs.Licences.{Each, ObeysData}
 use Rattle.law_licences.specs.Pages.{HasPage}
-use Rattle.law_licences.specs.Stories.{it, place, mine, theirs, a_folder, edited, synced, having, an_upload, a_deletion, a_conflict, a_loss, a_page}
+use Rattle.law_licences.specs.Stories.{it, place, mine, theirs, a_folder, a_sealed, edited, keys_for, locked, synced, having, sealing_with, an_upload, a_deletion, a_conflict, a_loss, a_page, a_sealed_upload, a_sealed_conflict, an_opening}
+use Rattle.law_licences.specs.Sealing.{no_keys}
 use Rattle.law_licences.specs.Views.{Shown, View}
-use Rattle.sync_info.specs.declared.info.Info.{Info}
-
-none_read : (info : Info) → None ≡ Some info → ⊥
-none_read info e = cc
 
 pub upload : ObeysData (having [] []) an_upload
 unfolding Each at put last_on info_read
@@ -52,10 +49,7 @@ upload = (
             pending = record { at = refl; pending = refl };
             check = refl;
             same = tt;
-            text = record {
-              readable = record { own = refl; merge = λ remote told. absurd (none_read remote told) };
-              text = refl;
-            };
+            text = refl;
           },
         ),
         (record { now = 2; put = refl }, (tt, tt)),
@@ -90,7 +84,7 @@ deletion = (
 
 -- ---- another's text
 
-read_back : remote_in it (written theirs) ≡ Some (written theirs, Plain theirs)
+read_back : remote_in no_keys it (written theirs) ≡ Some (written theirs, Plain theirs)
 unfolding item_in is_utf8 chars encode first_fault lines_fault block_fault colon_fault type_fault
     block above_block item_of_lines pair_of written joined lines has_text trimmed value_of
     is_type_value
@@ -262,5 +256,72 @@ reading = (
         (record { page = page; has = has_page _ refl; next = refl }, (tt, tt)),
       ),
     ),
+  ),
+)
+
+-- ---- with keys
+
+pub sealed-upload : ObeysData (sealing_with my_keys (edited it mine None ∷ [])) a_sealed_upload
+unfolding Each at put last_on info_read
+sealed-upload = (
+  tt,
+  (
+    (tt, tt),
+    (
+      (
+        tt,
+        record {
+          row = edited it mine None;
+          reply = Absent 1;
+          pending = record { at = refl; pending = refl };
+          check = refl;
+          same = tt;
+          text = refl;
+        },
+      ),
+      (record { now = 2; put = refl }, (tt, tt)),
+    ),
+  ),
+)
+
+read_opened : remote_in (keys_for theirs []) it (written a_sealed)
+    ≡ Some (written a_sealed, Plain theirs)
+unfolding item_in is_utf8 chars encode first_fault lines_fault block_fault colon_fault type_fault
+    block above_block item_of_lines pair_of written joined lines has_text trimmed value_of
+    is_type_value
+read_opened = refl
+
+not-sealed : Some [] ≡ Some (written a_sealed) → ⊥
+unfolding written joined
+not-sealed e = let f : true ≡ false = ap (is_text []) e in cc
+
+pub sealed-conflict : ObeysData
+    (sealing_with (keys_for theirs []) (edited it mine (Some []) ∷ [])) a_sealed_conflict
+unfolding Each at last_on value_of is_type_value
+sealed-conflict = (
+  tt,
+  (
+    (tt, tt),
+    (
+      record {
+        row = edited it mine (Some []);
+        reply = Got 1 (written a_sealed);
+        pending = record { at = refl; pending = refl };
+        check = refl;
+        other = (not-sealed, read_opened);
+        copied = refl;
+      },
+      (tt, tt),
+    ),
+  ),
+)
+
+pub opened : ObeysData opener an_opening
+unfolding Each at put
+opened = (
+  tt,
+  (
+    record { row = locked; outer = a_sealed; at = refl; is_sealed = refl; opens = refl },
+    (tt, tt),
   ),
 )

@@ -1,5 +1,5 @@
 -- How a row that waited came to wait no more.
-use Rattle.std.specs.Prelude.{ℕ, ◌≡◌, ◌⊎◌, List, [], ◌∷◌, Bool, true, false, if◌then◌else◌, refl}
+use Rattle.std.specs.Prelude.{ℕ, ◌≡◌, ◌⊎◌, List, [], ◌∷◌, Bool, true, false, refl}
 use Rattle.std.proofs.Common.{inl, inr}
 use Rattle.local_store.specs.Changing.{after}
 use Rattle.local_store.specs.Tables.{row_at}

@@ -6,12 +6,13 @@ use Rattle.jop_target.specs.declared.call.Call.TheVariants.{Get, Put}
 use Rattle.jop_target.specs.declared.reply.Reply.TheVariants.{Got, Absent, Done, Failed}
 use Rattle.local_store.specs.Tables.{new_tables}
 use Rattle.local_store.specs.declared.change.Change.TheVariants.{Saved, Uploaded, Dropped, Taken, Conflict, Moved, Gone, Opened, InfoIs, ContextIs}
-use Rattle.local_store.specs.declared.content.Content.TheVariants.{Plain}
+use Rattle.local_store.specs.declared.content.Content.TheVariants.{Plain, Sealed}
 use Rattle.sync_info.specs.Info.{new_info}
 use Rattle.sync_info.specs.Json.{info_text}
 use Rattle.law_licences.specs.Deeds.{Deed, Begins, Asks, Makes, Ends, Stops}
 use Rattle.law_licences.specs.Licences.{ObeysData}
-use Rattle.law_licences.specs.Stories.{it, place, mine, theirs, a_resource, edited, synced, having, gets, puts_item, deletes, puts_blob, lists}
+use Rattle.law_licences.specs.Stories.{it, place, mine, theirs, a_resource, a_sealed, keys_for, locked, edited, synced, having, gets, puts_item, deletes, puts_blob, lists}
+use Rattle.law_licences.specs.Sealing.{Sealing, no_keys}
 use Rattle.law_licences.specs.Views.{View, at_rest}
 
 -- not each call and change of these has its licence
@@ -30,7 +31,7 @@ reader = having (synced it mine (written mine) ∷ []) []
 
 -- has a new note, and wants its files sealed
 abbrev pub sealer : View
-sealer = at_rest (record new_tables {
+sealer = at_rest no_keys (record new_tables {
   rows = edited it mine None ∷ [];
   info = record (new_info 3) { e2ee = record { value = true; updated = 1 } };
 })
@@ -221,3 +222,25 @@ save_inside = Begins ∷ Makes (Saved it mine) ∷ []
 
 abbrev pub gone_outside : List Deed
 gone_outside = Makes (Gone it) ∷ []
+
+-- ---- with keys
+
+-- keys that open every sealed item to mine, and seal every item as one text
+abbrev pub my_keys : Sealing
+my_keys = keys_for mine (codes "sealed")
+
+-- has a note that came sealed
+abbrev pub opener : View
+opener = at_rest my_keys (record new_tables { rows = locked ∷ [] })
+
+-- a sealed note gives its place as if it couldn't be opened
+abbrev pub conflict_unopened : List Deed
+conflict_unopened =
+    Begins
+    ∷ gets it (Got 1 (written a_sealed))
+    ∷ Makes (Conflict it (Some (written a_sealed, Sealed a_sealed)) true)
+    ∷ []
+
+-- a row is opened to another item than the keys give
+abbrev pub opens_to_another : List Deed
+opens_to_another = Begins ∷ Makes (Opened it theirs) ∷ []

@@ -10,6 +10,7 @@ use Rattle.local_store.specs.Tables.{row_at}
 use Rattle.local_store.specs.declared.content.Content.{Content}
 use Rattle.local_store.specs.declared.row.Row.{Row}
 use Rattle.law_licences.specs.Items.{remote_in}
+use Rattle.law_licences.specs.Sealing.{Sealing}
 use Rattle.law_licences.specs.Views.{Heard, View}
 
 -- ---- the check
@@ -55,9 +56,11 @@ IsBase (Some base) (Got now bytes) = bytes ≡ base
 IsBase None (Absent now) = Unit {0}
 IsBase base reply = ⊥
 
--- the file is another one than the client left, and holds this item of the id; or it is gone
-abbrev pub IsOther : List ℕ → Option (List ℕ) → Reply → Option (List ℕ × Content) → Type 0
-IsOther id base (Got now bytes) (Some remote) =
-    (¬ (base ≡ Some bytes)) × (remote_in id bytes ≡ Some remote)
-IsOther id (Some base) (Absent now) None = Unit {0}
-IsOther id base reply remote = ⊥
+-- The file is another one than the client left, and holds this item of the id, as these keys open it;
+-- or it is gone.
+abbrev pub IsOther : Sealing → List ℕ → Option (List ℕ) → Reply → Option (List ℕ × Content)
+    → Type 0
+IsOther s id base (Got now bytes) (Some remote) =
+    (¬ (base ≡ Some bytes)) × (remote_in s id bytes ≡ Some remote)
+IsOther s id (Some base) (Absent now) None = Unit {0}
+IsOther s id base reply remote = ⊥

@@ -15,5 +15,5 @@ pub record MayConflict (v : View) (id : List ℕ) (remote : Option (List ℕ × 
   pub reply : Reply
   pub pending : IsPending v id row
   pub check : WasGot v id reply
-  pub other : IsOther id row.base reply remote
+  pub other : IsOther v.sealing id row.base reply remote
   pub copied : copies ≡ copies_for row.content remote

@@ -7,6 +7,7 @@ use Rattle.local_store.specs.Rows.{has_kind, item_of}
 use Rattle.local_store.specs.declared.content.Content.{Content}
 use Rattle.local_store.specs.declared.content.Content.TheVariants.{Plain, Sealed}
 use Rattle.local_store.specs.declared.row.Row.{Row}
+use Rattle.law_licences.specs.Sealing.{Sealing, no_keys}
 
 -- ---- kinds
 
@@ -46,11 +47,21 @@ if_of id (Some item) = if says (codes "id") id item then Some item else None
 abbrev pub item_of_file : List ℕ → List ℕ → Option Item
 item_of_file id bytes = if_of id (item_in bytes)
 
+-- the item that is sealed in this one if it was opened, else this one, sealed
+abbrev pub or_sealed : Option Item → Item → Content
+or_sealed None item = Sealed item
+or_sealed (Some inner) item = Plain inner
+
+-- an item as a client has it whose session has these keys
+abbrev pub content_with_keys : Sealing → Item → Content
+content_with_keys s item =
+    if says (codes "encryption_applied") (codes "1") item then or_sealed (s.opens item) item
+    else Plain item
+
 -- an item as a client without keys has it
 abbrev pub content_without_keys : Item → Content
-content_without_keys item =
-    if says (codes "encryption_applied") (codes "1") item then Sealed item else Plain item
+content_without_keys item = content_with_keys no_keys item
 
 -- what a file of these bytes holds, beside its bytes, if it is an item of this id
-abbrev pub remote_in : List ℕ → List ℕ → Option (List ℕ × Content)
-remote_in id bytes = option_map (λ item. (bytes, content_without_keys item)) (item_of_file id bytes)
+abbrev pub remote_in : Sealing → List ℕ → List ℕ → Option (List ℕ × Content)
+remote_in s id bytes = option_map (λ item. (bytes, content_with_keys s item)) (item_of_file id bytes)

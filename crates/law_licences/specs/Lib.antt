@@ -1,3 +1,5 @@
+pub mod Sealing
+pub mod Opens
 pub mod Deeds
 pub mod Items
 pub mod Copies

@@ -5,14 +5,16 @@ use Rattle.jop_target.specs.declared.call.Call.{Call}
 use Rattle.jop_target.specs.declared.call.Call.TheVariants.{Put, Delete, PutBlob}
 use Rattle.local_store.specs.Sound.{IsAllowed}
 use Rattle.local_store.specs.declared.change.Change.{Change}
-use Rattle.local_store.specs.declared.change.Change.TheVariants.{Named, Saved, Removed, Uploaded, Dropped, Taken, Conflict, Moved, Gone, Cleared, InfoIs, ContextIs}
+use Rattle.local_store.specs.declared.change.Change.TheVariants.{Named, Saved, Removed, Uploaded, Dropped, Taken, Conflict, Moved, Gone, Opened, Cleared, InfoIs, ContextIs}
 use Rattle.law_licences.specs.Conflicts.{MayConflict}
 use Rattle.law_licences.specs.Deeds.{Deed, Begins, Asks, Makes, MakesUntold, Ends, Stops}
 use Rattle.law_licences.specs.Deletions.{MayDelete, MayDeleteBlob, MayDrop}
 use Rattle.law_licences.specs.Infos.{MayPutInfo, MaySetInfo}
 use Rattle.law_licences.specs.Leaving.{MayMove}
+use Rattle.law_licences.specs.Opens.{MayOpen}
 use Rattle.law_licences.specs.Pages.{MayTake, MayGo, MayFinish}
 use Rattle.law_licences.specs.Puts.{MayPut, MayUpload, MayPutBlob}
+use Rattle.law_licences.specs.Sealing.{Sealing}
 use Rattle.law_licences.specs.Views.{View, Stage, Outside, Working, Finished, seen}
 
 -- ---- calls
@@ -41,7 +43,7 @@ IsLocal (Cleared number) = Unit {0}
 IsLocal (InfoIs info) = Unit {0}
 IsLocal change = ⊥
 
--- what a session may change; no key is known here, so no row is opened
+-- what a session may change
 abbrev pub MayChange : View → Change → Type 0
 MayChange v (Uploaded id bytes) = MayUpload v id bytes
 MayChange v (Dropped id) = MayDrop v id
@@ -49,6 +51,7 @@ MayChange v (Taken id bytes content) = MayTake v id bytes content
 MayChange v (Conflict id remote copies) = MayConflict v id remote copies
 MayChange v (Moved id) = MayMove v id
 MayChange v (Gone id) = MayGo v id
+MayChange v (Opened id item) = MayOpen v id item
 MayChange v (InfoIs info) = MaySetInfo v info
 MayChange v (ContextIs context) = MayFinish v context
 MayChange v change = ⊥
@@ -87,6 +90,16 @@ AreWork (d ∷ ds) = ⊥
 -- each call and change has its licence
 abbrev pub ObeysData : View → List Deed → Type 0
 ObeysData v ds = Each MayDo v ds
+
+-- ---- whatever the keys
+
+-- it has its licence, if its session has some keys
+abbrev pub MayDoBySome : View → Deed → Type 0
+MayDoBySome v d = (s : Sealing) × MayDo (record v { sealing = s }) d
+
+-- So has each of these, which may stand in several sessions, each with keys of its own.
+abbrev pub ObeysBySome : View → List Deed → Type 0
+ObeysBySome v ds = Each MayDoBySome v ds
 
 -- ---- a synchroniser
 

@@ -31,7 +31,7 @@ pub record MayTake (v : View) (id bytes : List ℕ) (content : Content) : Type 0
   pub taken : Contains page.taken id
   pub unchanged : is_pending (row_at v.tables id) ≡ false
   pub check : WasGot v id reply
-  pub other : IsOther id (base_of (row_at v.tables id)) reply (Some (bytes, content))
+  pub other : IsOther v.sealing id (base_of (row_at v.tables id)) reply (Some (bytes, content))
 
 -- the row's file is gone by the page, and the row has no change
 pub record MayGo (v : View) (id : List ℕ) : Type 0 where

@@ -1,6 +1,7 @@
 -- The licences of uploads.
-use Rattle.std.specs.Prelude.{ℕ, ◌≡◌, List, [], ◌∷◌, Bool, true, false, ◌||◌, Some, None}
+use Rattle.std.specs.Prelude.{ℕ, ◌≡◌, List, [], ◌∷◌, Bool, true, false, ◌||◌, Option, Some, None}
 use Rattle.item_text.specs.Grammar.{written}
+use Rattle.item_text.specs.declared.item.Item.{Item as AnItem}
 use Rattle.jop_base.specs.declared.path.Path.TheVariants.{Item}
 use Rattle.jop_target.specs.declared.call.Call.{Call}
 use Rattle.jop_target.specs.declared.call.Call.TheVariants.{Put}
@@ -11,21 +12,33 @@ use Rattle.local_store.specs.declared.row.Row.{Row}
 use Rattle.law_licences.specs.Checks.{IsBase, IsPending, WasGot, is_file_of, last_on}
 use Rattle.law_licences.specs.Infos.{info_read}
 use Rattle.law_licences.specs.Items.{is_resource}
+use Rattle.law_licences.specs.Sealing.{Sealing}
 use Rattle.law_licences.specs.Views.{Heard, View}
 use Rattle.sync_info.specs.Merge.{merged}
 use Rattle.sync_info.specs.declared.info.Info.{Info}
 
--- Files are put as they are: neither this info, the client's own, asks for sealed ones, nor does the one that it makes with
--- what the session has read by these calls.
-pub record PutsPlain (info : Info) (calls : List Heard) : Type 0 where
-  pub own : info.e2ee.value ≡ false
-  pub merge : (remote : Info) → info_read calls ≡ Some remote
-      → (merged info remote).e2ee.value ≡ false
+-- whether files are sealed by this info, the client's own, or by the one that it makes with what was read
+abbrev pub seals_by : Info → Option Info → Bool
+seals_by info None = info.e2ee.value
+seals_by info (Some remote) = info.e2ee.value || (merged info remote).e2ee.value
 
--- The text of the row's item. If the target seals its files there is none: no key is known here.
-pub record IsPutText (v : View) (row : Row) (content : List ℕ) : Type 0 where
-  pub readable : PutsPlain v.tables.info v.calls
-  pub text : content ≡ written (item_of row.content)
+-- whether they are where its session has made these calls
+abbrev pub seals_files : Info → List Heard → Bool
+seals_files info calls = seals_by info (info_read calls)
+
+-- files are put as they are
+abbrev pub PutsPlain : Info → List Heard → Type 0
+PutsPlain info calls = seals_files info calls ≡ false
+
+-- a text that is put for an item: its own, or, where files are sealed, a sealed one
+abbrev pub IsTextFor : Bool → Sealing → AnItem → List ℕ → Type 0
+IsTextFor false s item content = content ≡ written item
+IsTextFor true s item content = s.seals item content ≡ true
+
+-- one for the row's item, sealed exactly where files are
+abbrev pub IsPutText : View → Row → List ℕ → Type 0
+IsPutText v row content =
+    IsTextFor (seals_files v.tables.info v.calls) v.sealing (item_of row.content) content
 
 -- an item is put that waits for it, over a file that is still as the client left it
 pub record MayPut (v : View) (id content : List ℕ) : Type 0 where

@@ -1,5 +1,5 @@
 -- Sessions that are written out, each of which obeys.
-use Rattle.std.specs.Prelude.{ℕ, List, [], ◌∷◌, true, false, codes, Option, Some, None}
+use Rattle.std.specs.Prelude.{ℕ, List, [], ◌∷◌, true, false, bytes_eq, codes, Option, Some, None}
 use Rattle.item_text.specs.Grammar.{written}
 use Rattle.item_text.specs.declared.item.Item.{Item}
 use Rattle.item_text.specs.declared.item.Prop.{Prop}
@@ -11,11 +11,13 @@ use Rattle.jop_target.specs.declared.reply.Entry.{Entry}
 use Rattle.jop_target.specs.declared.reply.Reply.{Reply}
 use Rattle.jop_target.specs.declared.reply.Reply.TheVariants.{Listed, Got, Absent, Done}
 use Rattle.local_store.specs.Tables.{new_tables}
-use Rattle.local_store.specs.declared.change.Change.TheVariants.{Saved, Uploaded, Dropped, Taken, Conflict, Moved, ContextIs}
-use Rattle.local_store.specs.declared.content.Content.TheVariants.{Plain}
+use Rattle.local_store.specs.declared.change.Change.TheVariants.{Saved, Uploaded, Dropped, Taken, Conflict, Moved, Opened, ContextIs}
+use Rattle.local_store.specs.declared.content.Content.TheVariants.{Plain, Sealed}
 use Rattle.local_store.specs.declared.deletion.Deletion.{Deletion}
 use Rattle.local_store.specs.declared.row.Row.{Row}
+use Rattle.sync_info.specs.Info.{new_info}
 use Rattle.law_licences.specs.Deeds.{Deed, Begins, Asks, Makes, Ends}
+use Rattle.law_licences.specs.Sealing.{Sealing, no_keys}
 use Rattle.law_licences.specs.Views.{View, at_rest}
 
 -- ---- what there is
@@ -65,7 +67,7 @@ synced id item base =
 
 -- a client with these rows, and with these files to be deleted
 abbrev pub having : List Row → List Deletion → View
-having rows deletions = at_rest (record new_tables { rows = rows; deletions = deletions })
+having rows deletions = at_rest no_keys (record new_tables { rows = rows; deletions = deletions })
 
 -- my text, and that of another client
 abbrev pub mine : Item
@@ -150,3 +152,64 @@ a_page =
     ∷ Makes (ContextIs (record { moment = 3; seen = it ∷ [] }))
     ∷ Ends
     ∷ []
+
+-- ---- with keys
+
+-- a note that is sealed
+abbrev pub a_sealed : Item
+a_sealed = record {
+  title = None;
+  body = [];
+  props =
+      prop (codes "id") it
+      ∷ prop (codes "encryption_applied") (codes "1")
+      ∷ prop (codes "encryption_cipher_text") (codes "secret")
+      ∷ prop (codes "type_") (codes "1")
+      ∷ [];
+}
+
+-- keys that open every sealed item to this one, and seal every item as this text
+abbrev pub keys_for : Item → List ℕ → Sealing
+keys_for inner text = record {
+  opens = λ item. Some inner;
+  seals = λ item other. bytes_eq other text;
+}
+
+-- a client with these rows, whose session has these keys, and whose files are to be sealed
+abbrev pub sealing_with : Sealing → List Row → View
+sealing_with s rows = at_rest s (record new_tables {
+  rows = rows;
+  info = record (new_info 3) { e2ee = record { value = true; updated = 1 } };
+})
+
+-- a row as the target has it, which is sealed
+abbrev pub locked : Row
+locked = record {
+  id = it;
+  content = Sealed a_sealed;
+  base = Some (written a_sealed);
+  pending = false;
+}
+
+-- a new note is uploaded sealed
+abbrev pub a_sealed_upload : List Deed
+a_sealed_upload =
+    Begins
+    ∷ gets it (Absent 1)
+    ∷ puts_item it (codes "sealed") (Done 2)
+    ∷ Makes (Uploaded it (codes "sealed"))
+    ∷ Ends
+    ∷ []
+
+-- a sealed note is taken, as the keys open it
+abbrev pub a_sealed_conflict : List Deed
+a_sealed_conflict =
+    Begins
+    ∷ gets it (Got 1 (written a_sealed))
+    ∷ Makes (Conflict it (Some (written a_sealed, Plain theirs)) true)
+    ∷ Ends
+    ∷ []
+
+-- a row that came sealed is opened
+abbrev pub an_opening : List Deed
+an_opening = Begins ∷ Makes (Opened it mine) ∷ Ends ∷ []

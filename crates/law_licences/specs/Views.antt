@@ -16,6 +16,7 @@ use Rattle.local_store.specs.declared.change.Change.{Change}
 use Rattle.local_store.specs.declared.change.Change.TheVariants.{ContextIs}
 use Rattle.local_store.specs.declared.row.Row.{Row}
 use Rattle.local_store.specs.declared.tables.Tables.{Tables}
+use Rattle.law_licences.specs.Sealing.{Sealing}
 use Rattle.law_licences.specs.Deeds.{Deed, Begins, Asks, Makes, MakesUntold, Ends, Stops}
 
 -- a call, and its reply if one was heard
@@ -40,16 +41,23 @@ pub data Stage : Type 0 where
   Finished : Stage
 
 -- The client's tables; the calls of its session but those about locks, the last one first; what that session's last
--- listing of the root has shown; and where the client stands.
+-- listing of the root has shown; where the client stands; and what the keys of its session open and seal.
 pub record View : Type 0 where
   pub tables : Tables
   pub calls : List Heard
   pub shown : Option Shown
   pub stage : Stage
+  pub sealing : Sealing
 
--- a client with these tables, in no session
-abbrev pub at_rest : Tables → View
-at_rest tables = record { tables = tables; calls = []; shown = None; stage = Outside }
+-- a client with these tables, in no session, whose next one has these keys
+abbrev pub at_rest : Sealing → Tables → View
+at_rest sealing tables = record {
+  tables = tables;
+  calls = [];
+  shown = None;
+  stage = Outside;
+  sealing = sealing;
+}
 
 -- ---- calls
 

@@ -4,7 +4,8 @@ ghost use Rattle.std.specs.Prelude.{◌≡◌, ◌++◌, ℕ, List};
 ghost use Rattle.law_licences.specs.Deeds.{Deed, changes_in, deeds_of, events_of};
 ghost use Rattle.law_licences.specs.Laws.{CallsAreTold, IsToldInTurn, MakesNoneWait, MergesInTurn};
 ghost use Rattle.law_licences.specs.Laws.{ObeysInParts, ObeysInTurn, SettlesOrLeaves, TablesAreTold};
-ghost use Rattle.law_licences.specs.Licences.{AreWork};
+ghost use Rattle.law_licences.specs.Licences.{AreWork, ObeysBySome, ObeysData};
+ghost use Rattle.law_licences.specs.Sealing.{Sealing};
 ghost use Rattle.law_licences.specs.Views.{View, view_from};
 
 /// What is done in two parts has its licences exactly if each part has them, the second by what is seen behind the
@@ -33,4 +34,14 @@ pub fn work_is_told()
         → deeds_of (events_of n ds) (changes_in ds) ≡ ds }
     ensures calls { CallsAreTold }
     ensures tables { TablesAreTold }
+{}
+
+/// What has its licences by the keys of one client has them by some keys; and then it matters not which keys the client
+/// is seen with.
+pub fn keys_are_a_sessions_own()
+    ensures some { (v : View) (ds : List Deed) → ObeysData v ds → ObeysBySome v ds }
+    ensures joined { (v : View) (ds es : List Deed)
+        → ObeysBySome v ds → ObeysBySome (view_from v ds) es → ObeysBySome v (ds ++ es) }
+    ensures any { (s : Sealing) (v : View) (ds : List Deed) → ObeysBySome v ds
+        → ObeysBySome (record v { sealing = s }) ds }
 {}

@@ -8,7 +8,8 @@
 mod laws;
 mod stories;
 
-pub use laws::{obedience_joins, sessions_settle_rows, work_is_told};
+pub use laws::{keys_are_a_sessions_own, obedience_joins, sessions_settle_rows, work_is_told};
 pub use stories::{
     can_obey, refuses_conflicts, refuses_deletions, refuses_others, refuses_pages, refuses_uploads,
+    refuses_without_its_keys,
 };

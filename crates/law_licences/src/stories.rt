@@ -3,9 +3,9 @@
 
 ghost use Rattle.std.specs.Prelude.{[], ◌∷◌, Some, None, true, false, codes};
 ghost use Rattle.item_text.specs.Grammar.{written};
-ghost use Rattle.law_licences.specs.Breaches.{Breaks, blob_at_once, blob_behind, change_behind_page, conflict_as_if_gone, conflict_of_new, conflict_with_base, conflict_with_needless_copy, conflict_without_copy, delete_blob, delete_for_nothing, drop_failed, drop_half, drop_undone, editor, finish_unlisted, go_at_once, go_unlisted, gone_outside, move_for_nothing, opens, put_after_failure, put_after_stop, put_in_next_session, put_of_another_text, put_of_unchanged, put_outside, put_over_another, put_over_nothing, put_twice, put_unchecked, put_unheard, puts_info, reader, save_inside, sealer, sets_info, put_after_check, take_at_once, take_unlisted, take_unread, upload_failed, upload_of_others, upload_unput};
+ghost use Rattle.law_licences.specs.Breaches.{Breaks, blob_at_once, blob_behind, change_behind_page, conflict_as_if_gone, conflict_of_new, conflict_with_base, conflict_with_needless_copy, conflict_without_copy, delete_blob, delete_for_nothing, drop_failed, drop_half, drop_undone, editor, finish_unlisted, go_at_once, go_unlisted, gone_outside, move_for_nothing, opens, put_after_failure, put_after_stop, put_in_next_session, put_of_another_text, put_of_unchanged, put_outside, put_over_another, put_over_nothing, put_twice, put_unchecked, put_unheard, puts_info, reader, save_inside, sealer, sets_info, put_after_check, take_at_once, take_unlisted, take_unread, upload_failed, upload_of_others, upload_unput, my_keys, opener, conflict_unopened, opens_to_another};
 ghost use Rattle.law_licences.specs.Licences.{MergesInfo, ObeysData};
-ghost use Rattle.law_licences.specs.Stories.{a_conflict, a_deletion, a_loss, a_page, a_resource, an_upload, edited, folder_editor, having, it, theirs};
+ghost use Rattle.law_licences.specs.Stories.{a_conflict, a_deletion, a_loss, a_page, a_resource, a_sealed_conflict, a_sealed_upload, an_opening, an_upload, edited, folder_editor, having, it, keys_for, mine, sealing_with, theirs};
 
 /// A session can upload, delete, give way to another client's text, part with a folder, and read its page.
 pub fn can_obey()
@@ -14,6 +14,13 @@ pub fn can_obey()
     ensures conflict { ObeysData (editor (Some [])) a_conflict }
     ensures loss { ObeysData folder_editor a_loss }
     ensures page { ObeysData (having [] []) a_page }
+
+    // With keys it can also upload what it seals, give way to what is sealed, and open what came sealed.
+    ensures sealed_upload { ObeysData (sealing_with my_keys (edited it mine None ∷ []))
+        a_sealed_upload }
+    ensures sealed_conflict { ObeysData
+        (sealing_with (keys_for theirs []) (edited it mine (Some []) ∷ [])) a_sealed_conflict }
+    ensures opening { ObeysData opener an_opening }
 {}
 
 /// No item is put but by a check of its own session that shows it as the client left it; no upload is told that wasn't
@@ -80,4 +87,13 @@ pub fn refuses_others()
     ensures opens { Breaks reader opens }
     ensures inside { Breaks reader save_inside }
     ensures outside { Breaks reader gone_outside }
+{}
+
+/// A session with keys puts no item in clear where files are to be sealed, holds nothing sealed that its keys open, and
+/// opens a row to what its keys give alone.
+pub fn refuses_without_its_keys()
+    ensures unsealed { Breaks (sealing_with my_keys (edited it mine None ∷ [])) put_after_check }
+    ensures unopened { Breaks (sealing_with my_keys (edited it mine (Some []) ∷ []))
+        conflict_unopened }
+    ensures opened { Breaks opener opens_to_another }
 {}

@@ -1,4 +1,4 @@
-use Rattle.law_licences.proofs.Obeying.{upload, deletion, conflict, loss, reading}
+use Rattle.law_licences.proofs.Obeying.{upload, deletion, conflict, loss, reading, sealed-upload, sealed-conflict, opened}
 use Rattle.law_licences.proofs.stories.can_obey.Goals as goal
 
 pub returns : goal.returns
@@ -8,4 +8,7 @@ returns c = record {
   conflict = conflict;
   loss = loss;
   page = reading;
+  sealed_upload = sealed-upload;
+  sealed_conflict = sealed-conflict;
+  opening = opened;
 }
