@@ -1,4 +1,5 @@
-pub mod Fetched
 pub mod Taken
 pub mod Left
+pub mod Still
+pub mod Emptied
 pub mod Paged

@@ -4,22 +4,23 @@ use Rattle.std.proofs.Common.{sym, ap, subst, ◌∙◌}
 use Rattle.conflicts.specs.Rules.{conflict_change}
 use Rattle.conflicts.specs.declared.error.StepErr.{StepErr}
 use Rattle.client.specs.Sites.{SiteNow}
-use Rattle.download.proofs.Fetched.{Keeps}
 use Rattle.download.specs.Asked.{PageAsksFor}
-use Rattle.download.specs.Taking.{Meets, MeetsUnlessKey, MeetsFound, TakesOne, is_taking}
+use Rattle.download.specs.Taking.{Meets, MeetsUnlessKey, MeetsFound, TakesOne, is_taking, met_by}
 use Rattle.law_licences.specs.Checks.{IsOther, is_pending}
 use Rattle.law_licences.specs.Conflicts.{MayConflict}
 use Rattle.law_licences.specs.Copies.{copies_for}
 use Rattle.law_licences.specs.Deeds.{Deed}
-use Rattle.law_licences.specs.Views.{Shown, View, Working, stage_after, view_from}
+use Rattle.law_licences.specs.Sealing.{no_keys}
+use Rattle.law_licences.specs.Views.{Shown, Stage, View, Working, stage_after, view_from}
+use Rattle.local_store.specs.Sound.{IsAllowed, IsContentOf}
 use Rattle.local_store.specs.Tables.{base_of, row_at}
 use Rattle.local_store.specs.declared.change.Change.{Change}
 use Rattle.local_store.specs.declared.change.Change.TheVariants.{Taken}
 use Rattle.local_store.specs.declared.content.Content.{Content}
 use Rattle.local_store.specs.declared.row.Row.{Row}
 use Rattle.local_store.specs.declared.tables.Tables.{Tables}
-use Rattle.session.proofs.WaitingRow.{Waits}
-use Rattle.session.proofs.Behind.{ends_working}
+use Rattle.session.proofs.Fetched.{Keeps}
+use Rattle.session.proofs.WaitingRow.{Waits, waits}
 use Rattle.session.proofs.Ending.{does_as, does_nothing, ends_as, ends_then}
 use Rattle.session.proofs.Found.{other_found}
 use Rattle.session.specs.Doing.{Does, Ends, EndsAt}
@@ -83,31 +84,45 @@ may_conflict id remote d known row w h shown fits =
       reply = h.reply;
       pending = record { at = w.at; pending = w.pending };
       check = h.last;
-      other = subst (λ (base : Option (List ℕ)). IsOther id base h.reply (Some remote))
+      other = subst (λ (base : Option (List ℕ)). IsOther no_keys id base h.reply (Some remote))
           (ap base_of w.at)
           (other_found id (base_of (row_at d.tables id)) h.reply remote h.found);
       copied = refl;
     })
 
+-- whichever row waits, the file may be met
+pub may_meet : (id : List ℕ) (remote : List ℕ × Content) (d : SiteNow) (known : Shown)
+    (row : Option Row) → row ≡ waiting (row_at d.tables id) → PageAsksFor known id
+    → IsFound id (Other remote) d → MayMakeBy (Some known) d (met_by id remote row)
+may_meet id remote d known None is asks h =
+    may_take id remote d known asks h (unchanged d.tables id is)
+may_meet id remote d known (Some row) is asks h =
+    may_conflict id remote d (Some known) row (waits d.tables id row is) h
+
+pub met_allowed : (id : List ℕ) (remote : List ℕ × Content) (t : Tables) (row : Option Row)
+    → row ≡ waiting (row_at t id) → IsContentOf id remote.1 → IsAllowed (met_by id remote row)
+met_allowed id remote t None is sound = sound
+met_allowed id remote t (Some row) is sound =
+    subst (λ k. IsContentOf k remote.1) (sym (waits t id row is).same) sound
+
+met_more : (id : List ℕ) (remote : List ℕ × Content) (row : Option Row)
+    → stage_after Working (met_by id remote row) ≡ Working
+met_more id remote None = refl
+met_more id remote (Some row) = refl
+
 -- ---- told
 
+-- the file is met by the change of the row that waits
 pub meets_as : {R : Type 0} (id : List ℕ) (remote : List ℕ × Content) (row own : Option Row)
-    (a b : WorkNow) (result : Result R StepErr) → row ≡ own
-    → Ends (Meets id remote row) is_taking a result b
-    → Ends (Meets id remote own) is_taking a result b
-meets_as id remote row own a b result same h =
-    subst (λ (x : Option Row). Ends (Meets id remote x) is_taking a result b) same h
-
--- the row that waits gives way
-pub conflicts_as : {R : Type 0} (id : List ℕ) (remote : List ℕ × Content) (row : Row)
-    (own : Option Row) (change : Change) (a b : WorkNow) (result : Result R StepErr)
-    → Some row ≡ own → change ≡ conflict_change row (Some remote)
+    (change : Change) (a b : WorkNow) (result : Result R StepErr) → row ≡ own
+    → change ≡ met_by id remote row
     → EndsAt (stage_after Working change) (Changes change) is_taking a result b
-    → Ends (Meets id remote own) is_taking a result b
-conflicts_as id remote row own change a b result same is h =
-    meets_as id remote (Some row) own a b result same
-    (ends_working (Changes (conflict_change row (Some remote))) is_taking a b result
-    (subst (λ (x : Change). EndsAt (stage_after Working x) (Changes x) is_taking a result b) is h))
+    → Ends (Changes (met_by id remote own)) is_taking a result b
+meets_as id remote row own change a b result same is h =
+    let it : change ≡ met_by id remote own = is ∙ ap (met_by id remote) same in
+    subst (λ (there : Stage). EndsAt there (Changes (met_by id remote own)) is_taking a result b)
+    (met_more id remote own)
+    (subst (λ (x : Change). EndsAt (stage_after Working x) (Changes x) is_taking a result b) it h)
 
 -- what is done, told by what the file is
 pub reads_as : {R : Type 0} (id : List ℕ) (finding f : Finding) (a b : WorkNow)

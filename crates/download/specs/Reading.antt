@@ -7,6 +7,7 @@ use Rattle.conflicts.specs.declared.refusal.Refusal.TheVariants.{FailSafe}
 use Rattle.delta.specs.declared.page.Page.{Page}
 use Rattle.download.specs.Asked.{EndsShown}
 use Rattle.download.specs.Downloading.{Applies, Downloads, is_download}
+use Rattle.download.specs.Taking.{is_taking}
 use Rattle.jop_base.specs.declared.dir.Dir.TheVariants.{Root}
 use Rattle.jop_target.specs.declared.call.Call.TheVariants.{List as ListDir}
 use Rattle.jop_target.specs.declared.reply.Listing.{Listing}
@@ -31,7 +32,7 @@ pub record Lacks (known : Shown) (id : List ℕ) : Type 0 where
 -- if by the session's last listing this file is gone, it was this part, or gave nothing
 abbrev pub EndsIfGone : List ℕ → Part → WorkNow → Result (Unit {0}) StepErr → WorkNow → Type 0
 EndsIfGone id P old result new =
-    EndsShown (λ known. Lacks known id) is_download P old result new
+    EndsShown (λ known. Lacks known id) is_taking P old result new
 
 -- all of these are
 abbrev pub LacksAll : List (List ℕ) → Shown → Type 0
@@ -40,14 +41,14 @@ LacksAll ids known = All (Lacks known) ids
 -- if these are, it was this part, or gave nothing
 abbrev pub EndsIfAllGone : List (List ℕ) → Part → WorkNow → Result (Unit {0}) StepErr → WorkNow →
     Type 0
-EndsIfAllGone ids P old result new = EndsShown (LacksAll ids) is_download P old result new
+EndsIfAllGone ids P old result new = EndsShown (LacksAll ids) is_taking P old result new
 
 -- if the session was shown a listing that asks for this page, the page was applied, which is the session's last
 -- part, or it gave nothing
 abbrev pub EndsPage : Page → WorkNow → Result (Unit {0}) StepErr → WorkNow → Type 0
 EndsPage page old result new =
     (known : Shown) → IsPage known page
-    → EndsAt Finished (Applies page) is_download (knowing (Some known) old) result
+    → EndsAt Finished (Applies page) is_taking (knowing (Some known) old) result
     (knowing (Some known) new)
 
 -- ---- the listing

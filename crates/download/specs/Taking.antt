@@ -7,16 +7,16 @@ use Rattle.jop_base.specs.declared.path.Path.TheVariants.{Item as ItemFile}
 use Rattle.jop_target.specs.declared.call.Call.{Call}
 use Rattle.jop_target.specs.declared.call.Call.TheVariants.{Get, GetBlob}
 use Rattle.jop_target.specs.declared.reply.Reply.{Reply}
-use Rattle.law_licences.specs.Items.{is_resource}
 use Rattle.local_store.specs.Rows.{has_kind, item_of}
 use Rattle.local_store.specs.Tables.{base_of, row_at}
+use Rattle.local_store.specs.declared.change.Change.{Change}
 use Rattle.local_store.specs.declared.change.Change.TheVariants.{Taken}
 use Rattle.local_store.specs.declared.content.Content.{Content}
 use Rattle.local_store.specs.declared.row.Row.{Row}
 use Rattle.session.specs.Asking.{IsAnswer}
 use Rattle.session.specs.Findings.{finding_of, waiting}
 use Rattle.session.specs.Parts.{Changes, Hears, Nothing, Part, Then}
-use Rattle.session.specs.Sessions.{Fetches}
+use Rattle.session.specs.Sessions.{GetsBytesOf}
 use Rattle.session.specs.declared.finding.Finding.{Finding}
 use Rattle.session.specs.declared.finding.Finding.TheVariants.{Same, Other, Missing, Unreadable}
 
@@ -34,24 +34,14 @@ is_taking call = false
 
 -- ---- a new file
 
--- of a resource the bytes are got, whether there are any or not; those that are got are saved
-abbrev pub GetsBytes : List ℕ → Bool → Part
-GetsBytes id true = Fetches id
-GetsBytes id false = Nothing
+-- a row that waits gives way to the file, and else it becomes what the file holds
+abbrev pub met_by : List ℕ → List ℕ × Content → Option Row → Change
+met_by id remote None = Taken id remote.0 remote.1
+met_by id remote (Some row) = conflict_change row (Some remote)
 
--- those that belong to an item
-abbrev pub GetsBytesOf : List ℕ → Content → Part
-GetsBytesOf id content = GetsBytes id (is_resource (item_of content))
-
--- the row becomes what the file holds; of a resource the bytes come first
-abbrev pub TakesIn : List ℕ → List ℕ × Content → Part
-TakesIn id remote =
-    Then (GetsBytesOf id remote.1) (Changes (Taken id remote.0 remote.1))
-
--- a row that waits gives way to the file, and else it is taken
+-- so the row that waits, if one does, meets the file; of a resource the bytes come first
 abbrev pub Meets : List ℕ → List ℕ × Content → Option Row → Part
-Meets id remote None = TakesIn id remote
-Meets id remote (Some row) = Changes (conflict_change row (Some remote))
+Meets id remote row = Then (GetsBytesOf id remote.1) (Changes (met_by id remote row))
 
 -- a notebook's key, which other clients keep as an item
 abbrev pub is_key_item : Item → Bool

@@ -1,4 +1,5 @@
 ghost use Rattle.std.specs.Prelude.{◌≡◌, IfOk, OnOk};
+ghost use Rattle.download.specs.Emptied.{HeedsBetween, RefusesStep};
 ghost use Rattle.download.specs.Reading.{EndsDownload, EndsPage, ListsPage, PageIn, PageOf};
 ghost use Rattle.jop_target.specs.declared.reply.Reply.TheVariants.{Listed};
 ghost use Rattle.jop_target.specs.declared.reply.Listing.{Listing as Shows};
@@ -60,6 +61,7 @@ fn list<W: Session>(alloc: Global, s: &mut W) -> Result<Page, StepErr>
     requires ready { IsAtWork (W.now s.old) }
 
     ensures ends { ListsPage (W.now s.old) result (W.now s.new) }
+    ensures emptied { HeedsBetween (RefusesStep result) (W.now s.old).site (W.now s.new).site }
 {
     s.ask(alloc, Call::List(Dir::Root))?;
     page_of(alloc, s.tables(), s.last())
@@ -87,6 +89,9 @@ pub fn apply_listed<W: Session>(alloc: Global, s: &mut W) -> Result<(), StepErr>
     requires ready { IsAtWork (W.now s.old) }
 
     ensures ends { EndsDownload (W.now s.old) result (W.now s.new) }
+    // Where the listing looks like an emptied target, that is its refusal, unless memory runs out, and nothing is done
+    // behind it but what the lease does by itself.
+    ensures emptied { HeedsBetween (RefusesStep result) (W.now s.old).site (W.now s.new).site }
 {
     let page = list(alloc, s)?;
     apply(alloc, s, &page)
@@ -105,6 +110,7 @@ pub fn apply_page<S: Client>(
     ensures lease { IsSameBut lease.old lease.new }
     ensures ends { EndsDownload (work (S.site site.old) lease.old report.old) result
         (work (S.site site.new) lease.new report.new) }
+    ensures emptied { HeedsBetween (RefusesStep result) (S.site site.old) (S.site site.new) }
     ensures stays { S.place site.new ≡ S.place site.old }
 {
     let mut s = Hand {

@@ -1,12 +1,8 @@
-ghost use Rattle.std.specs.Prelude.{◌≡◌, false};
+ghost use Rattle.std.specs.Prelude.{◌≡◌};
 ghost use Rattle.download.specs.Asked.{AsksForAll, EndsIfAsked, EndsMet, EndsShown, IsGot};
-ghost use Rattle.download.specs.Taking.{GetsBytesOf, MeetsFound, TakesIn, TakesOne, is_key_item, is_taking};
-ghost use Rattle.law_licences.specs.Checks.{is_pending};
-ghost use Rattle.law_licences.specs.Items.{is_resource};
+ghost use Rattle.download.specs.Taking.{MeetsFound, TakesOne, is_key_item, is_taking, met_by};
 ghost use Rattle.law_licences.specs.Views.{Shown};
 ghost use Rattle.local_store.specs.Rows.{item_of};
-ghost use Rattle.local_store.specs.Tables.{row_at};
-ghost use Rattle.session.specs.Doing.{Ends};
 ghost use Rattle.session.specs.Parts.{ForEach};
 ghost use Rattle.session.specs.Work.{IsAtWork};
 ghost use Rattle.session.specs.declared.finding.Finding.TheVariants.{Other};
@@ -14,52 +10,26 @@ ghost use Rattle.session.specs.declared.finding.Finding.TheVariants.{Other};
 use conflicts::{StepErr, conflict_change};
 use item_kinds::Kind;
 use jop_base::{Bytes, Id, let_go};
-use local_store::{Change, Content, has_kind};
-use session::{Finding, Session, waiting_row};
+use local_store::{Change, Content, Row, has_kind};
+use session::{Finding, Session, fetch_bytes_of, waiting_row};
 use std::alloc::Global;
 
-fn is_resource(content: &Content) -> bool
-    ensures { result ≡ is_resource (item_of content.now) }
+/// The change by which a file is met: a row that waits gives way to it, and else it is taken.
+fn met_by(id: &Id, remote: (Bytes, Content), waiting: Option<Row>) -> Change
+    ensures { result ≡ met_by id.now remote waiting }
 {
-    has_kind(content.item(), Kind::RESOURCE)
-}
-
-/// Gets the bytes that belong to an item, if it is a resource.
-fn get_bytes_of<W: Session>(
-    alloc: Global,
-    s: &mut W,
-    id: &Id,
-    content: &Content,
-) -> Result<(), StepErr>
-    requires ready { IsAtWork (W.now s.old) }
-
-    ensures ends { Ends (GetsBytesOf id.now content.now) is_taking (W.now s.old) result
-        (W.now s.new) }
-{
-    if !is_resource(content) {
-        return Ok(());
+    match waiting {
+        Some(row) => {
+            let change = conflict_change(&row, Some(remote));
+            let_go(row);
+            change
+        }
+        None => Change::Taken(*id, remote.0, remote.1),
     }
-    s.fetch(alloc, id)
 }
 
-/// Takes what a file holds: of a resource the bytes come first.
-fn take_in<W: Session>(
-    alloc: Global,
-    s: &mut W,
-    id: &Id,
-    remote: (Bytes, Content),
-) -> Result<(), StepErr>
-    requires ready { IsAtWork (W.now s.old) }
-    requires got { IsGot id.now (Other remote) (W.now s.old).site }
-    requires unchanged { is_pending (row_at (W.now s.old).site.tables id.now) ≡ false }
-
-    ensures ends { EndsIfAsked id.now (TakesIn id.now remote) (W.now s.old) result (W.now s.new) }
-{
-    get_bytes_of(alloc, s, id, &remote.1)?;
-    s.make_shown(alloc, Change::Taken(*id, remote.0, remote.1))
-}
-
-/// Takes what a file holds, unless the row of its id waits: then that gives way.
+/// Takes what a file holds, unless the row of its id waits: then that gives way. Of a resource the bytes come first, so
+/// that those that are kept are the ones of the item that the row then has.
 fn meet<W: Session>(
     alloc: Global,
     s: &mut W,
@@ -71,15 +41,9 @@ fn meet<W: Session>(
 
     ensures ends { EndsMet id.now remote (W.now s.old) result (W.now s.new) }
 {
+    fetch_bytes_of(alloc, s, id, &remote.1)?;
     let waiting = waiting_row(alloc, s.tables(), id)?;
-    match waiting {
-        Some(row) => {
-            let change = conflict_change(&row, Some(remote));
-            let_go(row);
-            s.make_shown(alloc, change)
-        }
-        None => take_in(alloc, s, id, remote),
-    }
+    s.make_shown(alloc, met_by(id, remote, waiting))
 }
 
 /// Whether this is a notebook's key.

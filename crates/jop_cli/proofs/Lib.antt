@@ -1,6 +1,8 @@
 mod Checked
 mod Constants
 mod Due
+mod DueKey
+mod DueEmptied
 pub mod Whole
 mod Heard
 mod Licensed

@@ -13,6 +13,7 @@ use Rattle.lease.specs.Calls.{IsLeaseCall, IsLeaseEvent}
 use Rattle.lease.specs.WholeSession.{AddsBegun, AddsWhole}
 use Rattle.law_licences.specs.Deeds.{Asks, Begins, deeds_of}
 use Rattle.law_licences.specs.Licences.{Each, IsInside, MayCall, MayDo, ObeysData}
+use Rattle.law_licences.specs.Sealing.{no_keys}
 use Rattle.law_licences.specs.Views.{View, at_rest, view_after_call, seen}
 use Rattle.local_store.specs.declared.change.Change.{Change}
 use Rattle.local_store.specs.declared.tables.Tables.{Tables}
@@ -62,17 +63,17 @@ free_licensed P free v (Ended ∷ es) fs inside behind each =
 pub record AddsLicensed (old new : List Event) : Type 0 where
   pub more : List Event
   pub is : new ≡ old ++ more
-  pub licensed : (t : Tables) → ObeysData (at_rest t) (deeds_of more [])
+  pub licensed : (t : Tables) → ObeysData (at_rest no_keys t) (deeds_of more [])
 
 -- so has a run that had done nothing before, and has made no change
 pub licensed_fresh : (before : OutsideNow) (trail : List Event) (t : Tables) →
     IsFreshOutside before →
-    AddsLicensed before.line.trail trail → ObeysData (at_rest t) (deeds_of trail before.made)
+    AddsLicensed before.line.trail trail → ObeysData (at_rest no_keys t) (deeds_of trail before.made)
 licensed_fresh before trail t fresh adds =
     let is : trail ≡ adds.more =
     adds.is ∙ ap (λ (es : List Event). es ++ adds.more) fresh.unwritten in
-    subst (λ (es : List Event). ObeysData (at_rest t) (deeds_of es before.made)) (sym is)
-    (subst (λ (cs : List Change). ObeysData (at_rest t) (deeds_of adds.more cs))
+    subst (λ (es : List Event). ObeysData (at_rest no_keys t) (deeds_of es before.made)) (sym is)
+    (subst (λ (cs : List Change). ObeysData (at_rest no_keys t) (deeds_of adds.more cs))
     (sym fresh.unchanged) (adds.licensed t))
 
 whole_licensed : (P : Event → Type 0) → AreFree P → (client : List ℕ) (old new : List Event) →
@@ -83,24 +84,24 @@ whole_licensed P free client old new adds = record {
   is = adds.trail;
   licensed = λ t. (
     tt,
-    free_licensed P free (seen (at_rest t) Begins) adds.middle (Ended ∷ []) tt
+    free_licensed P free (seen (at_rest no_keys t) Begins) adds.middle (Ended ∷ []) tt
         (λ w inside. (tt, tt)) adds.each,
   );
 }
 
 begun_licensed : (P : Event → Type 0) → AreFree P → (more : List Event) (t : Tables)
     (middle : List Event) → more ≡ Began ∷ middle → All P middle →
-    ObeysData (at_rest t) (deeds_of (more ++ []) [])
+    ObeysData (at_rest no_keys t) (deeds_of (more ++ []) [])
 unfolding deeds_of Each
 begun_licensed P free more t middle is each =
-    subst (λ (es : List Event). ObeysData (at_rest t) (deeds_of (es ++ []) [])) (sym is)
-    (tt, free_licensed P free (seen (at_rest t) Begins) middle [] tt (λ w inside. tt) each)
+    subst (λ (es : List Event). ObeysData (at_rest no_keys t) (deeds_of (es ++ []) [])) (sym is)
+    (tt, free_licensed P free (seen (at_rest no_keys t) Begins) middle [] tt (λ w inside. tt) each)
 
 idle_licensed : (more : List Event) (t : Tables) → more ≡ [] →
-    ObeysData (at_rest t) (deeds_of (more ++ []) [])
+    ObeysData (at_rest no_keys t) (deeds_of (more ++ []) [])
 unfolding deeds_of Each
 idle_licensed more t is =
-    subst (λ (es : List Event). ObeysData (at_rest t) (deeds_of (es ++ []) [])) (sym is) tt
+    subst (λ (es : List Event). ObeysData (at_rest no_keys t) (deeds_of (es ++ []) [])) (sym is) tt
 
 open_licensed : (P : Event → Type 0) → AreFree P → (client : List ℕ) (old new : List Event) →
     AddsBegun P client old new → AddsLicensed old new
@@ -108,7 +109,7 @@ open_licensed P free client old new adds = record {
   more = adds.more;
   is = adds.trail;
   licensed = λ t.
-      subst (λ (es : List Event). ObeysData (at_rest t) (deeds_of es [])) (append-nil adds.more)
+      subst (λ (es : List Event). ObeysData (at_rest no_keys t) (deeds_of es [])) (append-nil adds.more)
       (elim adds.begun [
         | inl none ↦ idle_licensed adds.more t none
         | inr begun ↦ begun_licensed P free adds.more t begun.0 begun.1 begun.2

@@ -25,6 +25,7 @@ use Rattle.jop_words.specs.declared.verb.Verb.TheVariants.{Local}
 use Rattle.keeper.specs.Keepers.{KeeperNow, Kept, changed}
 use Rattle.law_licences.specs.Deeds.{deeds_of}
 use Rattle.law_licences.specs.Licences.{ObeysData}
+use Rattle.law_licences.specs.Sealing.{no_keys}
 use Rattle.law_licences.specs.Views.{at_rest}
 use Rattle.local_commands.proofs.Leaving.{drawn_fault, follows, given_fault, unsaved}
 use Rattle.local_commands.proofs.Unhindered.{goes_well}
@@ -37,7 +38,7 @@ use Rattle.local_commands.specs.Sparing.{Spares}
 use Rattle.local_commands.specs.declared.act.Act.TheVariants.{MakeChange}
 use Rattle.local_commands.specs.declared.command.LocalCommand.{LocalCommand}
 use Rattle.local_commands.specs.declared.local_err.LocalErr.{LocalErr}
-use Rattle.local_commands.specs.declared.local_err.LocalErr.TheVariants.{KeeperFault, SourceFault, ClockFault, EntropyFault, NotFound, Sealed, TimeEnd, NotEmpty, BelowItself, NoConflict, TooLarge, NotText, NoMemory}
+use Rattle.local_commands.specs.declared.local_err.LocalErr.TheVariants.{KeeperFault, SourceFault, ClockFault, EntropyFault, NotFound, NotOne, Sealed, TimeEnd, NotEmpty, BelowItself, NoConflict, TooLarge, NotText, NoMemory}
 use Rattle.local_store.specs.Changing.{after_all}
 use Rattle.local_store.specs.declared.change.Change.{Change}
 
@@ -54,6 +55,8 @@ explained_refusal command before after ClockFault runs heard = runs.risen
 explained_refusal command before after EntropyFault runs heard =
     drawn_fault (plan_of command).draws before.entropy after.entropy runs.fails
 explained_refusal command before after (NotFound id) runs heard =
+    record { command = command; is = refl; runs = runs }
+explained_refusal command before after (NotOne count) runs heard =
     record { command = command; is = refl; runs = runs }
 explained_refusal command before after (Sealed id) runs heard =
     record { command = command; is = refl; runs = runs }
@@ -87,6 +90,7 @@ early_local SourceFault = refl
 early_local ClockFault = refl
 early_local EntropyFault = refl
 early_local (NotFound id) = refl
+early_local (NotOne count) = refl
 early_local (Sealed id) = refl
 early_local (TimeEnd id) = refl
 early_local (NotEmpty id) = refl
@@ -175,10 +179,10 @@ licensed : (command : LocalCommand) (before after : OutsideNow) (answer : Result
 licensed command before after answer fresh runs = λ k told.
     let is = makes_licensed (plan_of command) before after answer runs in
     let all = all_noted is.changes before after fresh is.noted in
-    subst (λ (t : List Event). ObeysData (at_rest k.tables) (deeds_of t after.made)) (sym all.trail)
-    (subst (λ (cs : List Change). ObeysData (at_rest k.tables) (deeds_of (trail_of 0 is.changes) cs))
+    subst (λ (t : List Event). ObeysData (at_rest no_keys k.tables) (deeds_of t after.made)) (sym all.trail)
+    (subst (λ (cs : List Change). ObeysData (at_rest no_keys k.tables) (deeds_of (trail_of 0 is.changes) cs))
     (sym all.made)
-    (subst (λ (cs : List Change). ObeysData (at_rest k.tables)
+    (subst (λ (cs : List Change). ObeysData (at_rest no_keys k.tables)
     (deeds_of (trail_of (length cs) is.changes) is.changes)) fresh.unchanged (is.licensed k.tables)))
 
 -- ---- the whole

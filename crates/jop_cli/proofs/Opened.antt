@@ -1,5 +1,5 @@
 -- What the calls of a session that was just opened are.
-use Rattle.std.proofs.Common.{◌≡◌, ◌∙◌, ap, inl, inr, sym, subst, ℕ, List, ◌∷◌, Some}
+use Rattle.std.proofs.Common.{◌≡◌, ◌∙◌, ap, inl, inr, sym, subst, List, ◌∷◌, Some}
 use Rattle.jop_base.specs.declared.path.Path.TheVariants.{Info as InfoFile}
 use Rattle.jop_cli.specs.Causes.{AreOpening, HasJustOpened, IsHeardLast}
 use Rattle.jop_target.specs.declared.call.Call.TheVariants.{Get}

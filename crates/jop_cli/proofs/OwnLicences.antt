@@ -10,25 +10,26 @@ use Rattle.jop_target.specs.declared.event.Event.TheVariants.{Made}
 use Rattle.keeper.specs.Keepers.{Kept, changed}
 use Rattle.law_licences.specs.Deeds.{deeds_of}
 use Rattle.law_licences.specs.Licences.{Each, ObeysData}
+use Rattle.law_licences.specs.Sealing.{no_keys}
 use Rattle.law_licences.specs.Views.{at_rest}
 use Rattle.local_store.specs.declared.change.Change.{Change}
 use Rattle.local_store.specs.declared.change.Change.TheVariants.{Named}
 
 -- the naming of the client has its licence too
 named_first : (client : List ℕ) (k : Kept) (more : List Event) (changes : List Change) →
-    ObeysData (at_rest (changed (Named client) k).tables) (deeds_of more changes) →
-    ObeysData (at_rest k.tables) (deeds_of (Made 0 ∷ more) (Named client ∷ changes))
+    ObeysData (at_rest no_keys (changed (Named client) k).tables) (deeds_of more changes) →
+    ObeysData (at_rest no_keys k.tables) (deeds_of (Made 0 ∷ more) (Named client ∷ changes))
 unfolding deeds_of Each
 named_first client k more changes h = (tt, h)
 
 -- what was done behind the naming, with these events and changes, has its licences from the tables that are kept then
 abbrev pub HasLicencesBehind : OutsideNow → List Event → List Change → Type 0
 HasLicencesBehind named more changes =
-    (k : Kept) → named.keeper.kept ≡ Some k → ObeysData (at_rest k.tables) (deeds_of more changes)
+    (k : Kept) → named.keeper.kept ≡ Some k → ObeysData (at_rest no_keys k.tables) (deeds_of more changes)
 
 as_whole : (k : Kept) (trail more : List Event) (made changes : List Change) → trail ≡ more →
-    made ≡ changes → ObeysData (at_rest k.tables) (deeds_of more changes) →
-    ObeysData (at_rest k.tables) (deeds_of trail made)
+    made ≡ changes → ObeysData (at_rest no_keys k.tables) (deeds_of more changes) →
+    ObeysData (at_rest no_keys k.tables) (deeds_of trail made)
 as_whole k trail more made changes one other h = rw (one, other) h
 
 pub licensed_behind : (client : List ℕ) (before named after : OutsideNow) (more : List Event)

@@ -8,7 +8,7 @@ use Rattle.client.specs.Outside.{OutsideNow}
 use Rattle.jop_cli.specs.Causes.{IsUnexplained, IsExplained, NothingHinders}
 use Rattle.jop_cli.specs.Commands.{ComesTo, Uses, nothing, used}
 use Rattle.jop_cli.specs.Commands.Sessions.{IsChange, IsUncalled, NamedSession}
-use Rattle.jop_cli.specs.Run.{Acts, AnswersVerdict, AnswersWords, RunsAsPromised, HasLicences, IsFreshOutside, IsFreshAndUnsaved, KeepsChanges, LeavesAlone, LeavesTables, LeavesTarget, Prints, Sessions, TidiesTold, UsesTarget, may_be_late, with_changes}
+use Rattle.jop_cli.specs.Run.{Acts, AnswersEmptied, AnswersKey, AnswersVerdict, AnswersWords, RunsAsPromised, HasLicences, IsFreshOutside, IsFreshAndUnsaved, KeepsChanges, LeavesAlone, LeavesTables, LeavesTarget, Prints, Sessions, TidiesTold, UsesTarget, may_be_late, with_changes}
 use Rattle.jop_cli.specs.Worlds.{EmitsTo}
 use Rattle.jop_outside.specs.Clocks.{ClockNow}
 use Rattle.jop_outside.specs.Outside.{HasRisen, SinkNow, SourceNow}
@@ -30,6 +30,7 @@ use Rattle.keeper.specs.Keepers.{KeeperNow, Kept}
 use Rattle.law_kept.specs.Trails.{KeepsNotes}
 use Rattle.law_licences.specs.Deeds.{deeds_of}
 use Rattle.law_licences.specs.Licences.{Each, ObeysData}
+use Rattle.law_licences.specs.Sealing.{Sealing, no_keys}
 use Rattle.law_licences.specs.Views.{at_rest}
 use Rattle.local_commands.specs.Keeping.{kept_after_all}
 use Rattle.local_commands.specs.Sparing.{SparesClock, SparesInput, SparesRandom}
@@ -145,16 +146,16 @@ keeps_none bytes before after made none same =
 
 -- ---- licences
 
-obeys_none : (t : Tables) → ObeysData (at_rest t) (deeds_of [] [])
+obeys_none : (t : Tables) → ObeysData (at_rest no_keys t) (deeds_of [] [])
 unfolding deeds_of Each
 obeys_none t = tt
 
 -- nothing was done
 pub none_licensed : (before after : OutsideNow) → IsFreshOutside after → HasLicences before after
 none_licensed before after fresh = λ k told.
-    subst (λ (t : List Event). ObeysData (at_rest k.tables) (deeds_of t after.made))
+    subst (λ (t : List Event). ObeysData (at_rest no_keys k.tables) (deeds_of t after.made))
     (sym fresh.unwritten)
-    (subst (λ (m : List Change). ObeysData (at_rest k.tables) (deeds_of [] m)) (sym fresh.unchanged)
+    (subst (λ (m : List Change). ObeysData (at_rest no_keys k.tables) (deeds_of [] m)) (sym fresh.unchanged)
     (obeys_none k.tables))
 
 -- ---- without a cause
@@ -430,17 +431,22 @@ acts_as verb v before after status is h =
 pub does_of : (verb : Option Verb) (before after : OutsideNow) (status : Status) →
     (NothingHinders verb before after → (status ≡ statuses.Ok) ⊎ (status ≡ statuses.NoMemory)) →
     AnswersVerdict verb status after.line.trail →
+    ((k : Kept) → before.keeper.kept ≡ Some k → AnswersKey verb k.tables status after.line.trail) →
+    ((k : Kept) → before.keeper.kept ≡ Some k →
+    AnswersEmptied verb k.tables status after.line.trail after.made) →
     ((bytes : List ℕ) → verb ≡ Some Tidy → before.input.left ≡ Some bytes → TidiesTold bytes status) →
     ((command : LocalCommand) → verb ≡ Some (Local command) → may_be_late status ≡ false →
     IsFreshAndUnsaved before after) →
-    ((client : List ℕ) (t : Tables) (trail : List Event) (made : List Change) →
-    ObeysData (at_rest t) (deeds_of trail made) → KeepsNotes client t trail made) →
+    ((client : List ℕ) (s : Sealing) (t : Tables) (trail : List Event) (made : List Change) →
+    ObeysData (at_rest s t) (deeds_of trail made) → KeepsNotes client t trail made) →
     Acts verb before status after → RunsAsPromised verb before status after
-does_of verb before after status complete due exact unsaved joined h = record {
+does_of verb before after status complete due key emptied exact unsaved joined h = record {
   answers = h.answers;
   explained = h.explained;
   complete = complete;
   due = due;
+  key = key;
+  emptied = emptied;
   exact = exact;
   unsaved = unsaved;
   sessions = h.sessions;
@@ -449,7 +455,7 @@ does_of verb before after status complete due exact unsaved joined h = record {
       let obeys = h.licensed k told in
       record {
         obeys = obeys;
-        kept = λ client. joined client k.tables after.line.trail after.made obeys;
+        kept = λ client. joined client no_keys k.tables after.line.trail after.made obeys;
       };
   target = h.target;
   alone = h.alone;

@@ -5,18 +5,21 @@ use Rattle.std.specs.Prelude.{option_map}
 use Rattle.std.proofs.lemmas.List.{append_cancel_left}
 use Rattle.std.proofs.lemmas.List.Elements.{All-head, All-tail}
 use Rattle.std.proofs.lemmas.Option.{same_Some}
+use Rattle.conflicts.specs.declared.refusal.Refusal.{Refusal}
 use Rattle.conflicts.specs.declared.report.SyncReport.{SyncReport}
 use Rattle.jop_target.specs.declared.event.Event.{Event}
 use Rattle.jop_target.specs.declared.event.Event.TheVariants.{Began, Called, Ended, Made, Sent}
 use Rattle.law_licences.proofs.Settled.{made_inside, stays_inside}
 use Rattle.law_licences.specs.Deeds.{Deed, Begins, Asks, Makes, MakesUntold, Ends, Stops, changes_in, deeds_of, events_of}
 use Rattle.law_licences.specs.Licences.{Each, IsInside, MayChange, MayDo, MergesInfo, ObeysData}
+use Rattle.law_licences.specs.Sealing.{no_keys}
 use Rattle.law_licences.specs.Views.{View, at_rest, view_after_change, view_after_call, seen}
 use Rattle.local_commands.specs.Keeping.{kept_after_all}
 use Rattle.local_commands.specs.declared.act.Act.{Act}
 use Rattle.local_commands.specs.declared.act.Act.TheVariants.{MakeChange, SaveBlob}
 use Rattle.local_commands.specs.Keeping as keeping
-use Rattle.local_store.specs.Changing.{after, after_all, conflicted, uploaded}
+use Rattle.item_text.specs.declared.item.Item.{Item}
+use Rattle.local_store.specs.Changing.{after, after_all, conflicted, uploaded, opened}
 use Rattle.keeper.specs.Keepers.{IsOfKept, KeeperNow, Kept, with_saved_blob}
 use Rattle.keeper.specs.Keepers as keepers
 use Rattle.local_store.specs.Tables.{row_at}
@@ -31,6 +34,7 @@ use Rattle.session.specs.Saving.{kept_after_saves, saved_all}
 use Rattle.session.specs.Steps.{IsStep}
 use Rattle.client.specs.Owning.{NamesClient}
 use Rattle.client.specs.Sites.{SiteNow}
+use Rattle.sync_session.specs.Ordering.{GivesDue}
 use Rattle.sync_session.specs.Syncing.{AddsFrom, IsOpenSync, IsWholeSync}
 use Rattle.sync_session.specs.Telling.{Tells}
 use Rattle.sync_session.specs.Working.{is_sync}
@@ -47,15 +51,15 @@ pub record IsAdded (old new : SiteNow) : Type 0 where
   pub made : new.made ≡ old.made ++ changes
   pub kept : new.keeper.kept ≡ option_map (kept_after_saves changes saves) old.keeper.kept
 
-of_tale : (old new : SiteNow) → Tells (at_rest old.tables) old new →
+of_tale : (Given : Refusal → Type 0) (old new : SiteNow) → Tells Given (at_rest no_keys old.tables) old new →
     IsAdded old new
-of_tale old new h =
+of_tale Given old new h =
     record { changes = changes_in h.deeds; saves = h.saves; made = h.made; kept = h.kept }
 
 pub added : (client : List ℕ) (old new : SiteNow) (result : Result SyncReport SyncErr) →
     AddsFrom client old result new → IsAdded old new
-added client old new (Err NoMemory) h = of_tale old new h.tells
-added client old new result h = of_tale old new h.tells
+added client old new (Err NoMemory) h = of_tale (GivesDue {R = SyncReport} (Err NoMemory)) old new h.tells
+added client old new result h = of_tale (GivesDue result) old new h.tells
 
 -- ---- as acts
 
@@ -156,13 +160,13 @@ unfolding IsOneSession
 one_none = tt
 
 -- what was told of a session, and its events
-record HasTold (old new : SiteNow) (more : List Event) : Type 0 where
-  pub tells : Tells (at_rest old.tables) old new
+record HasTold (Given : Refusal → Type 0) (old new : SiteNow) (more : List Event) : Type 0 where
+  pub tells : Tells Given (at_rest no_keys old.tables) old new
   pub one : IsOneSession more
 
 told_whole : (client : List ℕ) (old new : SiteNow) (result : Result SyncReport SyncErr)
     (more : List Event) → new.line.trail ≡ old.line.trail ++ more →
-    IsWholeSync client old result new → HasTold old new more
+    IsWholeSync client old result new → HasTold (GivesDue result) old new more
 told_whole client old new result more is h =
     let same : more ≡ Began ∷ (h.whole.middle ++ Ended ∷ []) =
     append_cancel_left old.line.trail more (Began ∷ (h.whole.middle ++ Ended ∷ []))
@@ -173,7 +177,8 @@ told_whole client old new result more is h =
     }
 
 told_open : (client : List ℕ) (old new : SiteNow) (more : List Event) →
-    new.line.trail ≡ old.line.trail ++ more → IsOpenSync client old new → HasTold old new more
+    new.line.trail ≡ old.line.trail ++ more → IsOpenSync client old new →
+    HasTold (GivesDue {R = SyncReport} (Err NoMemory)) old new more
 told_open client old new more is h =
     let same : more ≡ h.begun.more =
     append_cancel_left old.line.trail more h.begun.more (sym is ∙ h.begun.trail) in
@@ -190,7 +195,7 @@ told_open client old new more is h =
 
 told_from : (client : List ℕ) (old new : SiteNow) (result : Result SyncReport SyncErr)
     (more : List Event) → new.line.trail ≡ old.line.trail ++ more →
-    AddsFrom client old result new → HasTold old new more
+    AddsFrom client old result new → HasTold (GivesDue result) old new more
 told_from client old new (Err NoMemory) more is h = told_open client old new more is h
 told_from client old new (Ok report) more is h = told_whole client old new (Ok report) more is h
 told_from client old new (Err error) more is h =
@@ -211,13 +216,18 @@ conflicted_name t id None false (Some r) = refl
 conflicted_name t id (Some remote) true (Some r) = refl
 conflicted_name t id (Some remote) false (Some r) = refl
 
+opened_name : (t : Tables) (id : List ℕ) (item : Item) (row : Option Row) →
+    (opened t id item row).client ≡ t.client
+opened_name t id item None = refl
+opened_name t id item (Some r) = refl
+
 -- no change of a session names another client
 keeps_name : (v : View) (c : Change) (t : Tables) → MayChange v c → (after t c).client ≡ t.client
 keeps_name v (Named client) t may = absurd may
 keeps_name v (Uploaded id bytes) t may = uploaded_name t id bytes (row_at t id)
 keeps_name v (Conflict id remote copies) t may = conflicted_name t id remote copies (row_at t id)
 keeps_name v (Moved id) t may = conflicted_name t id None true (row_at t id)
-keeps_name v (Opened id item) t may = absurd may
+keeps_name v (Opened id item) t may = opened_name t id item (row_at t id)
 keeps_name v c t may = refl
 
 no_changes : (n : ℕ) (ds : List Deed) → events_of n ds ≡ [] → changes_in ds ≡ []
@@ -260,13 +270,13 @@ inside_name n v w t (Ends ∷ ds) inside may once each =
     nothing_named t (changes_in ds) (no_changes n ds once)
 
 session_name : (n : ℕ) (w : View) (t : Tables) (ds : List Deed) → Each MayDo w ds →
-    IsOneSession (events_of n ds) → ObeysData (at_rest t) (deeds_of (events_of n ds) (changes_in ds)) →
+    IsOneSession (events_of n ds) → ObeysData (at_rest no_keys t) (deeds_of (events_of n ds) (changes_in ds)) →
     (after_all t (changes_in ds)).client ≡ t.client
 unfolding Each deeds_of events_of changes_in after_all IsOneSession
 session_name n w t [] may one each = refl
 session_name n w t (Stops ∷ ds) may one each = session_name n (seen w Stops) t ds may.1 one each
 session_name n w t (Begins ∷ ds) may one each =
-    inside_name n (seen (at_rest t) Begins) (seen w Begins) t ds tt may.1 one each.1
+    inside_name n (seen (at_rest no_keys t) Begins) (seen w Begins) t ds tt may.1 one each.1
 session_name n w t (Asks call None ∷ ds) may one each = absurd one
 session_name n w t (Asks call (Some reply) ∷ ds) may one each = absurd one
 session_name n w t (Makes c ∷ ds) may one each = absurd one
@@ -278,10 +288,10 @@ session_name n w t (Ends ∷ ds) may one each = absurd one
 abbrev pub IsLicensed : SiteNow → SiteNow → List Event → Type 0
 IsLicensed old new more =
     (k : Kept) (changes : List Change) → old.keeper.kept ≡ Some k → new.made ≡ old.made ++ changes →
-    ObeysData (at_rest k.tables) (deeds_of more changes)
-    × MergesInfo (at_rest k.tables) (deeds_of more changes)
+    ObeysData (at_rest no_keys k.tables) (deeds_of more changes)
+    × MergesInfo (at_rest no_keys k.tables) (deeds_of more changes)
 
-told_tables : (kept : Option Kept) (k : Kept) (t : Tables) → IsOfKept kept t → kept ≡ Some k →
+pub told_tables : (kept : Option Kept) (k : Kept) (t : Tables) → IsOfKept kept t → kept ≡ Some k →
     t ≡ k.tables
 told_tables None k t told is = absurd cc
 told_tables (Some other) k t told is =
@@ -291,19 +301,20 @@ told_tables (Some other) k t told is =
 pub licensed_kept : (old new : SiteNow) (more : List Event) →
     IsOfKept old.keeper.kept old.tables →
     ((changes : List Change) → new.made ≡ old.made ++ changes →
-    ObeysData (at_rest old.tables) (deeds_of more changes)
-    × MergesInfo (at_rest old.tables) (deeds_of more changes)) →
+    ObeysData (at_rest no_keys old.tables) (deeds_of more changes)
+    × MergesInfo (at_rest no_keys old.tables) (deeds_of more changes)) →
     IsLicensed old new more
 licensed_kept old new more of_kept licensed = λ k changes told made.
-    subst (λ (u : Tables). ObeysData (at_rest u) (deeds_of more changes)
-    × MergesInfo (at_rest u) (deeds_of more changes)) (told_tables old.keeper.kept k old.tables of_kept told)
+    subst (λ (u : Tables). ObeysData (at_rest no_keys u) (deeds_of more changes)
+    × MergesInfo (at_rest no_keys u) (deeds_of more changes)) (told_tables old.keeper.kept k old.tables of_kept told)
     (licensed changes made)
 
-named_still : (old new : SiteNow) (more : List Event) →
-    new.line.trail ≡ old.line.trail ++ more → HasTold old new more → IsLicensed old new more →
+named_still : (Given : Refusal → Type 0) (old new : SiteNow) (more : List Event) →
+    new.line.trail ≡ old.line.trail ++ more → HasTold Given old new more →
+    IsLicensed old new more →
     (client : List ℕ) → NamesClient old.keeper.kept (Some client) →
     NamesClient new.keeper.kept (Some client)
-named_still old new more is h licensed client names =
+named_still Given old new more is h licensed client names =
     subst (λ (k : Option Kept). NamesClient k (Some client)) (sym h.tells.kept)
     (by old.keeper.kept refl names) where
       by : (kept : Option Kept) → old.keeper.kept ≡ kept → NamesClient kept (Some client) →
@@ -315,8 +326,8 @@ named_still old new more is h licensed client names =
           let ds = h.tells.deeds in
           let same : more ≡ events_of n ds =
           append_cancel_left old.line.trail more (events_of n ds) (sym is ∙ h.tells.trail) in
-          session_name n (at_rest old.tables) k.tables ds h.tells.obeys (subst IsOneSession same h.one)
-          (subst (λ (es : List Event). ObeysData (at_rest k.tables) (deeds_of es (changes_in ds))) same
+          session_name n (at_rest no_keys old.tables) k.tables ds h.tells.obeys (subst IsOneSession same h.one)
+          (subst (λ (es : List Event). ObeysData (at_rest no_keys k.tables) (deeds_of es (changes_in ds))) same
           (licensed k (changes_in ds) told h.tells.made).0)
           ∙ names
 
@@ -327,5 +338,5 @@ pub names_after : (client : List ℕ) (old new : SiteNow)
     AddsFrom client old result new → NamesClient old.keeper.kept (Some client) →
     NamesClient new.keeper.kept (Some client)
 names_after client old new result more is licensed adds names =
-    named_still old new more is (told_from client old new result more is adds) licensed client
-    names
+    named_still (GivesDue result) old new more is (told_from client old new result more is adds)
+    licensed client names

@@ -1,5 +1,5 @@
 -- The promise of the whole is part of what is promised of each run.
-use Rattle.std.specs.Prelude.{ℕ, ◌≡◌, ◌⊎◌, List, Option, Some, None}
+use Rattle.std.specs.Prelude.{Option, Some, None}
 use Rattle.std.proofs.Common.{inl, inr}
 use Rattle.client.specs.Outside.{OutsideNow}
 use Rattle.jop_cli.specs.Commands.{used}

@@ -32,7 +32,7 @@ use Rattle.law_licences.specs.Pages.{emptied_by}
 use Rattle.law_licences.specs.Views.{Heard, shown_to}
 use Rattle.local_commands.specs.declared.command.LocalCommand.{LocalCommand}
 use Rattle.local_commands.specs.declared.local_err.LocalErr.{LocalErr}
-use Rattle.local_commands.specs.declared.local_err.LocalErr.TheVariants.{NotFound, Sealed, TimeEnd, TooLarge, NoConflict, NotEmpty, NotText, BelowItself}
+use Rattle.local_commands.specs.declared.local_err.LocalErr.TheVariants.{NotFound, NotOne, Sealed, TimeEnd, TooLarge, NoConflict, NotEmpty, NotText, BelowItself}
 use Rattle.keeper.specs.Keepers.{IsOfKept, KeeperNow}
 use Rattle.local_store.specs.declared.tables.Tables.{Tables}
 use Rattle.session_opening.specs.Opening.{IsOldVersion}
@@ -218,6 +218,8 @@ IsExplained verb before statuses.EntropyFault after =
     HasRisen before.entropy.faults after.entropy.faults
 IsExplained verb before (statuses.NotFound id) after =
     IsRefusedLocally verb before (NotFound id) after
+IsExplained verb before (statuses.NotOne count) after =
+    IsRefusedLocally verb before (NotOne count) after
 IsExplained verb before (statuses.Sealed id) after =
     IsRefusedLocally verb before (Sealed id) after
 IsExplained verb before (statuses.TimeEnd id) after =

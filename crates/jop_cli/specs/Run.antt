@@ -2,6 +2,8 @@
 use Rattle.std.specs.Prelude.{ℕ, ◌≤◌, ◌≡◌, ◌⊎◌, List, [], ◌++◌, Bool, true, false}
 use Rattle.std.specs.Prelude.{Option, Some, None, Ok, option_map}
 use Rattle.client.specs.Outside.{OutsideNow}
+use Rattle.conflicts.specs.declared.refusal.Refusal.{Refusal}
+use Rattle.download.specs.Emptied.{HeedsEmptied}
 use Rattle.jop_status.specs.Outcomes.{Outcome}
 use Rattle.jop_status.specs.declared.status.Status.{Status}
 use Rattle.jop_status.specs.declared.status.Status.TheVariants as statuses
@@ -13,6 +15,7 @@ use Rattle.jop_target.specs.Replies.{TargetNow}
 use Rattle.law_kept.specs.Trails.{KeepsNotes}
 use Rattle.law_licences.specs.Deeds.{deeds_of}
 use Rattle.law_licences.specs.Licences.{ObeysData}
+use Rattle.law_licences.specs.Sealing.{no_keys}
 use Rattle.law_licences.specs.Views.{at_rest}
 use Rattle.local_commands.specs.Keeping.{changes_among, kept_after_all, trail_of}
 use Rattle.local_commands.specs.declared.act.Act.{Act}
@@ -25,8 +28,12 @@ use Rattle.local_store.specs.declared.tables.Tables.{Tables}
 use Rattle.jop_cli.specs.Causes.{IsExplained, NothingHinders}
 use Rattle.jop_cli.specs.Commands.{ComesTo, Uses, used}
 use Rattle.jop_cli.specs.Commands.Sessions.{IsClientOf, IsUncalled, NamedSession, lock_named, went_well}
+use Rattle.session_opening.specs.Headway.{headway_of}
 use Rattle.session_opening.specs.Verdict.{HeedsVerdict, last_calls, verdict_of}
 use Rattle.sync_run.specs.Leases.{KeepsLease}
+use Rattle.sync_run.specs.Ordering.{HeedsUpgradeVerdict}
+use Rattle.sync_session.specs.Ordering.{HeedsKey}
+use Rattle.target_upgrade.specs.Verdict.{upgrade_verdict_of}
 use Rattle.jop_cli.specs.Commands.Tidy.{HasTidyStatus, IsTidyAnswer}
 use Rattle.jop_cli.specs.Worlds.{EmitsTo}
 use Rattle.jop_words.specs.declared.verb.Verb.{Verb}
@@ -125,13 +132,35 @@ Sessions (Some session) keeper trail status =
 
 -- ---- a refusal that is due
 
+-- how it ends that is to be refused so, unless memory runs out
+abbrev pub EndsRefused : Status → Refusal → Type 0
+EndsRefused status why = (status ≡ statuses.Refused why) ⊎ (status ≡ statuses.NoMemory)
+
 -- Once the calls of a sync say that the target is of another version, or that its info can't be
--- read, nothing more is called but about locks, and that is how it ends, unless memory runs out.
+-- read, nothing more is called but about locks, and that is how it ends. So it is with an upgrade and
+-- a newer version. The other sessions ask a target nothing.
 abbrev pub AnswersVerdict : Option Verb → Status → List Event → Type 0
 AnswersVerdict (Some (verbs.Sync target)) status trail =
-    HeedsVerdict (λ why. (status ≡ statuses.Refused why) ⊎ (status ≡ statuses.NoMemory))
-    (verdict_of (last_calls trail))
+    HeedsVerdict (EndsRefused status) (verdict_of (last_calls trail))
+AnswersVerdict (Some (verbs.Upgrade target)) status trail =
+    HeedsUpgradeVerdict (EndsRefused status) (upgrade_verdict_of trail)
 AnswersVerdict verb status trail = Unit {0}
+
+-- Once the calls of a sync say that the target has the merge of its info and the client's own, while
+-- something waits in these tables that is to be sealed by that, nothing more is called but about locks, and
+-- `NoKey` is how it ends; or the keeper failed where the client's own info was to become the merge.
+abbrev pub AnswersKey : Option Verb → Tables → Status → List Event → Type 0
+AnswersKey (Some (verbs.Sync target)) t status trail =
+    HeedsKey (EndsRefused status) (status ≡ statuses.KeeperFault) t
+    (headway_of t.info (last_calls trail))
+AnswersKey verb t status trail = Unit {0}
+
+-- Once the root's listing shows a sync no item, while some of these tables, as they are then, have a base,
+-- nothing more is done but about locks, and `FailSafe` is how it ends.
+abbrev pub AnswersEmptied : Option Verb → Tables → Status → List Event → List Change → Type 0
+AnswersEmptied (Some (verbs.Sync target)) t status trail made =
+    HeedsEmptied (EndsRefused status) (at_rest no_keys t) (deeds_of trail made)
+AnswersEmptied verb t status trail made = Unit {0}
 
 -- ---- an input that tells its bytes
 
@@ -177,12 +206,12 @@ Prints verb before status after = after.out ≡ before.out
 abbrev pub HasLicences : OutsideNow → OutsideNow → Type 0
 HasLicences before after =
     (k : Kept) → before.keeper.kept ≡ Some k →
-    ObeysData (at_rest k.tables) (deeds_of after.line.trail after.made)
+    ObeysData (at_rest no_keys k.tables) (deeds_of after.line.trail after.made)
 
 -- each call and each change has its licence, from these tables on; and no saved note is lost, whatever
 -- history the run is the client's last part of
 pub record KeepsLicences (t : Tables) (after : OutsideNow) : Type 0 where
-  pub obeys : ObeysData (at_rest t) (deeds_of after.line.trail after.made)
+  pub obeys : ObeysData (at_rest no_keys t) (deeds_of after.line.trail after.made)
   pub kept : (client : List ℕ) → KeepsNotes client t after.line.trail after.made
 
 -- ---- the whole
@@ -208,8 +237,14 @@ pub record RunsAsPromised (verb : Option Verb) (before : OutsideNow) (status : S
   -- if nothing hinders it, it went well, or memory ran out
   pub complete : NothingHinders verb before after →
       (status ≡ statuses.Ok) ⊎ (status ≡ statuses.NoMemory)
-  -- a sync ends by the refusal that its calls call for, and calls nothing behind them
+  -- a sync or an upgrade ends by the refusal that its calls call for, and calls nothing behind them
   pub due : AnswersVerdict verb status after.line.trail
+  -- so does a sync that wants a key, if the tables at entry are told
+  pub key : (k : Kept) → before.keeper.kept ≡ Some k →
+      AnswersKey verb k.tables status after.line.trail
+  -- and one to which the target looks emptied
+  pub emptied : (k : Kept) → before.keeper.kept ≡ Some k →
+      AnswersEmptied verb k.tables status after.line.trail after.made
   -- `tidy` of an input that tells its bytes
   pub exact : (bytes : List ℕ) → verb ≡ Some verbs.Tidy → before.input.left ≡ Some bytes →
       TidiesTold bytes status

@@ -3,6 +3,7 @@ use Rattle.std.specs.Prelude.{ℕ, ◌≡◌, ◌++◌, List, false, Result}
 use Rattle.client.specs.Outside.{OutsideNow}
 use Rattle.client.specs.Sites.{SiteNow}
 use Rattle.conflicts.specs.declared.report.SyncReport.{SyncReport}
+use Rattle.download.specs.Emptied.{HeedsEmptied}
 use Rattle.jop_base.specs.declared.lock_name.LockKind.TheVariants as kinds
 use Rattle.jop_outside.specs.Clocks.{ClockNow}
 use Rattle.jop_outside.specs.Outside.{SinkNow, SourceNow}
@@ -15,18 +16,21 @@ use Rattle.jop_target.specs.declared.event.Event.{Event}
 use Rattle.keeper.specs.Keepers.{KeeperNow}
 use Rattle.law_licences.specs.Deeds.{deeds_of}
 use Rattle.law_licences.specs.Licences.{MergesInfo, ObeysData}
+use Rattle.law_licences.specs.Sealing.{no_keys}
 use Rattle.law_licences.specs.Views.{at_rest}
 use Rattle.lease.specs.Calls.{IsLeaseEvent}
 use Rattle.local_store.specs.declared.change.Change.{Change}
 use Rattle.local_store.specs.declared.tables.Tables.{Tables}
 use Rattle.session.specs.Steps.{IsStep}
+use Rattle.session_opening.specs.Headway.{headway_of}
 use Rattle.session_opening.specs.Verdict.{HeedsVerdict, last_calls, verdict_of}
 use Rattle.sync_run.specs.Checks.{AddsCheck}
 use Rattle.sync_run.specs.Leases.{KeepsLease, blocked_in, is_done}
+use Rattle.sync_run.specs.Ordering.{RunsTaskInOrder}
 use Rattle.sync_run.specs.Sessions.{IsMarkOr}
 use Rattle.sync_run.specs.Upgrades.{AddsUpgrade}
 use Rattle.sync_run.specs.declared.session_err.SessionErr.{SessionErr}
-use Rattle.sync_session.specs.Ordering.{GivesDue}
+use Rattle.sync_session.specs.Ordering.{EndsAtKeeper, GivesDue, HeedsKey}
 use Rattle.sync_session.specs.Syncing.{AddsFrom, blocked_by}
 use Rattle.sync_session.specs.Working.{is_sync}
 use Rattle.sync_session.specs.declared.sync_err.SyncErr.{SyncErr}
@@ -57,12 +61,14 @@ pub record RanCheck (client : List ℕ) (old : OutsideNow) (result : Result (Uni
   pub keeps : KeepsLease kinds.Sync client (blocked_in result) false line.more
   pub same : new ≡ record old { line = new.line }
 
--- so was one that upgrades the target
+-- So was one that upgrades the target. The refusal that is due by its calls is given, and nothing is
+-- called behind them.
 pub record RanUpgrade (client : List ℕ) (old : OutsideNow) (result : Result ℕ SessionErr)
     (new : OutsideNow) : Type 0 where
   pub session : AddsUpgrade client old.line.trail new.line.trail result
   pub line : Continues (IsMarkOr IsCall) old.line new.line
   pub keeps : KeepsLease kinds.Exclusive client (blocked_in result) (is_done result) line.more
+  pub order : RunsTaskInOrder result line.more
   pub same : new ≡ record old { line = new.line }
 
 -- a client's site with these tables
@@ -71,7 +77,8 @@ site_in t o = record { line = o.line; keeper = o.keeper; tables = t; made = o.ma
 
 -- So was one that brings these tables and the target together. Each call and each change has its
 -- licence, from these tables on. The refusal that is due by its calls is given, and nothing is called
--- behind them. It leaves the streams, the clock and the random source as they were.
+-- behind them; one that wants a key is refused for it, and so is one to which the target looks emptied.
+-- It leaves the streams, the clock and the random source as they were.
 pub record RanSync (client : List ℕ) (t : Tables) (old : OutsideNow)
     (result : Result SyncReport SyncErr) (new : OutsideNow) : Type 0 where
   pub late : Tables
@@ -79,9 +86,13 @@ pub record RanSync (client : List ℕ) (t : Tables) (old : OutsideNow)
   pub line : Continues (IsMarkOr (IsStep is_sync client)) old.line new.line
   pub keeps : KeepsLease kinds.Sync client (blocked_by result) false line.more
   pub licensed : (changes : List Change) → new.made ≡ old.made ++ changes →
-      ObeysData (at_rest t) (deeds_of line.more changes)
-      × MergesInfo (at_rest t) (deeds_of line.more changes)
+      ObeysData (at_rest no_keys t) (deeds_of line.more changes)
+      × MergesInfo (at_rest no_keys t) (deeds_of line.more changes)
   pub order : HeedsVerdict (GivesDue result) (verdict_of (last_calls line.more))
+  pub key : HeedsKey (GivesDue result) (EndsAtKeeper result) t
+      (headway_of t.info (last_calls line.more))
+  pub emptied : (changes : List Change) → new.made ≡ old.made ++ changes →
+      HeedsEmptied (GivesDue result) (at_rest no_keys t) (deeds_of line.more changes)
   pub same : new ≡ record old { line = new.line; keeper = new.keeper; made = new.made }
 
 -- ---- prints

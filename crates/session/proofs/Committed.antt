@@ -39,7 +39,7 @@ use Rattle.session.specs.Doing.{GivesNothing, KeeperFails, DoesTo, Starves, Went
 use Rattle.session.specs.Parts.{Changes, but_locks}
 use Rattle.session.specs.Reported.{reported}
 use Rattle.session.specs.Steps.{IsStep, works_by}
-use Rattle.session.specs.Making.{MayMakeBy}
+use Rattle.session.specs.Making.{IsUnkept, MayMakeBy}
 use Rattle.session.specs.Saving.{blobs_got, kept_after_saves, saved_all}
 use Rattle.session.specs.Work.{IsReady, WorkPlace, work_by}
 
@@ -284,3 +284,9 @@ ready_made old new lease change h ready = record {
   held = held_made lease old.line.trail new.line.trail (length old.made)
       (ap (λ (l : LineNow). l.trail) h.made.line) ready.held;
 }
+
+-- ---- why it gave nothing
+
+pub unkept : (e : KeeperErr) → IsUnkept (step_err e)
+unkept Fault = tt
+unkept NoMemory = tt

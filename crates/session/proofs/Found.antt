@@ -9,6 +9,7 @@ use Rattle.jop_target.specs.declared.reply.Reply.{Reply}
 use Rattle.jop_target.specs.declared.reply.Reply.TheVariants.{Listed, Got, GotBlob, Absent, Done, Failed, TooLarge}
 use Rattle.law_licences.specs.Checks.{IsBase, IsOther}
 use Rattle.law_licences.specs.Items.{remote_in}
+use Rattle.law_licences.specs.Sealing.{no_keys}
 use Rattle.local_store.specs.declared.content.Content.{Content}
 use Rattle.session.specs.Findings.{absent_of, finding_of, is_base, is_unreadable, other_of}
 use Rattle.session.specs.Reported.{is_bad}
@@ -52,8 +53,8 @@ same_is : (id : List ℕ) (base : Option (List ℕ)) (reply : Reply)
     → IsSame (finding_of id base reply) → IsBase base reply
 unfolding IsSame
 same_is id (Some base) (Got now bytes) h =
-    same_got base bytes (remote_in id bytes) (bytes_eq base bytes) refl h
-same_is id None (Got now bytes) h = absurd (not_same (remote_in id bytes) h)
+    same_got base bytes (remote_in no_keys id bytes) (bytes_eq base bytes) refl h
+same_is id None (Got now bytes) h = absurd (not_same (remote_in no_keys id bytes) h)
 same_is id None (Absent now) h = tt
 same_is id (Some base) (Absent now) h = absurd h
 same_is id base (TooLarge len) h = absurd h
@@ -90,15 +91,15 @@ not_base base bytes e is =
 
 other_got : (id : List ℕ) (base : Option (List ℕ)) (now : ℕ) (bytes : List ℕ)
     (remote : List ℕ × Content) (same : Bool) → is_base base bytes ≡ same
-    → IsOf (Some remote) (if same then Same else other_of (remote_in id bytes))
-    → IsOther id base (Got now bytes) (Some remote)
+    → IsOf (Some remote) (if same then Same else other_of (remote_in no_keys id bytes))
+    → IsOther no_keys id base (Got now bytes) (Some remote)
 unfolding IsOf
 other_got id base now bytes remote true e h = absurd h
 other_got id base now bytes remote false e h =
-    (λ is. not_base base bytes e is, of_other (remote_in id bytes) remote h)
+    (λ is. not_base base bytes e is, of_other (remote_in no_keys id bytes) remote h)
 
 other_is : (id : List ℕ) (base : Option (List ℕ)) (reply : Reply) (remote : List ℕ × Content)
-    → IsOf (Some remote) (finding_of id base reply) → IsOther id base reply (Some remote)
+    → IsOf (Some remote) (finding_of id base reply) → IsOther no_keys id base reply (Some remote)
 unfolding IsOf
 other_is id base (Got now bytes) remote h =
     other_got id base now bytes remote (is_base base bytes) refl h
@@ -112,7 +113,7 @@ other_is id base (Done now) remote h = absurd h
 
 pub other_found : (id : List ℕ) (base : Option (List ℕ)) (reply : Reply)
     (remote : List ℕ × Content) → Other remote ≡ finding_of id base reply
-    → IsOther id base reply (Some remote)
+    → IsOther no_keys id base reply (Some remote)
 unfolding IsOf
 other_found id base reply remote is =
     other_is id base reply remote (subst (IsOf (Some remote)) is refl)
@@ -125,10 +126,10 @@ missing_got None false h = h
 missing_got (Some remote) false h = h
 
 missing_is : (id : List ℕ) (base : Option (List ℕ)) (reply : Reply)
-    → IsOf None (finding_of id base reply) → IsOther id base reply None
+    → IsOf None (finding_of id base reply) → IsOther no_keys id base reply None
 unfolding IsOf
 missing_is id base (Got now bytes) h =
-    absurd (missing_got (remote_in id bytes) (is_base base bytes) h)
+    absurd (missing_got (remote_in no_keys id bytes) (is_base base bytes) h)
 missing_is id None (Absent now) h = absurd h
 missing_is id (Some base) (Absent now) h = tt
 missing_is id base (TooLarge len) h = absurd h
@@ -138,6 +139,6 @@ missing_is id base (GotBlob now len) h = absurd h
 missing_is id base (Done now) h = absurd h
 
 pub missing_found : (id : List ℕ) (base : Option (List ℕ)) (reply : Reply)
-    → Missing ≡ finding_of id base reply → IsOther id base reply None
+    → Missing ≡ finding_of id base reply → IsOther no_keys id base reply None
 unfolding IsOf
 missing_found id base reply is = missing_is id base reply (subst (IsOf None) is tt)

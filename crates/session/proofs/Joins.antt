@@ -1,5 +1,5 @@
 -- How parts of a session join.
-use Rattle.std.specs.Prelude.{ℕ, ◌+◌, ◌≡◌, List, [], ◌++◌, length, option_map, Bool, true, false, ◌||◌, Option, Some, None, refl}
+use Rattle.std.specs.Prelude.{ℕ, ◌+◌, ◌≡◌, List, [], ◌∷◌, ◌++◌, length, option_map, Bool, true, false, ◌||◌, Option, Some, None, refl}
 use Rattle.std.proofs.Common.{sym, ap, subst, ◌∙◌, arith}
 use Rattle.std.proofs.lemmas.List.{append_assoc}
 use Rattle.std.proofs.Math.ListN.{length-append}
@@ -15,10 +15,10 @@ use Rattle.lease.specs.Standing.{IsSameBut}
 use Rattle.lease.specs.declared.lease.Lease.{Lease}
 use Rattle.law_licences.proofs.Joins.{Each-append, view_from-append}
 use Rattle.law_licences.proofs.Told.{AreWork-append, calls-view_from, calls_from-append, changes_in-append, events_of-append, tables-view_from}
-use Rattle.law_licences.specs.Deeds.{Deed, changes_in, events_of}
+use Rattle.law_licences.specs.Deeds.{Deed, Begins, Asks, Makes, MakesUntold, Ends, Stops, changes_in, events_of}
 use Rattle.law_licences.specs.Licences.{Each, MayDo}
 use Rattle.law_licences.specs.Trails.{session_calls}
-use Rattle.law_licences.specs.Views.{Shown, Stage, View, Working, view_from}
+use Rattle.law_licences.specs.Views.{Shown, Stage, View, Working, seen, view_from}
 use Rattle.local_store.proofs.Telling.{after_all-append}
 use Rattle.local_store.specs.Changing.{after_all}
 use Rattle.keeper.specs.Keepers.{Kept}
@@ -75,10 +75,21 @@ trail_is a b c n m ds es h k both =
 
 -- ---- what is seen between
 
+-- no deed changes the keys
+pub keys-view_from : (v : View) (ds : List Deed) → (view_from v ds).sealing ≡ v.sealing
+unfolding view_from
+keys-view_from v [] = refl
+keys-view_from v (Begins ∷ ds) = keys-view_from (seen v Begins) ds
+keys-view_from v (Asks call reply ∷ ds) = keys-view_from (seen v (Asks call reply)) ds
+keys-view_from v (Makes c ∷ ds) = keys-view_from (seen v (Makes c)) ds
+keys-view_from v (MakesUntold ∷ ds) = keys-view_from v ds
+keys-view_from v (Ends ∷ ds) = keys-view_from (seen v Ends) ds
+keys-view_from v (Stops ∷ ds) = keys-view_from (seen v Stops) ds
+
 pub seen_between : (v w : View) → v.tables ≡ w.tables → v.calls ≡ w.calls → v.shown ≡ w.shown
-    → v.stage ≡ w.stage → v ≡ w
-seen_between v w t c s g =
-    λ i. record { tables = t i; calls = c i; shown = s i; stage = g i }
+    → v.stage ≡ w.stage → v.sealing ≡ w.sealing → v ≡ w
+seen_between v w t c s g k =
+    λ i. record { tables = t i; calls = c i; shown = s i; stage = g i; sealing = k i }
 
 -- behind a part that leaves more to do, what is seen is what the client shows
 pub view_at : (sort : Call → Bool) (a b : WorkNow) (w : Went sort a b) (told : IsTold a b w.deeds)
@@ -95,7 +106,7 @@ view_at sort a b w told shown working =
     let tables : (view_from v w.deeds).tables ≡ b.site.tables =
     tables-view_from v w.deeds w.work ∙ sym told.tables in
     seen_between (view_from v w.deeds) (view_of (view_from v w.deeds).shown b.site)
-    tables (sym calls) refl working
+    tables (sym calls) refl working (keys-view_from v w.deeds)
 
 -- ---- parts
 

@@ -16,6 +16,7 @@ pub mod Folders
 pub mod Found
 pub mod Behind
 pub mod Recast
+pub mod Fetched
 pub mod Stepped
 pub mod WaitingRow
 pub mod Refusing

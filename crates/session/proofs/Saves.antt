@@ -123,7 +123,7 @@ none_got sort client n (Ends ∷ ds) none each =
 none_got sort client n (Stops ∷ ds) none each =
     none_got sort client n ds none each
 
-none_told : (xs : List Blob) (owed : List Told) → [] ≡ map tale_of xs ++ owed → xs ≡ []
+pub none_told : (xs : List Blob) (owed : List Told) → [] ≡ map tale_of xs ++ owed → xs ≡ []
 none_told [] owed h = refl
 none_told (x ∷ xs) owed h = absurd cc
 

@@ -32,7 +32,7 @@ pub seen_then : (shown : Option Shown) (old new : SiteNow) (c : Change)
     → record (view_of shown old) { tables = after old.tables c } ≡ view_of shown new
 seen_then shown old new c tables calls =
     seen_between (record (view_of shown old) { tables = after old.tables c }) (view_of shown new)
-    (sym tables) (sym calls) refl refl
+    (sym tables) (sym calls) refl refl refl
 
 -- so the others may be made then
 pub rest_may : (shown : Option Shown) (old new : SiteNow) (cs : List Change) (i : ℕ) (c : Change)

@@ -5,6 +5,7 @@ use Rattle.conflicts.specs.declared.report.SyncReport.{SyncReport}
 use Rattle.jop_target.specs.declared.reply.Reply.{Reply}
 use Rattle.jop_target.specs.declared.reply.Reply.TheVariants.{Got, Absent}
 use Rattle.law_licences.specs.Items.{remote_in}
+use Rattle.law_licences.specs.Sealing.{no_keys}
 use Rattle.local_store.specs.Sound.{IsContentOf}
 use Rattle.local_store.specs.declared.content.Content.{Content}
 use Rattle.local_store.specs.declared.row.Row.{Row}
@@ -29,7 +30,7 @@ absent_of (Some base) = Missing
 -- what the reply to a get of the file of this id says to a row with this base
 abbrev pub finding_of : List ℕ → Option (List ℕ) → Reply → Finding
 finding_of id base (Got now bytes) =
-    if is_base base bytes then Same else other_of (remote_in id bytes)
+    if is_base base bytes then Same else other_of (remote_in no_keys id bytes)
 finding_of id base (Absent now) = absent_of base
 finding_of id base reply = Unreadable
 

@@ -1,6 +1,8 @@
 -- Which changes a part of a session may make, and which one after the other.
 use Rattle.std.specs.Prelude.{◌≡◌, List, [], ◌∷◌, Option}
 use Rattle.client.specs.Sites.{SiteNow}
+use Rattle.conflicts.specs.declared.error.StepErr.{StepErr}
+use Rattle.conflicts.specs.declared.error.StepErr.TheVariants.{KeeperFault, NoMemory}
 use Rattle.law_licences.specs.Licences.{MayChange}
 use Rattle.law_licences.specs.Views.{Shown, View, Working, stage_after}
 use Rattle.local_store.specs.Changing.{after}
@@ -29,3 +31,9 @@ MayMakeAll v (c ∷ cs) =
 abbrev pub MayMakeAllBy : Option Shown → SiteNow → List Change → Type 0
 MayMakeAllBy known d changes =
     (shown : Option Shown) → MayBeShown known shown → MayMakeAll (view_of shown d) changes
+
+-- a change gave nothing since the keeper failed, or for want of memory
+abbrev pub IsUnkept : StepErr → Type 0
+IsUnkept KeeperFault = Unit {0}
+IsUnkept NoMemory = Unit {0}
+IsUnkept e = ⊥

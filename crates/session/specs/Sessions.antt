@@ -12,16 +12,19 @@ use Rattle.jop_target.specs.declared.call.Call.TheVariants.{List as ListDir, Get
 use Rattle.jop_target.specs.declared.reply.Reply.{Reply}
 use Rattle.jop_target.specs.declared.reply.Reply.TheVariants.{GotBlob}
 use Rattle.law_licences.specs.Checks.{last_on}
+use Rattle.law_licences.specs.Items.{is_resource}
 use Rattle.law_licences.specs.Licences.{MayCall}
 use Rattle.law_licences.specs.Trails.{session_calls}
 use Rattle.law_licences.specs.Views.{Shown, Working, stage_after}
+use Rattle.local_store.specs.Rows.{item_of}
 use Rattle.local_store.specs.Tables.{base_of, row_at}
 use Rattle.local_store.specs.declared.change.Change.{Change}
+use Rattle.local_store.specs.declared.content.Content.{Content}
 use Rattle.session.specs.Asking.{IsAnswer}
 use Rattle.session.specs.Doing.{Does, Ends, EndsAt, EndsGiving, GivesNothing}
 use Rattle.session.specs.Findings.{IsSoundFinding, finding_of}
 use Rattle.session.specs.Making.{MayMakeAllBy, MayMakeBy}
-use Rattle.session.specs.Parts.{Changes, ForEach, Hears, Part}
+use Rattle.session.specs.Parts.{Changes, ForEach, Hears, Nothing, Part}
 use Rattle.session.specs.Work.{WorkNow, knowing, view_of}
 use Rattle.session.specs.declared.finding.Finding.{Finding}
 use Rattle.keeper.specs.Keepers.{IsBlobOfKept}
@@ -101,6 +104,15 @@ abbrev pub Fetches : List ℕ → Part
 Fetches id v ds =
     (reply : Reply) × (IsAnswer (GetBlob id) reply × Hears (GetBlob id) reply v ds)
 
+-- those of a resource are asked for, and nothing of what is none
+abbrev pub GetsBytes : List ℕ → Bool → Part
+GetsBytes id true = Fetches id
+GetsBytes id false = Nothing
+
+-- the bytes that belong to an item, if it is a resource
+abbrev pub GetsBytesOf : List ℕ → Content → Part
+GetsBytesOf id content = GetsBytes id (is_resource (item_of content))
+
 -- these bytes of a resource are kept, if that is told, and all is as it was; or why it gave none
 abbrev pub LoadsOr : List ℕ → (Call → Bool) → WorkNow → Result (Option (List ℕ)) StepErr →
     WorkNow → Type 0
@@ -119,6 +131,12 @@ FindsOr id old result new =
 abbrev pub FetchesOr : List ℕ → WorkNow → Result (Unit {0}) StepErr → WorkNow → Type 0
 FetchesOr id old result new =
     (sort : Call → Bool) → sort (GetBlob id) ≡ true → Ends (Fetches id) sort old result new
+
+-- those that belong to an item are
+abbrev pub FetchesOfOr : List ℕ → Content → WorkNow → Result (Unit {0}) StepErr → WorkNow → Type 0
+FetchesOfOr id content old result new =
+    (sort : Call → Bool) → sort (GetBlob id) ≡ true
+    → Ends (GetsBytesOf id content) sort old result new
 
 -- a call of the sort is answered
 abbrev pub AsksOr : Call → WorkNow → Result (Unit {0}) StepErr → WorkNow → Type 0

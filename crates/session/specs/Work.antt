@@ -4,6 +4,7 @@ use Rattle.conflicts.specs.declared.report.SyncReport.{SyncReport}
 use Rattle.client.specs.Sites.{SiteNow, IsTidy, Place}
 use Rattle.lease.specs.Standing.{IsHeld}
 use Rattle.lease.specs.declared.lease.Lease.{Lease}
+use Rattle.law_licences.specs.Sealing.{no_keys}
 use Rattle.law_licences.specs.Trails.{session_calls}
 use Rattle.law_licences.specs.Views.{Shown, View, Working}
 
@@ -66,6 +67,7 @@ view_of shown d = record {
   calls = session_calls d.line.trail;
   shown = shown;
   stage = Working;
+  sealing = no_keys;
 }
 
 -- it holds its lease, and its tables are in order

@@ -1,5 +1,6 @@
 ghost use Rattle.std.specs.Prelude.{◌≡◌, IfOk, OnErr};
 ghost use Rattle.law_licences.specs.Items.{remote_in};
+ghost use Rattle.law_licences.specs.Sealing.{no_keys};
 ghost use Rattle.session.specs.Findings.{GivesOthers, IsSoundFinding, Judges, absent_of, is_base, other_of};
 
 use conflicts::content_in;
@@ -33,7 +34,7 @@ fn is_base(base: &Option<Bytes>, content: &Bytes) -> bool
 /// What another file is.
 fn other_of(alloc: Global, id: &Id, content: &Bytes) -> Result<Finding, AllocError>
     ensures found { IfOk result (λ finding.
-        finding ≡ other_of (remote_in id.now content.now)) }
+        finding ≡ other_of (remote_in no_keys id.now content.now)) }
     ensures sound { IfOk result (IsSoundFinding id.now) }
 {
     match content_in(alloc, id, content.as_slice())? {

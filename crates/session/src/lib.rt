@@ -7,12 +7,14 @@
 #![tactic(auto)]
 
 mod asking;
+mod fetching;
 mod finding;
 mod hand;
 mod judging;
 mod session;
 mod waiting;
 
+pub use fetching::fetch_bytes_of;
 pub use finding::Finding;
 pub use hand::Hand;
 pub use session::Session;

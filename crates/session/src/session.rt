@@ -1,4 +1,4 @@
-ghost use Rattle.std.specs.Prelude.{◌≡◌, All, Bool, None, OnOk, Option, Some, length, true};
+ghost use Rattle.std.specs.Prelude.{◌≡◌, All, Bool, IfErr, None, OnOk, Option, Some, length, true};
 ghost use Rattle.client.specs.Sites.{IsSameSite};
 ghost use Rattle.jop_target.specs.Trail.{EndsWith};
 ghost use Rattle.jop_target.specs.declared.call.Call.{Call};
@@ -10,6 +10,7 @@ ghost use Rattle.local_store.specs.Sound.{IsAllowed};
 ghost use Rattle.keeper.specs.Keepers.{IsBlobOfKept};
 ghost use Rattle.session.specs.Asking.{AsksOnce};
 ghost use Rattle.session.specs.Doing.{Ends};
+ghost use Rattle.session.specs.Making.{IsUnkept};
 ghost use Rattle.session.specs.Parts.{Changes};
 ghost use Rattle.session.specs.Sessions.{AsksOr, FetchesOr, FindsOr, LoadsOr, MakesEachOr, MakesLicensed, MayAsk, is_whole_step};
 ghost use Rattle.session.specs.Work.{IsAtWork, WorkNow, view_of};
@@ -89,7 +90,8 @@ pub trait Session {
         requires more { stage_after Working change ≡ Working }
 
         ensures ends { (sort : Call → Bool)
-            → Ends (Changes change) sort (now self.old) result (now self.new) };
+            → Ends (Changes change) sort (now self.old) result (now self.new) }
+        ensures fails { IfErr result IsUnkept };
 
     /// Makes a change, and counts it, if it has its licence by what the session was shown. It may be the session's last
     /// one.
@@ -98,6 +100,7 @@ pub trait Session {
         requires allowed { IsAllowed change }
 
         ensures ends { MakesLicensed change (now self.old) result (now self.new) }
+        ensures fails { IfErr result IsUnkept }
         ensures ready { OnOk result (IsAtWork (now self.new)) };
 
     /// Makes changes one after the other, if each has its licence at its turn.

@@ -31,7 +31,7 @@ use Rattle.sync_info.specs.Merge.{merged}
 use Rattle.sync_info.specs.declared.info.Info.{Info}
 
 -- no call at all
-abbrev none : Call → Bool
+abbrev pub none : Call → Bool
 none call = false
 
 -- of two infos it was found that they differ
@@ -41,7 +41,7 @@ differ info other same both found = λ is. absurd (false≢true (sym found ∙ b
 
 -- ---- the put
 
-put_done : (content : List ℕ) (reply : Reply) → IsReplyTo (Put InfoFile content) reply
+pub put_done : (content : List ℕ) (reply : Reply) → IsReplyTo (Put InfoFile content) reply
     → ¬ (reply ≡ Failed) → (now : ℕ) × (reply ≡ Done now)
 put_done content (Done now) shape heard = (now, refl)
 put_done content Failed shape heard = absurd (heard refl)
@@ -113,7 +113,7 @@ is_merge info remote t d valid read is same = record {
   is = is ∙ ap (λ (x : Tables). merged x.info remote) same;
 }
 
-put_tables : (info remote : Info) (v : View) (ds : List Deed) → PutsInfo info remote v ds
+pub put_tables : (info remote : Info) (v : View) (ds : List Deed) → PutsInfo info remote v ds
     → (view_from v ds).tables ≡ v.tables
 unfolding view_from
 put_tables info remote v ds (inl h) = ap (λ (x : List Deed). (view_from v x).tables) h.1

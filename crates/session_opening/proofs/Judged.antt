@@ -113,7 +113,7 @@ stays_ahead sort a b w is =
 -- ---- a get
 
 -- it is remembered
-calls_got : (call : Call) (reply : Reply) (sort : Call → Bool) (a b : WorkNow)
+pub calls_got : (call : Call) (reply : Reply) (sort : Call → Bool) (a b : WorkNow)
     → Does (Hears call reply) sort a b
     → session_calls b.site.line.trail
     ≡ with_call call (Some reply) (session_calls a.site.line.trail)

@@ -8,3 +8,6 @@ pub mod Joined
 pub mod Merged
 pub mod Unput
 pub mod Opened
+pub mod Headways
+pub mod HeadwayGets
+pub mod HeadwayPuts

@@ -1,2 +1,3 @@
 pub mod Opening
 pub mod Verdict
+pub mod Headway

@@ -1,8 +1,10 @@
-ghost use Rattle.std.specs.Prelude.{Bool};
+ghost use Rattle.std.specs.Prelude.{◌≡◌, Bool, IfErr};
 ghost use Rattle.jop_target.specs.declared.call.Call.{Call};
 ghost use Rattle.session_opening.specs.Opening.{EndsMerging, IsMerge, IsRead, Joins, PutsInfo, SetsInfo};
+ghost use Rattle.session_opening.specs.Headway.{JustGot, IsSetInVain, OpensSo, headway_in};
 ghost use Rattle.session.specs.Doing.{Ends};
 ghost use Rattle.session.specs.Work.{IsAtWork};
+ghost use Rattle.sync_info.specs.Merge.{merged};
 ghost use Rattle.sync_info.specs.declared.info.Info.{Info};
 
 use conflicts::StepErr;
@@ -19,6 +21,8 @@ fn put_info<W: Session>(alloc: Global, s: &mut W, info: &Info, remote: &Info) ->
     requires merge { IsMerge info.now remote.now (W.now s.old).site }
 
     ensures ends { EndsMerging (PutsInfo info.now remote.now) (W.now s.old) result (W.now s.new) }
+    ensures progress { (own : Info) → headway_in own (W.now s.old) ≡ JustGot info.now remote.now
+        → OpensSo own info.now result (headway_in own (W.now s.new)) }
 {
     if info.is_same(remote) {
         return Ok(());
@@ -35,6 +39,7 @@ fn set_info<W: Session>(alloc: Global, s: &mut W, info: Info) -> Result<(), Step
     // It makes no call, so this holds of every sort.
     ensures ends { (sort : Call → Bool)
         → Ends (SetsInfo info) sort (W.now s.old) result (W.now s.new) }
+    ensures fails { IfErr result (IsSetInVain info (W.now s.old).site.tables.info) }
 {
     if info.is_same(&s.tables().info) {
         return Ok(());
@@ -48,6 +53,9 @@ pub(crate) fn join_info<W: Session>(alloc: Global, s: &mut W, remote: &Info) -> 
     requires read { IsRead remote.now (W.now s.old).site }
 
     ensures ends { EndsMerging (Joins remote.now) (W.now s.old) result (W.now s.new) }
+    ensures progress { let own = (W.now s.old).site.tables.info in
+        headway_in own (W.now s.old) ≡ JustGot (merged own remote.now) remote.now
+        → OpensSo own (merged own remote.now) result (headway_in own (W.now s.new)) }
 {
     let info = merge(alloc, &s.tables().info, remote)?;
     put_info(alloc, s, &info, remote)?;

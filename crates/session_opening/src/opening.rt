@@ -1,6 +1,7 @@
 ghost use Rattle.std.specs.Prelude.{◌≡◌, OnOk};
 ghost use Rattle.jop_base.specs.declared.lock_name.LockKind.TheVariants.{Sync};
 ghost use Rattle.session_opening.specs.Opening.{IsLawful, KnowsVersion, MergesBetween, OpensOr};
+ghost use Rattle.session_opening.specs.Headway.{OpensSo, Unread, headway_in};
 ghost use Rattle.session_opening.specs.Verdict.{AwaitsInfo, EndsInOrder, verdict_in};
 ghost use Rattle.session.specs.Work.{IsAtWork};
 
@@ -25,6 +26,11 @@ pub fn open_session<W: Session>(alloc: Global, s: &mut W) -> Result<(), StepErr>
     // If it had called nothing, it calls no more than is due, and gives the refusal that its calls call for.
     ensures order { verdict_in (W.now s.old) ≡ AwaitsInfo
         → EndsInOrder result (verdict_in (W.now s.new)) }
+    // It calls nothing behind that by which the target has the merge; and where the target has it, it has opened the
+    // session, but for want of memory, or where the keeper failed at the client's own info.
+    ensures progress { let own = (W.now s.old).site.tables.info in
+        headway_in own (W.now s.old) ≡ Unread
+        → OpensSo own (W.now s.new).site.tables.info result (headway_in own (W.now s.new)) }
     ensures merges { MergesBetween (W.now s.old).site (W.now s.new).site }
 {
     let remote = read_supported(alloc, s)?;

@@ -3,9 +3,11 @@ ghost use Rattle.jop_base.specs.declared.lock_name.LockKind.TheVariants.{Sync};
 ghost use Rattle.jop_base.specs.declared.path.Path.TheVariants.{Info as InfoFile};
 ghost use Rattle.jop_target.specs.declared.call.Call.TheVariants.{Get};
 ghost use Rattle.session_opening.specs.Opening.{IsTakenInfo, ReadsOldOr, ReadsOr, TellsInfo};
+ghost use Rattle.session_opening.specs.Headway.{GetsSo, Unread, headway_in};
 ghost use Rattle.session_opening.specs.Verdict.{AwaitsInfo, AwaitsOldFile, EndsInOrder, EndsOldFile, verdict_in};
 ghost use Rattle.session.specs.Asking.{IsAnswer};
 ghost use Rattle.session.specs.Work.{IsAtWork};
+ghost use Rattle.sync_info.specs.declared.info.Info.{Info};
 
 use conflicts::{Refusal, StepErr};
 use jop_base::Path;
@@ -67,6 +69,8 @@ pub(crate) fn read_supported<W: Session>(alloc: Global, s: &mut W) -> Result<Inf
     ensures reads { ReadsOr (W.now s.old) result (W.now s.new) }
     ensures order { verdict_in (W.now s.old) ≡ AwaitsInfo
         → EndsInOrder result (verdict_in (W.now s.new)) }
+    ensures progress { (own : Info) → headway_in own (W.now s.old) ≡ Unread
+        → GetsSo own result (headway_in own (W.now s.new)) }
 {
     s.ask(alloc, Call::Get(Path::Info))?;
     match told(alloc, s.last())? {

@@ -3,6 +3,8 @@ use Rattle.std.specs.Prelude.{ℕ, ◌≤◌, ◌≡◌, List, [], ◌∷◌, �
 use Rattle.std.proofs.Common.{sym, ◌∙◌, ap, arith, subst, inl, inr}
 use Rattle.conflicts.specs.Reports.{new_report}
 use Rattle.client.specs.Sites.{SiteNow, IsSameSite}
+use Rattle.conflicts.specs.declared.refusal.Refusal.{Refusal}
+use Rattle.download.specs.Emptied.{HeedsBetween}
 use Rattle.jop_base.specs.declared.lock_name.LockKind.{LockKind}
 use Rattle.jop_base.specs.declared.lock_name.LockKind.TheVariants.{Sync}
 use Rattle.jop_base.specs.declared.path.Path.TheVariants.{Lock as LockFile}
@@ -38,9 +40,11 @@ use Rattle.session.specs.Steps.{IsStep}
 use Rattle.session.specs.Work.{MayBeShown, IsReady, WorkNow, view_of, work}
 use Rattle.target_upgrade.proofs.Courses.{idle_work}
 use Rattle.target_upgrade.specs.Course.{Course, course_of}
-use Rattle.sync_session.proofs.Telling.{tells_had, tells_left, tells_went}
+use Rattle.sync_session.proofs.Ordered.{left_given}
+use Rattle.sync_session.proofs.Telling.{tells_also, tells_had, tells_left, tells_went}
 use Rattle.sync_session.proofs.Worked.{works_here}
 use Rattle.sync_session.specs.Errors.{of_lease}
+use Rattle.sync_session.specs.Ordering.{GivesDue}
 use Rattle.sync_session.specs.Telling.{TellsWork}
 use Rattle.sync_session.specs.Leaving.{LeavesLease, LeavesIf, holds_lease}
 use Rattle.sync_session.specs.Syncing.{EndsWork, HasBegunSync, HasLeftSync, IsSyncReleased, SyncGoesOn, begun_view}
@@ -133,35 +137,43 @@ goes_left a b worked result new works lawful leaves =
 
 told_if : (holds : Bool) (v : View) (a : SiteNow) (lease : Lease)
     (worked : Result (Unit {0}) SyncErr) (b : SiteNow) (result : Result (Unit {0}) SyncErr)
-    (new : SiteNow) → IsInside v.stage → TellsWork v a b
-    → LeavesIf holds lease worked b result new → TellsWork v a new
-told_if true v a lease worked b result new inside h leaves =
-    tells_left lease.client v a b new inside h leaves.same leaves.goes
-told_if false v a lease worked b result new inside h leaves =
-    subst (λ (d : SiteNow). TellsWork v a d) (sym leaves.1) h
+    (new : SiteNow) → IsInside v.stage
+    → ((why : Refusal) → GivesDue worked why → GivesDue result why) → TellsWork (GivesDue worked) v a b
+    → LeavesIf holds lease worked b result new → TellsWork (GivesDue result) v a new
+told_if true v a lease worked b result new inside also h leaves =
+    tells_left (GivesDue worked) (GivesDue result) lease.client v a b new inside also h leaves.same
+    leaves.goes
+told_if false v a lease worked b result new inside also h leaves =
+    subst (λ (d : SiteNow). TellsWork (GivesDue result) v a d) (sym leaves.1)
+    (tells_also (GivesDue worked) (GivesDue result) v a b also h)
 
 pub tells_worked : (a b : WorkNow) (worked result : Result (Unit {0}) SyncErr) (new : SiteNow)
-    → SyncWorks a worked b → MergesBetween a.site b.site → MayBeShown a.known None
+    → SyncWorks a worked b → MergesBetween a.site b.site
+    → HeedsBetween (GivesDue worked) a.site b.site → MayBeShown a.known None
     → LeavesLease b.lease worked b.site result new
-    → TellsWork (view_of None a.site) a.site new
-tells_worked a b worked result new works merges fits leaves =
+    → TellsWork (GivesDue result) (view_of None a.site) a.site new
+tells_worked a b worked result new works merges heeds fits leaves =
     let went = went_worked a b worked works in
     told_if (holds_lease worked) (view_of None a.site) a.site b.lease worked b.site result new tt
-    (tells_went is_sync a b None fits went merges) leaves
+    (left_given b.lease worked result b.site new leaves)
+    (tells_went (GivesDue worked) is_sync a b fits went merges heeds) leaves
 
 -- and then the lease is given up, if it is held still
 pub ends_held : (a b : WorkNow) (worked result : Result (Unit {0}) SyncErr) (new : SiteNow)
     → SyncWorks a worked b → a.known ≡ None → b.known ≡ None → IsLawful b.lease b.site
-    → MergesBetween a.site b.site → LeavesLease b.lease worked b.site result new
+    → MergesBetween a.site b.site → HeedsBetween (GivesDue worked) a.site b.site
+    → LeavesLease b.lease worked b.site result new
     → EndsWork a.lease a.site a.report result new b.report
-ends_held a b worked result new works before behind lawful merges leaves = record {
+ends_held a b worked result new works before behind lawful merges heeds leaves = record {
   worked = worked;
   late = work b.site b.lease b.report;
   works = works_here a b worked before behind works;
   leaves = leaves;
   reported = refl;
   goes = goes_left a b worked result new works lawful leaves;
-  tells = tells_worked a b worked result new works merges (unknown_fits a.known None before) leaves;
+  tells =
+      tells_worked a b worked result new works merges heeds (unknown_fits a.known None before)
+      leaves;
 }
 
 pub lawful_begun : (client : List ℕ) (d : SiteNow) → HasBegunSync client d
@@ -236,15 +248,17 @@ goes_taken client lease old held new lawful h k =
     (goes_idle client old.line held.line lawful h.goes)
     (subst (λ (c : List ℕ). SyncGoesOn c held.line new.line) (own_client client lease old held h) k)
 
-pub tells_taken : (client : List ℕ) (lease : Lease) (old held new : SiteNow)
+pub tells_taken : (Given : Refusal → Type 0) (client : List ℕ) (lease : Lease)
+    (old held new : SiteNow)
     → HasBegunSync client old → HasTaken client lease old held
-    → TellsWork (view_of None held) held new → TellsWork (begun_view old.tables) old new
-tells_taken client lease old held new begun h k =
+    → TellsWork Given (view_of None held) held new
+    → TellsWork Given (begun_view old.tables) old new
+tells_taken Given client lease old held new begun h k =
     let calls = calls_locks client old held.line h.goes ∙ begun.calls in
     let same : view_of None held ≡ begun_view old.tables =
-    seen_between (view_of None held) (begun_view old.tables) h.same.tables calls refl refl in
-    tells_had client (begun_view old.tables) old held new tt h.same h.goes
-    (subst (λ (v : View). TellsWork v held new) same k)
+    seen_between (view_of None held) (begun_view old.tables) h.same.tables calls refl refl refl in
+    tells_had Given client (begun_view old.tables) old held new tt refl h.same h.goes
+    (subst (λ (v : View). TellsWork Given v held new) same k)
 
 kind_is : (a b : Lease) → IsSameBut a b → b.kind ≡ a.kind
 kind_is a b same = ap (λ (l : Lease). l.kind) same

@@ -2,11 +2,13 @@ pub mod Merging
 pub mod Telling
 pub mod Settled
 pub mod Exchanged
+pub mod SameBlobs
 pub mod Worked
 pub mod Left
 pub mod Refused
 pub mod Done
 pub mod Whole
 pub mod Ordered
+pub mod Wanted
 pub mod Promised
 pub mod Ran

@@ -81,7 +81,7 @@ still_given why e (Err lease_errors.TargetFault) gives = gives
 still_given why e (Err (lease_errors.Lost seen)) gives = gives
 still_given why e (Err (lease_errors.Busy lock now)) gives = gives
 
-left_given : (lease : Lease) (worked result : Result (Unit {0}) SyncErr) (old new : SiteNow)
+pub left_given : (lease : Lease) (worked result : Result (Unit {0}) SyncErr) (old new : SiteNow)
     → LeavesLease lease worked old result new → (why : Refusal) → GivesDue worked why
     → GivesDue result why
 left_given lease (Ok done) result old new leaves why gives = absurd gives
@@ -100,7 +100,7 @@ left_given lease (Err KeeperFault) result old new leaves why gives =
     subst (λ (r : Result (Unit {0}) SyncErr). GivesDue r why) (sym leaves.is)
     (still_given why KeeperFault leaves.released gives)
 
-left_calls : (lease : Lease) (worked result : Result (Unit {0}) SyncErr) (old new : SiteNow)
+pub left_calls : (lease : Lease) (worked result : Result (Unit {0}) SyncErr) (old new : SiteNow)
     → LeavesLease lease worked old result new
     → session_calls new.line.trail ≡ session_calls old.line.trail
 left_calls lease (Ok done) result old new leaves =
@@ -153,7 +153,7 @@ last_within calls (Began ∷ es) h = absurd (h 0 Began (omega arith))
 last_within calls (Ended ∷ es) h = absurd (h 0 Began (omega arith))
 
 -- its end leaves them
-last_ended : (calls : List Heard) (es : List Event)
+pub last_ended : (calls : List Heard) (es : List Event)
     → last_calls_from calls (es ++ Ended ∷ []) ≡ last_calls_from calls es
 unfolding last_calls_from
 last_ended calls [] = refl
@@ -163,7 +163,7 @@ last_ended calls (Made number ∷ es) = last_ended calls es
 last_ended calls (Began ∷ es) = last_ended [] es
 last_ended calls (Ended ∷ es) = last_ended calls es
 
-last_begun : (es : List Event) → last_calls (Began ∷ es) ≡ last_calls es
+pub last_begun : (es : List Event) → last_calls (Began ∷ es) ≡ last_calls es
 unfolding last_calls_from
 last_begun es = refl
 
@@ -178,7 +178,7 @@ since_begun old mid more is =
     (calls_from-append [] old (Began ∷ [])))
 
 -- the calls of a session that was added are those that it made
-added_calls : (client : List ℕ) (old begun mid : SiteNow) → begun ≡ begun_at old
+pub added_calls : (client : List ℕ) (old begun mid : SiteNow) → begun ≡ begun_at old
     → (goes : SyncGoesOn client begun.line mid.line)
     → last_calls goes.goes.line.more ≡ session_calls mid.line.trail
 added_calls client old begun mid is goes =

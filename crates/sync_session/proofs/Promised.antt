@@ -4,7 +4,9 @@ use Rattle.std.proofs.Common.{sym, ◌∙◌, ap, subst}
 use Rattle.std.proofs.lemmas.List.{append_cancel_left}
 use Rattle.std.proofs.lemmas.Option.{same_Some}
 use Rattle.sync_run.specs.Leases.{KeepsLeaseFrom}
+use Rattle.conflicts.specs.declared.refusal.Refusal.{Refusal}
 use Rattle.conflicts.specs.declared.report.SyncReport.{SyncReport}
+use Rattle.download.specs.Emptied.{HeedsEmptied}
 use Rattle.jop_base.specs.declared.lock_name.LockKind.TheVariants.{Sync}
 use Rattle.jop_target.specs.declared.event.Event.{Event}
 use Rattle.lease.specs.Blocked.{NamesALiveLock}
@@ -12,6 +14,7 @@ use Rattle.lease.specs.Outcomes.{IsBlocked}
 use Rattle.lease.specs.declared.lock.Lock.{Lock}
 use Rattle.law_licences.specs.Deeds.{changes_in, deeds_of, events_of}
 use Rattle.law_licences.specs.Licences.{MergesInfo, ObeysData}
+use Rattle.law_licences.specs.Sealing.{no_keys}
 use Rattle.law_licences.specs.Views.{at_rest}
 use Rattle.local_store.specs.declared.change.Change.{Change}
 use Rattle.client.specs.Sites.{SiteNow}
@@ -19,7 +22,8 @@ use Rattle.session.specs.Steps.{IsStep}
 use Rattle.sync_run.proofs.Leases.{Laws, NamesBlocked, names_added}
 use Rattle.sync_run.proofs.Whole.{before_end}
 use Rattle.target_upgrade.specs.Course.{ObeysLease}
-use Rattle.sync_session.specs.Syncing.{AddsFrom, IsWholeSync, LicensedFrom, blocked_by}
+use Rattle.sync_session.specs.Ordering.{GivesDue}
+use Rattle.sync_session.specs.Syncing.{AddsFrom, HeedsFrom, IsWholeSync, LicensedFrom, blocked_by}
 use Rattle.sync_session.specs.Telling.{Tells}
 use Rattle.sync_session.specs.Working.{is_sync}
 use Rattle.sync_session.specs.declared.sync_err.SyncErr.{SyncErr}
@@ -92,24 +96,32 @@ keeps_from client old new result laws h added is =
 
 -- ---- its licences
 
-licensed_told : (old new : SiteNow) → Tells (at_rest old.tables) old new
-    → LicensedFrom old.tables old.line.trail new.line.trail old.made new.made
-licensed_told old new h added changes trail made =
+-- its deeds are those that its trail and its changes tell
+told_from : (Given : Refusal → Type 0) (old new : SiteNow) (added : List Event)
+    (changes : List Change) → (h : Tells Given (at_rest no_keys old.tables) old new)
+    → new.line.trail ≡ old.line.trail ++ added → new.made ≡ old.made ++ changes
+    → h.deeds ≡ deeds_of added changes
+told_from Given old new added changes h trail made =
     let n = length old.made in
-    let v = at_rest old.tables in
     let events : events_of n h.deeds ≡ added =
     append_cancel_left old.line.trail (events_of n h.deeds) added (sym h.trail ∙ trail) in
     let same : changes_in h.deeds ≡ changes =
     append_cancel_left old.made (changes_in h.deeds) changes (sym h.made ∙ made) in
-    let told : h.deeds ≡ deeds_of added changes =
     sym h.told
     ∙ (ap (λ (es : List Event). deeds_of es (changes_in h.deeds)) events
-    ∙ ap (λ (cs : List Change). deeds_of added cs) same) in
+    ∙ ap (λ (cs : List Change). deeds_of added cs) same)
+
+licensed_told : (Given : Refusal → Type 0) (old new : SiteNow)
+    → Tells Given (at_rest no_keys old.tables) old new
+    → LicensedFrom old.tables old.line.trail new.line.trail old.made new.made
+licensed_told Given old new h added changes trail made =
+    let v = at_rest no_keys old.tables in
+    let told = told_from Given old new added changes h trail made in
     (subst (ObeysData v) told h.obeys, subst (MergesInfo v) told h.merges)
 
 tells_from : (client : List ℕ) (old new : SiteNow)
     (result : Result SyncReport SyncErr) → AddsFrom client old result new
-    → Tells (at_rest old.tables) old new
+    → Tells (GivesDue result) (at_rest no_keys old.tables) old new
 tells_from client old new (Err NoMemory) h = h.tells
 tells_from client old new (Ok report) h = h.tells
 tells_from client old new (Err (Busy lock now)) h = h.tells
@@ -121,4 +133,13 @@ tells_from client old new (Err KeeperFault) h = h.tells
 pub licensed_from : (client : List ℕ) (old new : SiteNow) (result : Result SyncReport SyncErr)
     → AddsFrom client old result new
     → LicensedFrom old.tables old.line.trail new.line.trail old.made new.made
-licensed_from client old new result h = licensed_told old new (tells_from client old new result h)
+licensed_from client old new result h =
+    licensed_told (GivesDue result) old new (tells_from client old new result h)
+
+pub heeds_from : (client : List ℕ) (old new : SiteNow) (result : Result SyncReport SyncErr)
+    → AddsFrom client old result new
+    → HeedsFrom old.tables result old.line.trail new.line.trail old.made new.made
+heeds_from client old new result h added changes trail made =
+    let tells = tells_from client old new result h in
+    subst (HeedsEmptied (GivesDue result) (at_rest no_keys old.tables))
+    (told_from (GivesDue result) old new added changes tells trail made) tells.heeds

@@ -18,6 +18,7 @@ use Rattle.sync_session.proofs.Left.{HasTaken, goes_idle, goes_taken, lawful_beg
 use Rattle.sync_session.proofs.Refused.{ends_from, released_work}
 use Rattle.sync_session.proofs.Telling.{tells_locks}
 use Rattle.sync_session.specs.Errors.{of_lease}
+use Rattle.sync_session.specs.Ordering.{GivesDue}
 use Rattle.sync_session.specs.Syncing.{AddsFrom, EndsWork, HasBegunSync, LineGoesBySync, RunsSync, begun_view, with_locked}
 use Rattle.sync_session.specs.Working.{StartsSync}
 use Rattle.sync_session.specs.declared.sync_err.SyncErr.{SyncErr}
@@ -40,7 +41,8 @@ runs_none client old new s t e o n begun same tried =
     record {
       released = released_none client old new e same h.gives h.calls;
       goes = goes_idle client old.line new.line (lawful_begun client old begun) h.goes;
-      tells = (tells_locks client (begun_view old.tables) old new tt same h.goes).work;
+      tells = (tells_locks (GivesDue {R = SyncReport} (Err (of_lease e))) client
+          (begun_view old.tables) old new tt same h.goes (λ count is. absurd cc)).work;
     }
 
 -- ---- it was had
@@ -66,7 +68,7 @@ runs_refused client lease old held new report after e is begun taken h = record 
   released = released_work client lease old held new e after (Err e) refl taken
       (ends_from lease held report new_report (Err e) new after is h);
   goes = goes_taken client lease old held new (lawful_begun client old begun) taken h.goes;
-  tells = tells_taken client lease old held new begun taken h.tells;
+  tells = tells_taken (GivesDue {R = SyncReport} (Err e)) client lease old held new begun taken h.tells;
 }
 
 -- all was done
@@ -78,7 +80,7 @@ runs_done client lease old held new report after counted is begun taken h report
   released = released_done client lease old held new after counted (Ok tt) refl taken
       (ends_from lease held report new_report (Ok tt) new after is h) reports;
   goes = goes_taken client lease old held new (lawful_begun client old begun) taken h.goes;
-  tells = tells_taken client lease old held new begun taken h.tells;
+  tells = tells_taken (GivesDue (Ok counted)) client lease old held new begun taken h.tells;
 }
 
 -- by other names of what stands behind it

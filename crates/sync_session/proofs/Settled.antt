@@ -11,7 +11,8 @@ use Rattle.law_licences.specs.Deeds.{Deed, Begins, Asks, Makes, MakesUntold, End
 use Rattle.law_licences.specs.Licences.{AreWork, Each, IsInside, MayChange, MayDo}
 use Rattle.law_licences.specs.Trails.{session_calls}
 use Rattle.law_licences.specs.Views.{Heard, View, view_after_change, view_after_call, is_about_locks, view_from}
-use Rattle.local_store.specs.Changing.{after, conflicted, uploaded}
+use Rattle.item_text.specs.declared.item.Item.{Item as AnItem}
+use Rattle.local_store.specs.Changing.{after, conflicted, uploaded, opened}
 use Rattle.local_store.specs.Rows.{deletion_id}
 use Rattle.local_store.specs.Sound.{IsSound}
 use Rattle.local_store.specs.Tables.{row_at}
@@ -65,6 +66,11 @@ none_uploaded : (t : Tables) (id bytes : List ℕ) (row : Option Row) → t.dele
 none_uploaded t id bytes None none = none
 none_uploaded t id bytes (Some r) none = none
 
+none_opened : (t : Tables) (id : List ℕ) (item : AnItem) (row : Option Row) → t.deletions ≡ []
+    → (opened t id item row).deletions ≡ []
+none_opened t id item None none = none
+none_opened t id item (Some r) none = none
+
 none_cut : (ds : List Deletion) (id : List ℕ) → ds ≡ [] → cut deletion_id ds id ≡ []
 unfolding cut
 none_cut [] id none = refl
@@ -78,7 +84,7 @@ none_after v t (Dropped id) may none = none_cut t.deletions id none
 none_after v t (Conflict id remote copies) may none =
     none_conflicted t id remote copies (row_at t id) none
 none_after v t (Moved id) may none = none_conflicted t id None true (row_at t id) none
-none_after v t (Opened id item) may none = absurd may
+none_after v t (Opened id item) may none = none_opened t id item (row_at t id) none
 none_after v t c may none = none
 
 none_stays : (v : View) (ds : List Deed) → IsInside v.stage → AreWork ds → Each MayDo v ds

@@ -1,7 +1,12 @@
 -- What is told of a client, put together.
-use Rattle.std.specs.Prelude.{ℕ, ◌≡◌, List, [], ◌∷◌, ◌++◌, Bool, length, map, Option, option_map}
+use Rattle.std.specs.Prelude.{ℕ, ◌≡◌, List, [], ◌∷◌, ◌++◌, Bool, length, map, Option, Some, None, option_map}
 use Rattle.std.proofs.Common.{refl, sym, ◌∙◌, ap, subst, append-nil, append_assoc}
 use Rattle.client.specs.Sites.{SiteNow, IsSameSite}
+use Rattle.conflicts.specs.declared.refusal.Refusal.{Refusal}
+use Rattle.conflicts.specs.declared.refusal.Refusal.TheVariants.{FailSafe}
+use Rattle.download.proofs.Emptied.{heeds-locks}
+use Rattle.download.proofs.Still.{heeds-append, heeds_also, heeds_of, shown_last}
+use Rattle.download.specs.Emptied.{HeedsBetween, emptied_in}
 use Rattle.jop_target.specs.declared.call.Call.{Call}
 use Rattle.jop_target.specs.declared.event.Event.{Event}
 use Rattle.lease.specs.Calls.{LeaseGoesOn}
@@ -43,10 +48,10 @@ inside-work v (Stops ∷ ds) inside work = absurd work
 
 -- ---- a part of a session
 
-pub tells_went : (sort : Call → Bool) (a b : WorkNow) (shown : Option Shown)
-    → MayBeShown a.known shown → Went sort a b → MergesBetween a.site b.site
-    → TellsWork (view_of shown a.site) a.site b.site
-tells_went sort a b shown fits w merges = record {
+pub tells_went : (Given : Refusal → Type 0) (sort : Call → Bool) (a b : WorkNow)
+    → MayBeShown a.known None → Went sort a b → MergesBetween a.site b.site
+    → HeedsBetween Given a.site b.site → TellsWork Given (view_of None a.site) a.site b.site
+tells_went Given sort a b fits w merges heeds = record {
   tells = record {
     deeds = w.deeds;
     saves = w.saves;
@@ -56,8 +61,9 @@ tells_went sort a b shown fits w merges = record {
     kept = w.kept;
     got = w.got;
     told = deeds_of-events_of (length a.site.made) w.deeds w.work;
-    obeys = w.obeys shown fits;
-    merges = merges_of sort a b merges w shown;
+    obeys = w.obeys None fits;
+    merges = merges_of sort a b merges w None;
+    heeds = heeds_of Given sort a b heeds w;
   };
   work = w.work;
 }
@@ -82,12 +88,13 @@ got_before ds es xs ys owed got none unsaved =
     ∙ (got ∙ ap (λ (x : List Blob). map tale_of x ++ owed)
     (sym (ap (λ (x : List Blob). xs ++ x) unsaved ∙ append-nil xs)))))
 
-tells_on : (v : View) (a b c : SiteNow) (h : TellsWork v a b)
-    (k : TellsWork (view_from v h.tells.deeds) b c) (owed : List Told)
+tells_on : (First Given : Refusal → Type 0) (v : View) (a b c : SiteNow)
+    (h : TellsWork First v a b) (k : TellsWork Given (view_from v h.tells.deeds) b c)
+    (owed : List Told)
     → blobs_got (h.tells.deeds ++ k.tells.deeds)
     ≡ map tale_of (h.tells.saves ++ k.tells.saves) ++ owed
-    → TellsWork v a c
-tells_on v a b c h k owed got =
+    → TellsWork Given v a c
+tells_on First Given v a b c h k owed got =
     let n = length a.made in
     let m = length b.made in
     let ds = h.tells.deeds in
@@ -120,6 +127,7 @@ tells_on v a b c h k owed got =
         told = deeds_of-events_of n (ds ++ es) work;
         obeys = Each-append MayDo v ds es h.tells.obeys k.tells.obeys;
         merges = Each-append MayMerge v ds es h.tells.merges k.tells.merges;
+        heeds = heeds-append First Given v ds es h.work h.tells.heeds k.tells.heeds;
       };
       work = work;
     }
@@ -138,15 +146,18 @@ nothing_put v (Ends ∷ ds) client h = absurd h
 nothing_put v (Stops ∷ ds) client h = absurd h
 
 -- what a lease called, while nothing else was done
-pub record TellsLocks (client : List ℕ) (v : View) (a b : SiteNow) : Type 0 where
-  pub work : TellsWork v a b
+pub record TellsLocks (Given : Refusal → Type 0) (client : List ℕ) (v : View) (a b : SiteNow)
+    : Type 0 where
+  pub work : TellsWork Given v a b
   pub same : view_from v work.tells.deeds ≡ v
   pub unsaved : work.tells.saves ≡ []
   pub ungot : blobs_got work.tells.deeds ≡ []
 
-pub tells_locks : (client : List ℕ) (v : View) (a b : SiteNow) → IsInside v.stage
-    → IsSameSite a b → LeaseGoesOn client a.line b.line → TellsLocks client v a b
-tells_locks client v a b inside same goes =
+pub tells_locks : (Given : Refusal → Type 0) (client : List ℕ) (v : View) (a b : SiteNow)
+    → IsInside v.stage → IsSameSite a b → LeaseGoesOn client a.line b.line
+    → ((count : ℕ) → emptied_in v.shown ≡ Some count → Given (FailSafe count))
+    → TellsLocks Given client v a b
+tells_locks Given client v a b inside same goes given =
     let n = length a.made in
     let told = told_locks client n goes.line.more goes.line.each in
     let calls = AreCalls-locks client told.deeds told.locks in
@@ -168,6 +179,7 @@ tells_locks client v a b inside same goes =
           told = deeds_of-events_of n told.deeds (AreWork-calls told.deeds calls);
           obeys = obeys-locks client v told.deeds inside told.locks;
           merges = nothing_put v told.deeds client told.locks;
+          heeds = heeds-locks Given client v told.deeds told.locks given;
         };
         work = AreWork-calls told.deeds calls;
       };
@@ -176,25 +188,58 @@ tells_locks client v a b inside same goes =
       ungot = blobs_got-locks client told.deeds told.locks;
     }
 
+-- nothing looks like an emptied target
+pub none_emptied : (Given : Refusal → Type 0) (shown : Option Shown) (count : ℕ)
+    → emptied_in shown ≡ None → emptied_in shown ≡ Some count → Given (FailSafe count)
+none_emptied Given shown count filled is =
+    let never : None ≡ Some count = sym filled ∙ is in
+    absurd cc
+
+-- what gives no less
+pub tells_also : (First Given : Refusal → Type 0) (v : View) (a b : SiteNow)
+    → ((why : Refusal) → First why → Given why) → TellsWork First v a b → TellsWork Given v a b
+tells_also First Given v a b also h = record {
+  tells = record {
+    deeds = h.tells.deeds;
+    saves = h.tells.saves;
+    owed = h.tells.owed;
+    trail = h.tells.trail;
+    made = h.tells.made;
+    kept = h.tells.kept;
+    got = h.tells.got;
+    told = h.tells.told;
+    obeys = h.tells.obeys;
+    merges = h.tells.merges;
+    heeds = heeds_also First Given v h.tells.deeds also h.tells.heeds;
+  };
+  work = h.work;
+}
+
 -- behind work of the session
-pub tells_left : (client : List ℕ) (v : View) (a b c : SiteNow) → IsInside v.stage
-    → TellsWork v a b → IsSameSite b c → LeaseGoesOn client b.line c.line → TellsWork v a c
-tells_left client v a b c inside h same goes =
-    let locks = tells_locks client (view_from v h.tells.deeds) b c
-    (inside-work v h.tells.deeds inside h.work) same goes in
+pub tells_left : (First Given : Refusal → Type 0) (client : List ℕ) (v : View) (a b c : SiteNow)
+    → IsInside v.stage → ((why : Refusal) → First why → Given why) → TellsWork First v a b
+    → IsSameSite b c → LeaseGoesOn client b.line c.line → TellsWork Given v a c
+tells_left First Given client v a b c inside also h same goes =
+    let ds = h.tells.deeds in
+    let locks = tells_locks Given client (view_from v ds) b c
+    (inside-work v ds inside h.work) same goes
+    (λ count is. also (FailSafe count)
+    (h.tells.heeds.given count (ap emptied_in (shown_last v ds h.work) ∙ is))) in
     let l = locks.work.tells in
-    tells_on v a b c h locks.work h.tells.owed
+    tells_on First Given v a b c h locks.work h.tells.owed
     (got_before h.tells.deeds l.deeds h.tells.saves l.saves h.tells.owed h.tells.got locks.ungot
     locks.unsaved)
 
 -- or before it
-pub tells_had : (client : List ℕ) (v : View) (a b c : SiteNow) → IsInside v.stage
-    → IsSameSite a b → LeaseGoesOn client a.line b.line → TellsWork v b c → TellsWork v a c
-tells_had client v a b c inside same goes k =
-    let locks = tells_locks client v a b inside same goes in
+pub tells_had : (Given : Refusal → Type 0) (client : List ℕ) (v : View) (a b c : SiteNow)
+    → IsInside v.stage → emptied_in v.shown ≡ None → IsSameSite a b
+    → LeaseGoesOn client a.line b.line → TellsWork Given v b c → TellsWork Given v a c
+tells_had Given client v a b c inside filled same goes k =
+    let locks = tells_locks Given client v a b inside same goes
+    (λ count is. none_emptied Given v.shown count filled is) in
     let l = locks.work.tells in
-    let m : TellsWork (view_from v l.deeds) b c =
-    subst (λ (w : View). TellsWork w b c) (sym locks.same) k in
-    tells_on v a b c locks.work m m.tells.owed
+    let m : TellsWork Given (view_from v l.deeds) b c =
+    subst (λ (w : View). TellsWork Given w b c) (sym locks.same) k in
+    tells_on Given Given v a b c locks.work m m.tells.owed
     (got_behind l.deeds m.tells.deeds l.saves m.tells.saves m.tells.owed locks.ungot locks.unsaved
     m.tells.got)

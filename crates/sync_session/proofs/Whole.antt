@@ -1,9 +1,12 @@
 -- A sync from its begin to its end.
 use Rattle.std.specs.Prelude.{ℕ, ◌≡◌, ◌+◌, List, [], ◌∷◌, ◌++◌, length, true, false, Some, None, option_map, Result, Ok, Err, refl}
-use Rattle.std.proofs.Common.{sym, ◌∙◌, ap, subst, append-nil, append_assoc}
+use Rattle.std.proofs.Common.{sym, ◌∙◌, ap, subst, inl, inr, append-nil, append_assoc}
 use Rattle.std.proofs.lemmas.List.{append_cancel_left}
 use Rattle.conflicts.specs.declared.report.SyncReport.{SyncReport}
 use Rattle.client.specs.Sites.{SiteNow, IsTidy, written_down}
+use Rattle.conflicts.specs.declared.refusal.Refusal.{Refusal}
+use Rattle.download.proofs.Still.{last_on, shown_last}
+use Rattle.download.specs.Emptied.{MayFollow, emptied_in, last_shown}
 use Rattle.jop_target.specs.Trail.{LineNow}
 use Rattle.jop_target.specs.declared.event.Event.{Event}
 use Rattle.jop_target.specs.declared.event.Event.TheVariants.{Began, Sent, Called, Made, Ended}
@@ -16,6 +19,7 @@ use Rattle.law_licences.proofs.Told.{calls_from-append, changes_in-append, event
 use Rattle.law_licences.specs.Trails.{calls_from, session_calls}
 use Rattle.law_licences.specs.Deeds.{Deed, Begins, Asks, Makes, MakesUntold, Ends, Stops, changes_in, deeds_of, events_of}
 use Rattle.law_licences.specs.Licences.{AreWork, Each, MayDo, MayMerge}
+use Rattle.law_licences.specs.Sealing.{no_keys}
 use Rattle.law_licences.specs.Views.{View, at_rest}
 use Rattle.local_store.specs.declared.change.Change.{Change}
 use Rattle.session.proofs.Leased.{kept-same}
@@ -30,6 +34,8 @@ use Rattle.target_upgrade.specs.Course.{KeepsVersions, course_of, outside_course
 use Rattle.jop_target.proofs.Runs.{continues_on}
 use Rattle.sync_run.specs.Sessions.{IsMarkOr}
 use Rattle.sync_session.specs.Syncing.{AddsFrom, HasBegunSync, IsOpenSync, IsSyncReleased, IsWholeSync, RunsSync, SyncAnswers, begun_at, begun_view, ended_at, has_ended_sync, LineGoesBySync, SyncGoesOn}
+use Rattle.sync_session.proofs.Telling.{none_emptied}
+use Rattle.sync_session.specs.Ordering.{GivesDue}
 use Rattle.sync_session.specs.Telling.{Tells, TellsWork}
 use Rattle.sync_session.specs.Working.{is_sync}
 use Rattle.sync_session.specs.declared.sync_err.SyncErr.{SyncErr}
@@ -38,10 +44,11 @@ use Rattle.sync_session.specs.declared.sync_err.SyncErr.TheVariants.{Busy, Lease
 -- ---- what is told of a session
 
 -- nothing was done
-pub tells_nothing : (v : View) (d e : SiteNow) → e.line.trail ≡ d.line.trail → e.made ≡ d.made
-    → e.keeper.kept ≡ d.keeper.kept → Tells v d e
-unfolding events_of changes_in deeds_of Each blobs_got
-tells_nothing v d e trail made kept = record {
+pub tells_nothing : (Given : Refusal → Type 0) (v : View) (d e : SiteNow)
+    → emptied_in v.shown ≡ None → e.line.trail ≡ d.line.trail → e.made ≡ d.made
+    → e.keeper.kept ≡ d.keeper.kept → Tells Given v d e
+unfolding events_of changes_in deeds_of Each blobs_got last_shown
+tells_nothing Given v d e filled trail made kept = record {
   deeds = [];
   saves = [];
   owed = [];
@@ -52,13 +59,18 @@ tells_nothing v d e trail made kept = record {
   told = refl;
   obeys = tt;
   merges = tt;
+  heeds = record {
+    stops = tt;
+    given = λ count is. none_emptied Given v.shown count filled is;
+  };
 }
 
 -- the session has begun, and goes on
-pub tells_begun : (old now : SiteNow) → TellsWork (begun_view old.tables) (begun_at old) now
-    → Tells (at_rest old.tables) old now
-unfolding events_of changes_in deeds_of Each blobs_got
-tells_begun old now h = record {
+pub tells_begun : (Given : Refusal → Type 0) (old now : SiteNow)
+    → TellsWork Given (begun_view old.tables) (begun_at old) now
+    → Tells Given (at_rest no_keys old.tables) old now
+unfolding events_of changes_in deeds_of Each blobs_got last_shown
+tells_begun Given old now h = record {
   deeds = Begins ∷ h.tells.deeds;
   saves = h.tells.saves;
   owed = h.tells.owed;
@@ -71,6 +83,7 @@ tells_begun old now h = record {
   told = ap (λ (ds : List Deed). Begins ∷ ds) h.tells.told;
   obeys = (tt, h.tells.obeys);
   merges = (tt, h.tells.merges);
+  heeds = record { stops = (inl refl, h.tells.heeds.stops); given = h.tells.heeds.given };
 }
 
 deeds_ended : (n : ℕ) (ds : List Deed) → AreWork ds
@@ -89,10 +102,11 @@ deeds_ended n (Ends ∷ ds) work = absurd work
 deeds_ended n (Stops ∷ ds) work = absurd work
 
 -- and has ended
-pub tells_ended : (old mid : SiteNow) → TellsWork (begun_view old.tables) (begun_at old) mid
-    → Tells (at_rest old.tables) old (ended_at mid)
-unfolding events_of changes_in deeds_of Each blobs_got
-tells_ended old mid h =
+pub tells_ended : (Given : Refusal → Type 0) (old mid : SiteNow)
+    → TellsWork Given (begun_view old.tables) (begun_at old) mid
+    → Tells Given (at_rest no_keys old.tables) old (ended_at mid)
+unfolding events_of changes_in deeds_of Each blobs_got last_shown
+tells_ended Given old mid h =
     let n = length old.made in
     let ds = h.tells.deeds in
     let v = begun_view old.tables in
@@ -122,6 +136,12 @@ tells_ended old mid h =
           ∙ ap (λ (es : List Deed). Begins ∷ es) (deeds_ended n ds h.work));
       obeys = (tt, Each-append MayDo v ds (Ends ∷ []) h.tells.obeys (tt, tt));
       merges = (tt, Each-append MayMerge v ds (Ends ∷ []) h.tells.merges (tt, tt));
+      heeds = record {
+        stops = (inl refl, Each-append MayFollow v ds (Ends ∷ []) h.tells.heeds.stops (inr tt, tt));
+        given = λ count is.
+            h.tells.heeds.given count
+            (ap emptied_in (shown_last v ds h.work ∙ last_on v ds (Ends ∷ []) h.work) ∙ is);
+      };
     }
 
 -- ---- its events
@@ -158,7 +178,7 @@ whole_sync client old mid result ended runs =
     (inner_step client) refl runs.goes.goes done.1 refl in
     let at = before_end old.line.trail adds.middle mid.line.trail new.line.trail refl adds.trail in
     record {
-      tells = tells_ended old mid runs.tells;
+      tells = tells_ended (GivesDue result) old mid runs.tells;
       whole = adds;
       versions = keeps_whole client old.line.trail adds.middle
           (λ i d lt. inner_step client _ (adds.each i d lt))
@@ -199,7 +219,11 @@ open_sync client old mid result ended runs =
     let more = goes.line.more in
     let at = at_seam old.line.trail more start.line.trail mid.line.trail refl goes.line.trail in
     record {
-      tells = tells_begun old mid runs.tells;
+      tells =
+          tells_begun (GivesDue {R = SyncReport} (Err NoMemory)) old mid
+          (subst (λ (r : Result SyncReport SyncErr).
+          TellsWork (GivesDue r) (begun_view old.tables) (begun_at old) mid)
+          (not_ended result ended) runs.tells);
       begun = adds;
       versions = subst (KeepsVersions client)
           (append_cancel_left old.line.trail (Began ∷ more) adds.more (sym at ∙ adds.trail))
@@ -215,7 +239,9 @@ pub none_open : (client : List ℕ) (old new : SiteNow) → new.line.trail ≡ o
 none_open client old new trail made kept =
     let adds = adds_none (IsStep is_sync client) client old.line.trail new.line.trail trail in
     record {
-      tells = tells_nothing (at_rest old.tables) old new trail made kept;
+      tells =
+          tells_nothing (GivesDue {R = SyncReport} (Err NoMemory)) (at_rest no_keys old.tables) old new refl
+          trail made kept;
       begun = adds;
       versions = subst (KeepsVersions client)
           (append_cancel_left old.line.trail [] adds.more

@@ -7,7 +7,9 @@ use Rattle.conflicts.specs.declared.error.StepErr.{StepErr}
 use Rattle.conflicts.specs.declared.error.StepErr.TheVariants.{Lost, TargetFault, KeeperFault, NoMemory}
 use Rattle.conflicts.specs.declared.refusal.Refusal.{Refusal}
 use Rattle.client.specs.Sites.{SiteNow}
+use Rattle.download.proofs.Still.{between_also, heeds_behind, heeds_still}
 use Rattle.download.specs.Downloading.{Downloads}
+use Rattle.download.specs.Emptied.{HeedsBetween, RefusesStep}
 use Rattle.download.specs.Reading.{RefusesDownload}
 use Rattle.jop_base.specs.declared.lock_name.LockKind.TheVariants.{Sync}
 use Rattle.jop_base.specs.declared.path.Path.TheVariants.{Info as InfoFile, OldVersion}
@@ -16,7 +18,7 @@ use Rattle.jop_target.specs.declared.call.Call.TheVariants.{Get, Put, Delete, Ma
 use Rattle.lease.specs.declared.lease.Lease.{Lease}
 use Rattle.law_licences.specs.Deeds.{Deed}
 use Rattle.law_licences.specs.Infos.{info_read}
-use Rattle.law_licences.specs.Puts.{has_put}
+use Rattle.law_licences.specs.Puts.{has_put, seals_by}
 use Rattle.law_licences.specs.Trails.{session_calls}
 use Rattle.law_licences.specs.Views.{Heard, Shown, Stage, View}
 use Rattle.keeper.specs.Keepers.{Kept}
@@ -40,13 +42,14 @@ use Rattle.sync_info.proofs.MergeLemmas.{merged-right}
 use Rattle.sync_info.specs.Merge.{merged}
 use Rattle.sync_info.specs.declared.info.Info.{Info}
 use Rattle.target_upgrade.specs.Steps.{SUPPORTED}
-use Rattle.upload.proofs.Left.{same_blobs}
+use Rattle.sync_session.proofs.SameBlobs.{same_blobs}
 use Rattle.upload.specs.Conditions.{AreUnput, IsReadable}
 use Rattle.upload.specs.Uploading.{UploadsOne, blobs_of, pending_ids}
 use Rattle.session.proofs.Wider.{IsWithin, does_within, went_within}
 use Rattle.sync_session.proofs.Settled.{agree_begun}
 use Rattle.sync_session.specs.Errors.{of_step}
 use Rattle.sync_session.specs.Keys.{RefusesKeys, has_waiting, needs_key}
+use Rattle.sync_session.specs.Ordering.{GivesDue}
 use Rattle.sync_session.specs.declared.sync_err.SyncErr.{SyncErr}
 use Rattle.sync_session.specs.declared.sync_err.SyncErr.TheVariants.{Busy, LeaseLost, Refused}
 use Rattle.sync_session.specs.declared.sync_err.SyncErr.TheVariants as sync_errors
@@ -237,6 +240,36 @@ merges_behind a b c h went =
     (went_within is_exchange is_sync b c exchange_within went) h.merges
     (merges_none is_exchange b c (λ content. refl) went)
 
+-- ---- behind what looks like an emptied target
+
+-- an opening lists nothing
+pub heeds_unopened : (Given : Refusal → Type 0) (a b : WorkNow) (e : StepErr)
+    → RefusesOr RefusesTarget is_opening a e b → HeedsBetween Given a.site b.site
+heeds_unopened Given a b e h =
+    heeds_still Given is_opening a b refl (went_refused RefusesTarget is_opening a b e h)
+
+pub heeds_keyless : (Given : Refusal → Type 0) (a b : WorkNow) → Does Opens is_opening a b
+    → HeedsBetween Given a.site b.site
+heeds_keyless Given a b h = heeds_still Given is_opening a b refl h.went
+
+pub heeds_opened : (Given : Refusal → Type 0) (a b c : WorkNow) → Does Opens is_opening a b
+    → Went is_exchange b c → HeedsBetween Given b.site c.site → HeedsBetween Given a.site c.site
+heeds_opened Given a b c h went later =
+    heeds_behind Given Opens is_sync is_opening a b c refl h
+    (does_within is_opening is_sync a b opening_within h)
+    (went_within is_exchange is_sync b c exchange_within went) later
+
+-- an error of a step
+pub between_step : (old new : SiteNow) (e : StepErr)
+    → HeedsBetween (RefusesStep {R = Unit {0}} (Err e)) old new
+    → HeedsBetween (GivesDue {R = Unit {0}} (Err (of_step e))) old new
+between_step old new e h =
+    between_also (RefusesStep {R = Unit {0}} (Err e)) (GivesDue {R = Unit {0}} (Err (of_step e))) old
+    new (λ why gives. elim gives [
+      | inl refused ↦ inl (ap of_step refused)
+      | inr starved ↦ inr (ap of_step starved)
+    ]) h
+
 -- ---- what it asks for
 
 none_if : (r : Row) (rs ws : List Row) (waits : Bool) → r.pending ≡ waits
@@ -268,15 +301,26 @@ merged_again d remote m told =
     ∙ (ap (λ (i : Info). merged i m.remote) m.is ∙ (merged-right m.own m.remote m.valid ∙ sym m.is))
 
 -- nothing is to be sealed, or nothing waits
+neither : (a b : Bool) → a ≡ false → b ≡ false → (a || b) ≡ false
+neither false false first second = refl
+neither false true first second = cc
+neither true b first second = cc
+
+-- where the client's own info is the merge, and asks for no sealed files, none does
+plain_merged : (d : SiteNow) → IsMergedIn d.tables (session_calls d.line.trail)
+    → d.tables.info.e2ee.value ≡ false
+    → (read : Option Info) → info_read (session_calls d.line.trail) ≡ read
+    → seals_by d.tables.info read ≡ false
+plain_merged d m is None told = is
+plain_merged d m is (Some remote) told =
+    neither d.tables.info.e2ee.value (merged d.tables.info remote).e2ee.value is
+    (ap (λ (i : Info). i.e2ee.value) (merged_again d remote m told) ∙ is)
+
 pub can_put : (d : SiteNow) → IsMergedIn d.tables (session_calls d.line.trail)
     → needs_key d.tables ≡ false → IsReadable d
 can_put d m none = by d.tables.info.e2ee.value refl where
   by : (seals : Bool) → d.tables.info.e2ee.value ≡ seals → IsReadable d
-  by false is = inl (record {
-    own = is;
-    merge = λ remote told.
-        ap (λ (i : Info). i.e2ee.value) (merged_again d remote m told) ∙ is;
-  })
+  by false is = inl (plain_merged d m is (info_read (session_calls d.line.trail)) refl)
   by true is =
       let rest : has_waiting d.tables.rows ≡ false = none_behind _ _ is none in
       inr (ap (map row_id) (none_waiting d.tables.rows rest))

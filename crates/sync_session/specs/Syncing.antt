@@ -2,6 +2,7 @@
 use Rattle.std.specs.Prelude.{ℕ, ◌≡◌, List, [], ◌∷◌, ◌++◌, Bool, true, false, Option, Some, None, Result, Ok, Err}
 use Rattle.conflicts.specs.Reports.{new_report}
 use Rattle.conflicts.specs.declared.report.SyncReport.{SyncReport}
+use Rattle.download.specs.Emptied.{HeedsEmptied}
 use Rattle.client.specs.Sites.{SiteNow, IsSameSite, IsTidy, written_down}
 use Rattle.jop_outside.specs.Outside.{HasRisen}
 use Rattle.jop_base.specs.declared.lock_name.LockKind.TheVariants.{Sync}
@@ -27,6 +28,7 @@ use Rattle.law_kept.specs.Trails.{KeepsNotes}
 use Rattle.law_licences.specs.Deeds.{deeds_of}
 use Rattle.law_licences.specs.Licences.{MergesInfo, ObeysData}
 use Rattle.law_licences.specs.Trails.{session_calls}
+use Rattle.law_licences.specs.Sealing.{no_keys}
 use Rattle.law_licences.specs.Views.{View, Working, at_rest}
 use Rattle.keeper.specs.Keepers.{KeeperNow}
 use Rattle.local_store.specs.declared.change.Change.{Change}
@@ -38,6 +40,7 @@ use Rattle.target_upgrade.specs.Course.{KeepsVersions, course_of}
 use Rattle.sync_run.specs.Sessions.{GoesBy, HasBegun}
 use Rattle.sync_session.specs.Keys.{sealed_rows}
 use Rattle.sync_session.specs.Leaving.{LeavesLease}
+use Rattle.sync_session.specs.Ordering.{GivesDue}
 use Rattle.sync_session.specs.Telling.{Tells, TellsWork}
 use Rattle.sync_session.specs.Working.{SyncWorks, is_sync}
 use Rattle.sync_session.specs.declared.sync_err.SyncErr.{SyncErr}
@@ -106,7 +109,13 @@ pub record HasBegunSync (client : List ℕ) (d : SiteNow) : Type 0 where
 
 -- what is seen of a client with these tables, whose session has begun
 abbrev pub begun_view : Tables → View
-begun_view t = record { tables = t; calls = []; shown = None; stage = Working }
+begun_view t = record {
+  tables = t;
+  calls = [];
+  shown = None;
+  stage = Working;
+  sealing = no_keys;
+}
 
 -- a session has gone on by work of a sync, by changes and by its lease's calls, and has done under
 -- its lease what is allowed
@@ -123,14 +132,14 @@ pub record EndsWork (lease : Lease) (old : SiteNow) (report : SyncReport)
   pub leaves : LeavesLease late.lease worked late.site result new
   pub reported : late.report ≡ after
   pub goes : SyncGoesOn lease.client old.line new.line
-  pub tells : TellsWork (view_of None old) old new
+  pub tells : TellsWork (GivesDue result) (view_of None old) old new
 
 -- a session that had begun took its lease, synced under it and gave it up
 pub record RunsSync (client : List ℕ) (old : SiteNow) (result : Result SyncReport SyncErr)
     (new : SiteNow) : Type 0 where
   pub released : IsSyncReleased client old result new
   pub goes : SyncGoesOn client old.line new.line
-  pub tells : TellsWork (begun_view old.tables) old new
+  pub tells : TellsWork (GivesDue result) (begun_view old.tables) old new
 
 -- ---- the session
 
@@ -153,7 +162,7 @@ ended_at d = written_down Ended d
 -- One session was added, of work of a sync, of changes, and of its lease's calls; it has ended.
 pub record IsWholeSync (client : List ℕ) (old : SiteNow) (result : Result SyncReport SyncErr)
     (new : SiteNow) : Type 0 where
-  pub tells : Tells (at_rest old.tables) old new
+  pub tells : Tells (GivesDue result) (at_rest no_keys old.tables) old new
   pub whole : AddsWhole (IsStep is_sync client) client old.line.trail new.line.trail
   pub versions : KeepsVersions client (Began ∷ (whole.middle ++ Ended ∷ []))
   pub last : SiteNow
@@ -163,7 +172,7 @@ pub record IsWholeSync (client : List ℕ) (old : SiteNow) (result : Result Sync
 -- Out of memory nothing was added, or such a session that hasn't ended. No call of it was answered
 -- `Failed`: a failed call is never told as want of memory.
 pub record IsOpenSync (client : List ℕ) (old new : SiteNow) : Type 0 where
-  pub tells : Tells (at_rest old.tables) old new
+  pub tells : Tells (GivesDue {R = SyncReport} (Err NoMemory)) (at_rest no_keys old.tables) old new
   pub begun : AddsBegun (IsStep is_sync client) client old.line.trail new.line.trail
   pub versions : KeepsVersions client begun.more
   pub heard : has_failed begun.more ≡ false
@@ -193,8 +202,17 @@ abbrev pub LicensedFrom : Tables → List Event → List Event → List Change �
 LicensedFrom t old new made changed =
     (added : List Event) (changes : List Change)
     → new ≡ old ++ added → changed ≡ made ++ changes
-    → ObeysData (at_rest t) (deeds_of added changes)
-    × MergesInfo (at_rest t) (deeds_of added changes)
+    → ObeysData (at_rest no_keys t) (deeds_of added changes)
+    × MergesInfo (at_rest no_keys t) (deeds_of added changes)
+
+-- Behind what looks like an emptied target, seen from these tables on, nothing was done but about
+-- locks, and it is refused for it, unless memory ran out.
+abbrev pub HeedsFrom : {R : Type 0} → Tables → Result R SyncErr → List Event → List Event →
+    List Change → List Change → Type 0
+HeedsFrom t result old new made changed =
+    (added : List Event) (changes : List Change)
+    → new ≡ old ++ added → changed ≡ made ++ changes
+    → HeedsEmptied (GivesDue result) (at_rest no_keys t) (deeds_of added changes)
 
 -- Then no saved note is lost, in whatever history this is the client's last run, if no other
 -- upload of the note falls between a check and its write, and the other clients have their

@@ -28,6 +28,10 @@ use Rattle.sync_session.specs.declared.sync_err.SyncErr.TheVariants.{Busy, Lease
 abbrev pub is_exchange : Call → Bool
 is_exchange call = is_upload call || (is_deletion call || is_download call)
 
+-- so far it lists nothing
+abbrev pub is_sending : Call → Bool
+is_sending call = is_upload call || is_deletion call
+
 abbrev pub is_sync : Call → Bool
 is_sync call = is_opening call || is_exchange call
 

@@ -1,7 +1,8 @@
 ghost use Rattle.std.specs.Prelude.{OnOk};
+ghost use Rattle.download.specs.Emptied.{HeedsBetween, RefusesStep};
 ghost use Rattle.session.specs.Doing.{Ends};
 ghost use Rattle.upload.specs.Conditions.{CanUpload};
-ghost use Rattle.sync_session.specs.Working.{ExchangesOr, LeavesNothing, Sends, is_exchange};
+ghost use Rattle.sync_session.specs.Working.{ExchangesOr, LeavesNothing, Sends, is_sending};
 
 use conflicts::StepErr;
 use download::apply_listed;
@@ -13,7 +14,7 @@ use upload::{delete_listed, upload_waiting};
 fn send<W: Session>(alloc: Global, s: &mut W) -> Result<(), StepErr>
     requires can { CanUpload (W.now s.old) }
 
-    ensures ends { Ends (Sends (W.now s.old).site.keeper.kept) is_exchange (W.now s.old) result
+    ensures ends { Ends (Sends (W.now s.old).site.keeper.kept) is_sending (W.now s.old) result
         (W.now s.new) }
     ensures nothing { OnOk result (LeavesNothing (W.now s.new).site) }
 {
@@ -26,6 +27,7 @@ pub(crate) fn exchange<W: Session>(alloc: Global, s: &mut W) -> Result<(), StepE
     requires can { CanUpload (W.now s.old) }
 
     ensures ends { ExchangesOr (W.now s.old) result (W.now s.new) }
+    ensures emptied { HeedsBetween (RefusesStep result) (W.now s.old).site (W.now s.new).site }
 {
     send(alloc, s)?;
     apply_listed(alloc, s)

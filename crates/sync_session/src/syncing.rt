@@ -2,10 +2,11 @@ ghost use Rattle.std.specs.Prelude.{◌≡◌, false};
 ghost use Rattle.client.specs.Sites.{IsTidy};
 ghost use Rattle.jop_base.specs.declared.lock_name.LockKind.{LockKind};
 ghost use Rattle.sync_run.specs.Leases.{KeepsLeaseFrom};
-ghost use Rattle.sync_session.specs.Ordering.{AddsInOrder, RunsInOrder};
-ghost use Rattle.sync_session.specs.Syncing.{AddsFrom, EndsWork, GoesBySync, HasBegunSync, KeepsNotesIn, LicensedFrom};
+ghost use Rattle.sync_session.specs.Ordering.{AddsByKey, AddsInOrder, RunsByKey, RunsInOrder};
+ghost use Rattle.sync_session.specs.Syncing.{AddsFrom, EndsWork, GoesBySync, HasBegunSync, HeedsFrom, KeepsNotesIn, LicensedFrom};
 ghost use Rattle.sync_session.specs.Syncing.{LineGoesBySync, RunsSync, blocked_by, sited};
 ghost use Rattle.sync_session.specs.Working.{StartsSync};
+ghost use Rattle.law_licences.specs.Sealing.{no_keys};
 
 use crate::keys::sealed_rows;
 use crate::leaving::leave;
@@ -64,6 +65,16 @@ pub fn sync_on<T: Target, K: Keeper>(
     // but what the lease does by itself, and that is what is answered, unless memory runs out.
     ensures order { AddsInOrder diary.old.events result diary.new.events }
 
+    // Once its calls say that the target has the merge of its info and the client's own, while something waits that is
+    // to be sealed by that, nothing more is called but what the lease does by itself, and `NoKey` is answered, unless
+    // memory runs out, or the keeper fails where the client's own info is to become the merge.
+    ensures key { AddsByKey tables.old diary.old.events result diary.new.events }
+
+    // Once the root's listing shows no item, while some of these tables, as they are then, have a base, nothing more is
+    // done but what the lease does by itself, and `FailSafe` is answered, unless memory runs out.
+    ensures emptied { HeedsFrom tables.old result diary.old.events diary.new.events made.old.changes
+        made.new.changes }
+
     // Each call and each change has its licence, from these tables on.
     ensures licensed { LicensedFrom tables.old diary.old.events diary.new.events made.old.changes
         made.new.changes }
@@ -99,6 +110,8 @@ fn make_session<S: Client>(
     ensures session { AddsFrom client.now (S.site site.old) result (S.site site.new) }
     ensures line { LineGoesBySync client.now (S.site site.old).line (S.site site.new).line }
     ensures order { AddsInOrder (S.site site.old).line.trail result (S.site site.new).line.trail }
+    ensures key { AddsByKey (S.site site.old).tables (S.site site.old).line.trail result
+        (S.site site.new).line.trail }
     ensures stays { S.place site.new ≡ S.place site.old }
 {
     site.begin()?;
@@ -118,6 +131,7 @@ fn take_and_sync<S: Client>(
     requires begun { HasBegunSync client.now (S.site site.old) }
     ensures runs { RunsSync client.now (S.site site.old) result (S.site site.new) }
     ensures order { RunsInOrder result (S.site site.new) }
+    ensures key { RunsByKey (S.site site.old).tables result (S.site site.new) }
     ensures stays { S.place site.new ≡ S.place site.old }
 {
     let lease = acquire(alloc, site, LockKind::Sync, client)?;
@@ -137,6 +151,7 @@ fn sync_held<S: Client>(
     requires starts { StartsSync (S.site site.old) lease }
     ensures ends { EndsWork lease (S.site site.old) report.old result (S.site site.new) report.new }
     ensures order { RunsInOrder result (S.site site.new) }
+    ensures key { RunsByKey (S.site site.old).tables result (S.site site.new) }
     ensures stays { S.place site.new ≡ S.place site.old }
 {
     let worked = {

@@ -1,5 +1,6 @@
+ghost use Rattle.download.specs.Emptied.{HeedsBetween};
 ghost use Rattle.session_opening.specs.Opening.{IsLawful, MergesBetween};
-ghost use Rattle.sync_session.specs.Ordering.{RunsInOrder};
+ghost use Rattle.sync_session.specs.Ordering.{GivesDue, RunsByKey, RunsInOrder};
 ghost use Rattle.sync_session.specs.Working.{StartsSync, SyncWorks};
 
 use crate::exchanging::exchange;
@@ -16,6 +17,9 @@ pub(crate) fn work<W: Session>(alloc: Global, s: &mut W) -> Result<(), SyncErr>
     ensures ends { SyncWorks (W.now s.old) result (W.now s.new) }
     // Nothing is called that isn't due, and the refusal that is due is given.
     ensures order { RunsInOrder result (W.now s.new).site }
+    ensures key { RunsByKey (W.now s.old).site.tables result (W.now s.new).site }
+    // Behind what looks like an emptied target nothing is done, and its refusal is given.
+    ensures emptied { HeedsBetween (GivesDue result) (W.now s.old).site (W.now s.new).site }
     ensures merges { MergesBetween (W.now s.old).site (W.now s.new).site }
     ensures lawful { IsLawful (W.now s.new).lease (W.now s.new).site }
 {

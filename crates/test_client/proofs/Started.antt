@@ -1,6 +1,6 @@
 -- What stands when a session has begun, and once it holds its lease.
-use Rattle.std.specs.Prelude.{ℕ, ◌≡◌, List, [], ◌∷◌, ◌++◌, false, None, Some}
-use Rattle.std.proofs.Common.{ap, sym, ◌∙◌}
+use Rattle.std.specs.Prelude.{ℕ, ◌≡◌, List, [], ◌∷◌, ◌++◌, false}
+use Rattle.std.proofs.Common.{ap, ◌∙◌}
 use Rattle.client.specs.Sites.{SiteNow}
 use Rattle.jop_target.specs.declared.event.Event.{Event}
 use Rattle.jop_target.specs.declared.event.Event.TheVariants.{Began}
@@ -11,11 +11,11 @@ use Rattle.lease.specs.Phase.{Free}
 use Rattle.lease.specs.Standing.{StandsIn}
 use Rattle.law_licences.proofs.Told.{calls_from-append}
 use Rattle.law_licences.specs.Infos.{info_read}
-use Rattle.law_licences.specs.Puts.{has_put}
+use Rattle.law_licences.specs.Puts.{has_put, seals_by}
 use Rattle.law_licences.specs.Trails.{calls_from, session_calls}
+use Rattle.law_licences.specs.Views.{Heard}
 use Rattle.session.proofs.Asked.{calls_locks}
 use Rattle.upload.specs.Conditions.{AreUnput, IsPlain}
-use Rattle.sync_info.specs.declared.info.Info.{Info}
 use Rattle.test_client.specs.Begun.{EndsAtBeginning}
 
 session_begun : (client : List ℕ) (trail : List Event) → (h : EndsAtBeginning trail)
@@ -36,19 +36,14 @@ calls_begun : (trail : List Event) → EndsAtBeginning trail → session_calls t
 unfolding calls_from
 calls_begun trail h = ap session_calls h.is ∙ calls_from-append [] h.before (Began ∷ [])
 
-none_read : (info : Info) → None ≡ Some info → ⊥
-none_read info e = cc
-
 -- no info was read yet
 pub plain_begun : (client : List ℕ) (old new : SiteNow) → EndsAtBeginning old.line.trail
     → LeaseGoesOn client old.line new.line → new.tables.info.e2ee.value ≡ false → IsPlain new
 unfolding info_read
-plain_begun client old new h goes plain = record {
-  own = plain;
-  merge = λ remote told. absurd (none_read remote
-      (sym (ap info_read (calls_locks client old new.line goes ∙ calls_begun old.line.trail h))
-      ∙ told));
-}
+plain_begun client old new h goes plain =
+    ap (λ (calls : List Heard). seals_by new.tables.info (info_read calls))
+    (calls_locks client old new.line goes ∙ calls_begun old.line.trail h)
+    ∙ plain
 
 -- nothing was put yet
 pub unput_begun : (client : List ℕ) (old new : SiteNow) → EndsAtBeginning old.line.trail

@@ -76,6 +76,51 @@ fn takes_it_alone(alloc: Global) -> Result<bool, BrokenOff> {
     takes(alloc, &mut target, None)
 }
 
+/// A client that has a resource of its own with these bytes, which waits.
+fn client_with(alloc: Global, bytes: &str) -> Result<Client, BrokenOff> {
+    let mut client = Client::after(alloc, OWN, &[Step::Save(R, RESOURCE)])?;
+    client.attach(alloc, R, bytes)?;
+    Ok(client)
+}
+
+/// Whether its resource gives way to the one that is on the target, with that one's bytes.
+fn gives_way(alloc: Global) -> Result<bool, BrokenOff> {
+    let mut target = target_with(alloc, "hello")?;
+    let mut client = client_with(alloc, "other")?;
+    gives_way_to(alloc, &mut client, &mut target, Some("hello"))
+}
+
+/// Whether it does so and keeps its own bytes, where there are none on the target.
+fn keeps_its_own(alloc: Global) -> Result<bool, BrokenOff> {
+    let mut target = target_of(alloc, &[(R, RESOURCE)])?;
+    let mut client = client_with(alloc, "other")?;
+    gives_way_to(alloc, &mut client, &mut target, Some("other"))
+}
+
+fn gives_way_to(
+    alloc: Global,
+    client: &mut Client,
+    target: &mut MemTarget,
+    bytes: Option<&str>,
+) -> Result<bool, BrokenOff> {
+    let report = client.sync(alloc, target, Part::Upload)?;
+    Ok(counts(&report) == [0, 0, 0, 0, 0, 0] && has(alloc, client, bytes)?)
+}
+
+#[test]
+fn a_resource_gives_way_with_its_bytes(rt: HostRuntime) -> Result<(), Fail> {
+    assert!(rt; gives_way(rt.alloc())?);
+    Ok(())
+}
+
+#[test]
+fn a_resource_that_gives_way_keeps_its_bytes_where_there_are_no_others(
+    rt: HostRuntime,
+) -> Result<(), Fail> {
+    assert!(rt; keeps_its_own(rt.alloc())?);
+    Ok(())
+}
+
 #[test]
 fn bytes_come_with_their_resource(rt: HostRuntime) -> Result<(), Fail> {
     assert!(rt; takes_bytes(rt.alloc())?);

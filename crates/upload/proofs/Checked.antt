@@ -7,6 +7,7 @@ use Rattle.jop_target.specs.declared.call.Call.TheVariants.{Get}
 use Rattle.jop_target.specs.declared.reply.Reply.{Reply}
 use Rattle.jop_target.specs.declared.reply.Reply.TheVariants.{Listed, Got, GotBlob, Absent, Done, Failed, TooLarge}
 use Rattle.law_licences.specs.Items.{remote_in}
+use Rattle.law_licences.specs.Sealing.{no_keys}
 use Rattle.local_store.specs.declared.content.Content.{Content}
 use Rattle.session.specs.Findings.{finding_of, is_base, other_of}
 use Rattle.session.specs.declared.finding.Finding.{Finding}
@@ -29,7 +30,7 @@ bad_is : (id : List ℕ) (base : Option (List ℕ)) (reply : Reply)
     → IsBad (finding_of id base reply) → IsNoItem id reply
 unfolding IsBad
 bad_is id base (Got now bytes) shape heard h =
-    bad_got (remote_in id bytes) (is_base base bytes) h
+    bad_got (remote_in no_keys id bytes) (is_base base bytes) h
 bad_is id None (Absent now) shape heard h = absurd h
 bad_is id (Some base) (Absent now) shape heard h = absurd h
 bad_is id base (TooLarge len) shape heard h = tt

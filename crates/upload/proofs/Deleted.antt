@@ -14,6 +14,7 @@ use Rattle.jop_target.specs.declared.reply.Reply.TheVariants.{Listed, Got, GotBl
 use Rattle.law_licences.proofs.Joins.{view_from-append}
 use Rattle.law_licences.specs.Deeds.{Deed}
 use Rattle.law_licences.specs.Deletions.{IsDeleted, MayDrop, WasDeleted}
+use Rattle.law_licences.specs.Sealing.{no_keys}
 use Rattle.law_licences.specs.Views.{Heard, Shown, View, Working, is_about_locks, view_from}
 use Rattle.local_store.specs.Rows.{deletion_id}
 use Rattle.local_store.specs.Tables.{deletion_at}
@@ -152,7 +153,13 @@ pub may_drop : (d : Deletion) (a b w : WorkNow) → deletion_at a.site.tables d.
 may_drop d a b w at h k shown =
     let may = behind
     (λ t cs u us. deletion_at t d.id ≡ Some d
-    → MayDrop (record { tables = u; calls = us; shown = shown; stage = Working }) d.id)
+    → MayDrop (record {
+      tables = u;
+      calls = us;
+      shown = shown;
+      stage = Working;
+      sealing = no_keys;
+    }) d.id)
     (Then (DeletesFile (Item d.id)) (DeletesBytes d d.resource)) is_deletion a w
     (λ v ds it was.
     let m = both_gone d v ds was it in

@@ -1,5 +1,5 @@
 -- What is left of an upload: each row that waits is still to be looked at, or its file can't be read.
-use Rattle.std.specs.Prelude.{ℕ, ◌<◌, ◌≡◌, ◌⊎◌, List, [], ◌∷◌, length, map, filter, Bool, true, false, ◌&&◌, bytes_eq, is_none, if◌then◌else◌, Option, Some, None, option_map, Result, refl}
+use Rattle.std.specs.Prelude.{ℕ, ◌<◌, ◌≡◌, ◌⊎◌, List, [], ◌∷◌, length, map, filter, Bool, true, false, ◌&&◌, bytes_eq, is_none, if◌then◌else◌, Option, Some, None, Result, refl}
 use Rattle.std.proofs.Common.{sym, ap, subst, ◌∙◌, arith, inl, inr}
 use Rattle.std.proofs.lemmas.Bool.{or_cases, or_left, or_right}
 use Rattle.conflicts.specs.declared.error.StepErr.{StepErr}
@@ -9,23 +9,18 @@ use Rattle.jop_base.proofs.KeyedLaws.{bytes_eq-refl, same_text}
 use Rattle.jop_base.specs.Keyed.{IsSorted, at}
 use Rattle.jop_target.specs.declared.call.Call.{Call}
 use Rattle.law_licences.specs.Checks.{is_pending}
-use Rattle.law_licences.specs.Deeds.{Deed, changes_in}
+use Rattle.law_licences.specs.Deeds.{Deed}
 use Rattle.law_licences.specs.Puts.{has_put}
 use Rattle.law_licences.specs.Trails.{session_calls}
 use Rattle.law_licences.specs.Views.{Shown, View, view_from}
-use Rattle.keeper.specs.Keepers.{Kept}
 use Rattle.local_store.specs.Rows.{row_id}
 use Rattle.local_store.specs.Tables.{row_at}
 use Rattle.keeper.specs.declared.blob.Blob.{Blob}
-use Rattle.local_store.specs.declared.change.Change.{Change}
 use Rattle.local_store.specs.declared.row.Row.{Row}
-use Rattle.local_store.specs.declared.tables.Tables.{Tables}
 use Rattle.session.proofs.Ending.{ends_as}
 use Rattle.session.proofs.Joins.{view_at}
-use Rattle.session.proofs.Saves.{GetsNone, saves_none}
 use Rattle.session.proofs.Seen.{view_from-but_locks}
 use Rattle.session.specs.Doing.{Does, Ends}
-use Rattle.session.specs.Saving.{kept_after_saves, saved_all}
 use Rattle.session.specs.Parts.{ForEach, Part, but_locks}
 use Rattle.session.specs.Work.{WorkNow, view_of}
 use Rattle.upload.proofs.Tending.{IsTended, tended_one}
@@ -52,23 +47,6 @@ sees P sort a b h =
       is = view_from-but_locks v h.went.deeds
           ∙ view_at sort a b h.went h.told None (h.stands None);
     }
-
--- what was kept of resources is kept
-blobs_changed : (kept : Option Kept) (changes : List Change)
-    → blobs_of (option_map (kept_after_saves changes []) kept) ≡ blobs_of kept
-unfolding saved_all
-blobs_changed None changes = refl
-blobs_changed (Some k) changes = refl
-
-pub same_blobs : (P : Part) (sort : Call → Bool) (a b : WorkNow) → GetsNone sort
-    → Does P sort a b → blobs_of b.site.keeper.kept ≡ blobs_of a.site.keeper.kept
-same_blobs P sort a b nothing h =
-    let changes = changes_in h.went.deeds in
-    let none = saves_none sort a b h.went nothing in
-    ap blobs_of h.went.kept
-    ∙ (ap (λ (bs : List Blob). blobs_of (option_map (kept_after_saves changes bs) a.site.keeper.kept))
-    none
-    ∙ blobs_changed a.site.keeper.kept changes)
 
 -- ---- one row
 

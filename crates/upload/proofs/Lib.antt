@@ -2,6 +2,7 @@ pub mod Checked
 pub mod Loaded
 pub mod Waiting
 pub mod Tending
+pub mod Bytes
 pub mod Left
 pub mod Folders
 pub mod Licensed

@@ -18,7 +18,8 @@ use Rattle.law_licences.specs.Checks.{last_on}
 use Rattle.law_licences.specs.Deeds.{Deed}
 use Rattle.law_licences.specs.Infos.{info_read}
 use Rattle.law_licences.specs.Items.{is_resource}
-use Rattle.law_licences.specs.Puts.{MayPut, MayPutBlob, MayUpload, has_put}
+use Rattle.law_licences.specs.Puts.{IsTextFor, MayPut, MayPutBlob, MayUpload, has_put, seals_by}
+use Rattle.law_licences.specs.Sealing.{no_keys}
 use Rattle.law_licences.specs.Trails.{session_calls}
 use Rattle.law_licences.specs.Views.{Heard, Shown, View, view_from}
 use Rattle.local_store.specs.Rows.{item_of, row_id}
@@ -30,7 +31,7 @@ use Rattle.local_store.specs.declared.row.Row.{Row}
 use Rattle.local_store.specs.declared.tables.Tables.{Tables}
 use Rattle.session.proofs.Behind.{behind, found_behind}
 use Rattle.session.proofs.Ending.{does_nothing}
-use Rattle.session.proofs.Found.{base_found}
+use Rattle.session.proofs.Found.{base_found, other_found}
 use Rattle.session.specs.Asking.{IsAnswer}
 use Rattle.session.specs.Doing.{Does, Ends}
 use Rattle.session.specs.Findings.{finding_of}
@@ -38,12 +39,11 @@ use Rattle.session.specs.Parts.{Hears}
 use Rattle.session.specs.Sessions.{FindsFile}
 use Rattle.session.specs.Work.{IsReady, WorkNow, view_of}
 use Rattle.session.specs.declared.finding.Finding.{Finding}
-use Rattle.session.specs.declared.finding.Finding.TheVariants.{Same}
+use Rattle.session.specs.declared.finding.Finding.TheVariants.{Other, Same}
 use Rattle.keeper.specs.declared.blob.Blob.{Blob}
-use Rattle.sync_info.specs.Merge.{merged}
 use Rattle.sync_info.specs.declared.info.Info.{Info}
 use Rattle.upload.specs.Conditions.{IsPlain}
-use Rattle.upload.specs.Found.{IsFoundForRow}
+use Rattle.upload.specs.Found.{IsFoundForRow, MayYield}
 use Rattle.upload.specs.Uploading.{PutsIfNew, PutsKept, PutsText, is_new_resource, is_upload}
 
 -- ---- what was read
@@ -52,11 +52,9 @@ use Rattle.upload.specs.Uploading.{PutsIfNew, PutsKept, PutsText, is_new_resourc
 pub plain_as : (a b : SiteNow) → b.tables.info ≡ a.tables.info
     → info_read (session_calls b.line.trail) ≡ info_read (session_calls a.line.trail)
     → IsPlain a → IsPlain b
-plain_as a b info read h = record {
-  own = ap (λ (i : Info). i.e2ee.value) info ∙ h.own;
-  merge = λ remote told.
-      ap (λ (i : Info). (merged i remote).e2ee.value) info ∙ h.merge remote (sym read ∙ told);
-}
+plain_as a b info read h =
+    ap (λ (i : Info). seals_by i (info_read (session_calls b.line.trail))) info
+    ∙ (ap (seals_by a.tables.info) read ∙ h)
 
 -- ---- what was found
 
@@ -70,6 +68,22 @@ still_found row finding a b tables last h = record {
   at = ap (λ (t : Tables). row_at t row.id) tables ∙ h.at;
   pending = h.pending;
   last = last ∙ h.last;
+}
+
+-- the row may give way to another file
+pub may_yield : (row : Row) (remote : List ℕ × Content) (d : SiteNow)
+    → IsFoundForRow row (Other remote) d → IsContentOf row.id remote.1
+    → MayYield row (Some remote) d
+may_yield row remote d h sound = record {
+  sound = sound;
+  may = λ shown. record {
+    row = row;
+    reply = h.reply;
+    pending = record { at = h.at; pending = h.pending };
+    check = h.last;
+    other = other_found row.id row.base h.reply remote h.found;
+    copied = refl;
+  };
 }
 
 -- a row that waits, of which the file was found
@@ -157,7 +171,8 @@ may_put row d text shown h readable is = record {
   pending = record { at = h.at; pending = h.pending };
   check = h.last;
   same = base_found row.id row.base h.reply h.found;
-  text = record { readable = readable; text = is };
+  text = subst (λ (seals : Bool). IsTextFor seals no_keys (item_of row.content) text)
+      (sym readable) is;
 }
 
 last_here : (id : List ℕ) (h : Heard) (calls : List Heard) (on : Bool) → on ≡ true

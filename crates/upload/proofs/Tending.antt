@@ -6,7 +6,7 @@ use Rattle.item_text.specs.Grammar.{written}
 use Rattle.jop_base.proofs.KeyedLaws.{key-at}
 use Rattle.jop_base.specs.Keyed.{IsSorted}
 use Rattle.jop_base.specs.declared.path.Path.TheVariants.{Item}
-use Rattle.jop_target.specs.declared.call.Call.TheVariants.{Get, Put, PutBlob}
+use Rattle.jop_target.specs.declared.call.Call.TheVariants.{Get, GetBlob, Put, PutBlob}
 use Rattle.jop_target.specs.declared.reply.Reply.{Reply}
 use Rattle.jop_target.specs.declared.reply.Reply.TheVariants.{Done}
 use Rattle.law_licences.proofs.Joins.{view_from-append}
@@ -14,7 +14,7 @@ use Rattle.law_licences.specs.Checks.{is_pending}
 use Rattle.law_licences.specs.Copies.{copies_for}
 use Rattle.law_licences.specs.Deeds.{Deed, Asks}
 use Rattle.law_licences.specs.Infos.{info_read}
-use Rattle.law_licences.specs.Items.{is_folder, is_note_in}
+use Rattle.law_licences.specs.Items.{is_folder, is_note_in, is_resource}
 use Rattle.law_licences.specs.Puts.{has_put}
 use Rattle.law_licences.specs.Views.{View, view_from}
 use Rattle.local_store.specs.Rows.{item_of, row_id}
@@ -25,13 +25,14 @@ use Rattle.local_store.specs.declared.content.Content.{Content}
 use Rattle.local_store.specs.declared.row.Row.{Row}
 use Rattle.session.specs.Findings.{finding_of, waiting}
 use Rattle.session.specs.Parts.{Changes, ForEach, Hears, Nothing, Part, Then}
+use Rattle.session.specs.Sessions.{GetsBytes, GetsBytesOf}
 use Rattle.session.specs.declared.finding.Finding.{Finding}
 use Rattle.session.specs.declared.finding.Finding.TheVariants.{Same, Other, Missing, Unreadable}
 use Rattle.upload.proofs.Checked.{no_item}
 use Rattle.upload.proofs.Waiting.{Keeps, conflict_still, keeps_conflict, keeps_moved, keeps_on, keeps_same, keeps_uploaded, uploaded_still}
 use Rattle.upload.specs.Settled.{IsNoItem, WasUnreadable}
 use Rattle.session.specs.Asking.{IsAnswer}
-use Rattle.upload.specs.Uploading.{Clears, ClearsIf, Puts, PutsIfNew, PutsKept, PutsText, PutsThese, Settles, UploadsFound, UploadsOne, UploadsRow, Yields, blob_bytes, is_new_resource}
+use Rattle.upload.specs.Uploading.{Clears, ClearsIf, Puts, PutsIfNew, PutsKept, PutsText, PutsThese, Settles, UploadsFound, UploadsOne, UploadsRow, Yields, YieldsTo, blob_bytes, is_new_resource}
 
 -- Rows that wait are kept, items of other ids aren't put, what was heard isn't forgotten, and no other info is read.
 pub record Tends (id : List ℕ) (v w : View) : Type 0 where
@@ -125,6 +126,16 @@ tends_put id content reply v ds ordered h =
     subst (λ (x : List Deed). Tends id v (view_from v x)) (sym h) (record {
       keeps = keeps_same v.tables ordered;
       puts = λ another apart. ap (λ (b : Bool). b || has_put another v.calls) apart;
+      heard = λ another was. inr was;
+      read = refl;
+    })
+
+tends_got : (id other : List ℕ) (reply : Reply) → IsTending id (Hears (GetBlob other) reply)
+unfolding IsTending view_from has_put WasUnreadable info_read
+tends_got id other reply v ds ordered h =
+    subst (λ (x : List Deed). Tends id v (view_from v x)) (sym h) (record {
+      keeps = keeps_same v.tables ordered;
+      puts = λ another apart. refl;
       heard = λ another was. inr was;
       read = refl;
     })
@@ -244,6 +255,34 @@ settles_goes row =
     (tends_clears_if row.id row.id (is_folder (item_of row.content)))
     (settles_yields row None)
 
+tends_bytes : (id other : List ℕ) (is : Bool) → IsTending id (GetsBytes other is)
+unfolding IsTending
+tends_bytes id other true v ds ordered h = tends_got id other h.0 v ds ordered h.1.1
+tends_bytes id other false v ds ordered h = tends_nothing id v ds ordered h
+
+tends_yields_to : (row : Row) (remote : List ℕ × Content)
+    → IsTending row.id (YieldsTo row remote)
+tends_yields_to row remote =
+    tends_then row.id (GetsBytesOf row.id remote.1) (Yields row (Some remote))
+    (tends_bytes row.id row.id (is_resource (item_of remote.1)))
+    (tends_yields row.id row (Some remote))
+
+settles_yields_to : (row : Row) (remote : List ℕ × Content)
+    → IsSettling row.id (YieldsTo row remote)
+settles_yields_to row remote =
+    settles_then row.id (GetsBytesOf row.id remote.1) (Yields row (Some remote))
+    (tends_bytes row.id row.id (is_resource (item_of remote.1)))
+    (settles_yields row (Some remote))
+
+pub settles_got_yields : (row : Row) (reply : Reply) (remote : List ℕ × Content) (v : View)
+    (ds : List Deed) → IsSorted row_id v.tables.rows
+    → Then (Hears (Get (Item row.id)) reply) (YieldsTo row remote) v ds
+    → is_pending (row_at (view_from v ds).tables row.id) ≡ false
+unfolding IsSettling
+settles_got_yields row reply remote v ds ordered h =
+    settles_then row.id (Hears (Get (Item row.id)) reply) (YieldsTo row remote)
+    (tends_get row.id row.id reply) (settles_yields_to row remote) v ds ordered h
+
 -- ---- a row
 
 -- The row of this id was uploaded or gave way, or its file was seen and can't be read. Whatever else waits is as it was.
@@ -304,8 +343,8 @@ tended_found : (blobs : Option (List Blob)) (row : Row) (reply : Reply) (f : Fin
 tended_found blobs row reply Same v ds is answer ordered h =
     tended_on row reply (Puts blobs row) v ds (tends_puts blobs row) (settles_puts blobs row) ordered h
 tended_found blobs row reply (Other remote) v ds is answer ordered h =
-    tended_on row reply (Yields row (Some remote)) v ds (tends_yields row.id row (Some remote))
-    (settles_yields row (Some remote)) ordered h
+    tended_on row reply (YieldsTo row remote) v ds (tends_yields_to row remote)
+    (settles_yields_to row remote) ordered h
 tended_found blobs row reply Missing v ds is answer ordered h =
     tended_on row reply (Then (Clears row) (Yields row None)) v ds (tends_goes row)
     (settles_goes row) ordered h

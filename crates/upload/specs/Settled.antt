@@ -8,6 +8,7 @@ use Rattle.jop_target.specs.declared.reply.Reply.{Reply}
 use Rattle.jop_target.specs.declared.reply.Reply.TheVariants.{Got, TooLarge}
 use Rattle.law_licences.specs.Checks.{is_pending}
 use Rattle.law_licences.specs.Items.{remote_in}
+use Rattle.law_licences.specs.Sealing.{no_keys}
 use Rattle.law_licences.specs.Trails.{session_calls}
 use Rattle.law_licences.specs.Views.{Heard}
 use Rattle.local_store.specs.Tables.{row_at}
@@ -15,7 +16,7 @@ use Rattle.upload.specs.Conditions.{AreUnput, CanPut}
 
 -- the file is no item of this id, or too large
 abbrev pub IsNoItem : List ℕ → Reply → Type 0
-IsNoItem id (Got now bytes) = remote_in id bytes ≡ None
+IsNoItem id (Got now bytes) = remote_in no_keys id bytes ≡ None
 IsNoItem id (TooLarge len) = Unit {0}
 IsNoItem id reply = ⊥
 

@@ -5,7 +5,7 @@ use Rattle.item_text.specs.Grammar.{written}
 use Rattle.jop_base.specs.Keyed.{at}
 use Rattle.jop_base.specs.declared.path.Path.TheVariants.{Item}
 use Rattle.jop_target.specs.declared.call.Call.{Call}
-use Rattle.jop_target.specs.declared.call.Call.TheVariants.{Get, Put, PutBlob}
+use Rattle.jop_target.specs.declared.call.Call.TheVariants.{Get, Put, GetBlob, PutBlob}
 use Rattle.jop_target.specs.declared.reply.Reply.{Reply}
 use Rattle.jop_target.specs.declared.reply.Reply.TheVariants.{Done}
 use Rattle.law_licences.specs.Items.{is_folder, is_resource}
@@ -23,13 +23,15 @@ use Rattle.session.specs.Doing.{Ends}
 use Rattle.session.specs.Work.{WorkNow}
 use Rattle.session.specs.Findings.{finding_of, waiting}
 use Rattle.session.specs.Parts.{Changes, ForEach, Hears, Nothing, Part, Then}
+use Rattle.session.specs.Sessions.{GetsBytesOf}
 use Rattle.session.specs.declared.finding.Finding.{Finding}
 use Rattle.session.specs.declared.finding.Finding.TheVariants.{Same, Other, Missing, Unreadable}
 
--- an upload gets and puts items, and puts the bytes of resources
+-- an upload gets and puts items and the bytes of resources
 abbrev pub is_upload : Call → Bool
 is_upload (Get (Item id)) = true
 is_upload (Put (Item id) content) = true
+is_upload (GetBlob id) = true
 is_upload (PutBlob id len) = true
 is_upload call = false
 
@@ -85,6 +87,10 @@ Puts blobs row =
 abbrev pub Yields : Row → Option (List ℕ × Content) → Part
 Yields row remote = Changes (conflict_change row remote)
 
+-- it gives way to another file; of a resource the bytes come first
+abbrev pub YieldsTo : Row → List ℕ × Content → Part
+YieldsTo row remote = Then (GetsBytesOf row.id remote.1) (Yields row (Some remote))
+
 abbrev pub ClearsIf : List ℕ → Bool → Part
 ClearsIf id true v ds = ForEach Changes (folder_gone_changes v.tables id) v ds
 ClearsIf id false v ds = Nothing v ds
@@ -98,7 +104,7 @@ Clears row = ClearsIf row.id (is_folder (item_of row.content))
 -- what is done with a row that waits, by what its file is
 abbrev pub Settles : Option (List Blob) → Row → Finding → Part
 Settles blobs row Same = Puts blobs row
-Settles blobs row (Other remote) = Yields row (Some remote)
+Settles blobs row (Other remote) = YieldsTo row remote
 Settles blobs row Missing = Then (Clears row) (Yields row None)
 Settles blobs row Unreadable = Nothing
 

@@ -9,7 +9,7 @@ ghost use Rattle.upload.specs.Settled.{AreSettled, AreUploadable};
 ghost use Rattle.upload.specs.Uploading.{EndsUpload, Settles, Uploads, UploadsOne, UploadsRow, is_upload, pending_ids};
 
 use crate::putting::put_row;
-use crate::yielding::{give_way, let_go};
+use crate::yielding::{give_way_to, let_go};
 use client::Client;
 use conflicts::{StepErr, SyncReport};
 use jop_base::{Copied, Id, Seq};
@@ -28,7 +28,7 @@ fn settle<W: Session>(alloc: Global, s: &mut W, row: &Row, finding: Finding) -> 
 {
     match finding {
         Finding::Same => put_row(alloc, s, row),
-        Finding::Other(remote) => give_way(alloc, s, row, Some(remote)),
+        Finding::Other(remote) => give_way_to(alloc, s, row, remote),
         Finding::Missing => let_go(alloc, s, row),
         Finding::Unreadable => Ok(()),
     }

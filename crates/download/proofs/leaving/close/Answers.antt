@@ -8,15 +8,16 @@ use Rattle.session.proofs.Ending.{does_nothing, does_starves, ends_then}
 use Rattle.session.specs.Parts.{Changes, ForEach}
 use Rattle.session.specs.Work.{knowing}
 use Rattle.download.proofs.Left.{all_allowed, all_may, closed_may_go, closes_then, closes_up, place, stays_open}
-use Rattle.download.specs.Downloading.{is_download, is_place}
+use Rattle.download.specs.Downloading.{is_place}
 use Rattle.local_store.specs.Tables.{row_at}
 use Rattle.local_store.specs.declared.tables.Tables.{Tables}
+use Rattle.download.specs.Taking.{is_taking}
 use Rattle.download.proofs.leaving.close.Goals as goal
 
 pub returns-then-not-is_place : goal.returns-then-not-is_place
 returns-then-not-is_place g c = record {
   ends = λ known lacks.
-      stays_open c.args.id.now is_download _
+      stays_open c.args.id.now is_taking _
       (ap (λ (t : Tables). is_place (row_at t c.args.id.now)) (sym c.tables.ensures)
       ∙ (sym c.is_place.ensures ∙ c.if-not-is_place.true))
       c.requires.ready;
@@ -26,7 +27,7 @@ pub returns-in_err-moves : goal.returns-in_err-moves
 returns-in_err-moves g c = record {
   ends = λ known lacks.
       let p = err_from_is_err_and c.from_residual.result c.from_residual.ensures.1 in
-      rw (p.1, p.2) (does_starves (does_nothing is_download _ c.requires.ready));
+      rw (p.1, p.2) (does_starves (does_nothing is_taking _ c.requires.ready));
 }
 
 -- what is made are the moves out of the folder
@@ -42,7 +43,7 @@ make_shown-requires-clause-ready g c =
     let id = c.args.id.now in
     let at = ap (λ (t : Tables). is_place (row_at t id)) (sym c.tables.ensures)
     ∙ (sym c.is_place.ensures ∙ c.if-not-is_place.false) in
-    (c.in_ok-make_each.ensures.ends (Some c.requires.gone.0) is_download
+    (c.in_ok-make_each.ensures.ends (Some c.requires.gone.0) is_taking
     (all_may c.requires.gone.0 id d c.as_slice.result.now c.requires.gone.1 (place d.tables id at)
     c.requires.ready.tidy.sound.rows_ordered
     (c.as_slice.ensures ∙ (c.in_ok-moves.ensures
@@ -57,7 +58,7 @@ returns-in_err-make_each g c = record {
       let id = c.args.id.now in
       let at = ap (λ (t : Tables). is_place (row_at t id)) (sym c.tables.ensures)
       ∙ (sym c.is_place.ensures ∙ c.if-not-is_place.false) in
-      rw (p.1, p.2) (c.in_err-make_each.ensures.ends (Some known) is_download
+      rw (p.1, p.2) (c.in_err-make_each.ensures.ends (Some known) is_taking
       (all_may known id d c.as_slice.result.now lacks (place d.tables id at)
       c.requires.ready.tidy.sound.rows_ordered
       (c.as_slice.ensures ∙ (c.in_ok-moves.ensures
@@ -77,15 +78,15 @@ returns g c = record {
       let are = c.as_slice.ensures ∙ (c.in_ok-moves.ensures
       ∙ ap (λ (t : Tables). folder_gone_changes t id) c.tables-2.ensures) in
       let ordered = c.requires.ready.tidy.sound.rows_ordered in
-      let moved = c.in_ok-make_each.ensures.ends (Some known) is_download
+      let moved = c.in_ok-make_each.ensures.ends (Some known) is_taking
       (all_may known id a.site moves lacks is ordered are) in
-      closes_up id is_download (knowing (Some known) a) _ c.make_shown.result at
-      (closes_then id is_download moves (knowing (Some known) a) _ c.make_shown.result are
-      (ends_then (ForEach Changes moves) (Changes (Gone id)) is_download _
+      closes_up id is_taking (knowing (Some known) a) _ c.make_shown.result at
+      (closes_then id is_taking moves (knowing (Some known) a) _ c.make_shown.result are
+      (ends_then (ForEach Changes moves) (Changes (Gone id)) is_taking _
       (knowing (Some known) b) _ c.make_shown.result moved
-      (ends_working (Changes (Gone id)) is_download _ _ c.make_shown.result
-      (c.make_shown.ensures.ends (Some known) is_download
+      (ends_working (Changes (Gone id)) is_taking _ _ c.make_shown.result
+      (c.make_shown.ensures.ends (Some known) is_taking
       (closed_may_go known id a.site b.site moves lacks is ordered are
-      (tables_each moves is_download (knowing (Some known) a) (knowing (Some known) b)
+      (tables_each moves is_taking (knowing (Some known) a) (knowing (Some known) b)
       moved))))));
 }

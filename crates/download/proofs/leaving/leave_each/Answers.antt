@@ -1,17 +1,18 @@
 use Rattle.std.proofs.Common.{arith, subst, sym}
 use Rattle.std.proofs.lemmas.List.Elements.{All-get_or}
 use Rattle.std.proofs.lemmas.Result.{err_from_is_err_and}
-use Rattle.download.specs.Downloading.{LeavesOne, is_download}
+use Rattle.download.specs.Downloading.{LeavesOne}
 use Rattle.download.specs.Reading.{Lacks}
 use Rattle.session.proofs.Ending.{does_nothing, gives_up_behind}
 use Rattle.session.proofs.Repeating.{does_all, does_here}
 use Rattle.session.specs.Parts.{ForEach}
+use Rattle.download.specs.Taking.{is_taking}
 use Rattle.download.proofs.leaving.leave_each.Goals as goal
 
 pub loop-index-init : goal.loop-index-init
 unfolding ForEach
 loop-index-init g c = record {
-  does = λ known lacks. does_nothing is_download _ c.requires.ready;
+  does = λ known lacks. does_nothing is_taking _ c.requires.ready;
 }
 
 pub leave_one-requires-clause-ready : goal.leave_one-requires-clause-ready
@@ -34,7 +35,7 @@ loop-index-preserved g c =
     let id = c.index-gone-index.result in
     record {
       does = λ known lacks.
-          does_here (LeavesOne c.args.folders) is_download gone i id _ _ _ (omega arith)
+          does_here (LeavesOne c.args.folders) is_taking gone i id _ _ _ (omega arith)
           c.index-gone-index.is (c.loop-index.invariant.does known lacks)
           (c.in_ok-leave_one.ensures.ends known
           (subst (Lacks known) (sym c.index-gone-index.is)
@@ -55,6 +56,6 @@ returns-in_err-leave_one g c = record {
 pub returns : goal.returns
 returns g c = record {
   ends = λ known lacks.
-      does_all (LeavesOne c.args.folders) is_download c.args.gone.now c.loop-index.index _ _
+      does_all (LeavesOne c.args.folders) is_taking c.args.gone.now c.loop-index.index _ _
       (omega arith) (c.loop-index.invariant.does known lacks);
 }

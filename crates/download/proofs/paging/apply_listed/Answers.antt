@@ -1,4 +1,4 @@
-use Rattle.download.proofs.Paged.{downloads}
+use Rattle.download.proofs.Paged.{downloads, page_heeds}
 use Rattle.law_licences.specs.Views.{shown_to}
 use Rattle.download.proofs.paging.apply_listed.Goals as goal
 
@@ -18,5 +18,11 @@ returns g c = record {
       let h = c.in_ok-page.ensures.ends in
       downloads a (now c.list.new.s) (now c.apply.new.s) c.in_ok-page.page c.apply.result h
       (g.met.W.Session.unshown c.apply.new.s)
+      (c.apply.ensures.ends (shown_to a.site.tables h.listing) h.is);
+  emptied =
+      let now = g.W.Session.now in
+      let a = now c.args.s.now in
+      let h = c.in_ok-page.ensures.ends in
+      page_heeds _ a (now c.list.new.s) (now c.apply.new.s) c.in_ok-page.page c.apply.result h
       (c.apply.ensures.ends (shown_to a.site.tables h.listing) h.is);
 }

@@ -27,3 +27,9 @@ pub returns-clause-stays : goal.returns-clause-stays
 returns-clause-stays g c =
     let stays = place_download _ _ c.apply_listed.result c.apply_listed.ensures.ends in
     search rules
+
+pub returns-clause-emptied : goal.returns-clause-emptied
+returns-clause-emptied g c =
+    let emptied = c.apply_listed.ensures.emptied in
+    let stays = place_download _ _ c.apply_listed.result c.apply_listed.ensures.ends in
+    search rules

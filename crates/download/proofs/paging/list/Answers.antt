@@ -1,11 +1,13 @@
 use Rattle.std.specs.Prelude.{refl}
 use Rattle.std.proofs.Common.{◌∙◌}
 use Rattle.std.proofs.lemmas.Result.{err_from_is_err_and}
-use Rattle.download.proofs.Paged.{listed_by, lists, page_at}
+use Rattle.download.proofs.Emptied.{heeds_vain}
+use Rattle.download.proofs.Paged.{list_heeds, listed_by, lists, page_at}
 use Rattle.download.specs.Downloading.{is_download}
 use Rattle.download.specs.Reading.{RefusesDownload}
 use Rattle.jop_base.specs.declared.dir.Dir.TheVariants.{Root}
 use Rattle.jop_target.specs.declared.call.Call.TheVariants.{List as ListDir}
+use Rattle.session.proofs.Behind.{went_given_up}
 use Rattle.session.proofs.Refusing.{not_refused}
 use Rattle.download.proofs.paging.list.Goals as goal
 
@@ -26,6 +28,9 @@ returns-in_err-ask g c = record {
       let p = err_from_is_err_and c.from_residual.result c.from_residual.ensures.1 in
       rw (p.1, p.2) (not_refused RefusesDownload is_download _ _ _
       (c.in_err-ask.ensures.ends is_download refl));
+  emptied = heeds_vain _ is_download (g.W.Session.now c.args.s.now) (g.W.Session.now c.ask.new.self)
+      c.in_err-ask.ensures.once
+      (went_given_up is_download _ _ _ (c.in_err-ask.ensures.ends is_download refl));
 }
 
 pub returns : goal.returns
@@ -34,6 +39,13 @@ returns g c = record {
       let heard = c.in_ok-ask.ensures.ends is_download refl in
       let a = g.W.Session.now c.args.s.now in
       lists a (g.W.Session.now c.ask.new.self) c.page_of.result heard
+      (page_at c.tables.result.now a.site.tables c.last.result.now heard.reply c.page_of.result
+      (c.tables.ensures ∙ c.ask.ensures.same.tables)
+      (c.last.ensures (ListDir Root) heard.reply heard.ends) c.page_of.ensures);
+  emptied =
+      let heard = c.in_ok-ask.ensures.ends is_download refl in
+      let a = g.W.Session.now c.args.s.now in
+      list_heeds a (g.W.Session.now c.ask.new.self) c.page_of.result heard
       (page_at c.tables.result.now a.site.tables c.last.result.now heard.reply c.page_of.result
       (c.tables.ensures ∙ c.ask.ensures.same.tables)
       (c.last.ensures (ListDir Root) heard.reply heard.ends) c.page_of.ensures);

@@ -1,8 +1,11 @@
-use Rattle.std.proofs.Common.{ap, subst, sym}
+use Rattle.std.proofs.Common.{◌∙◌, ap, refl, subst, sym}
 use Rattle.std.proofs.lemmas.Result.{err_from_is_err_and}
 use Rattle.local_store.specs.declared.tables.Tables.{Tables}
 use Rattle.session_opening.proofs.Joined.{is_merge, joins, joins_merging, none_merging, still_merge}
+use Rattle.session_opening.proofs.HeadwayPuts.{joins_progress, stops_put}
+use Rattle.session_opening.proofs.Headways.{starved_stops}
 use Rattle.session_opening.specs.Opening.{is_joining}
+use Rattle.sync_info.specs.Merge.{merged}
 use Rattle.session.proofs.Ending.{does_nothing, does_starves}
 use Rattle.sync_info.specs.Info.{IsInfo}
 use Rattle.session_opening.proofs.joining.join_info.Goals as goal
@@ -36,6 +39,9 @@ returns-in_err-info g c = record {
         rw (p.1, p.2) (does_starves (does_nothing is_joining _ c.requires.ready)),
         none_merging (g.W.Session.now c.args.s.now) c.requires.ready,
       );
+  progress = λ got.
+      let p = err_from_is_err_and c.from_residual.result c.from_residual.ensures.1 in
+      rw (p.1, p.2) (starved_stops _ _ c.args.remote.now _ got);
 }
 
 pub returns-in_err-put_info : goal.returns-in_err-put_info
@@ -46,6 +52,15 @@ returns-in_err-put_info g c = record {
         rw (p.1, p.2) c.in_err-put_info.ensures.ends.0,
         c.in_err-put_info.ensures.ends.1,
       );
+  progress = λ got.
+      let now = g.W.Session.now in
+      let own = (now c.args.s.now).site.tables.info in
+      let p = err_from_is_err_and c.from_residual-in_err-put_info.result
+      c.from_residual-in_err-put_info.ensures.1 in
+      rw (p.1, p.2) (stops_put own _ c.args.remote.now (now c.args.s.now) (now c.put_info.new.s) _
+      (c.in_ok-info.ensures.merged
+      ∙ ap (λ (t : Tables). merged t.info c.args.remote.now) c.tables.ensures)
+      (c.in_err-put_info.ensures.progress own) got);
 }
 
 pub returns : goal.returns
@@ -62,4 +77,13 @@ returns g c = record {
         joins_merging _ c.args.remote.now (now c.args.s.now) (now c.put_info.new.s)
             (now c.set_info.new.s) c.set_info.result put.0 c.set_info.ensures.ends put.1,
       );
+  progress = λ got.
+      let now = g.W.Session.now in
+      let own = (now c.args.s.now).site.tables.info in
+      joins_progress own _ c.args.remote.now (now c.args.s.now) (now c.put_info.new.s)
+      (now c.set_info.new.s) c.set_info.result
+      (c.in_ok-info.ensures.merged
+      ∙ ap (λ (t : Tables). merged t.info c.args.remote.now) c.tables.ensures)
+      refl c.in_ok-put_info.ensures.ends.0 c.set_info.ensures.ends c.set_info.ensures.fails
+      (c.in_ok-put_info.ensures.progress own) got;
 }

@@ -1,6 +1,7 @@
 use Rattle.std.proofs.Common.{◌∙◌, ap, sym}
 use Rattle.local_store.specs.declared.tables.Tables.{Tables}
 use Rattle.session_opening.proofs.Joined.{differ, may_set, sets_it, sets_nothing}
+use Rattle.session_opening.proofs.HeadwayPuts.{set_in_vain}
 use Rattle.session_opening.proofs.joining.set_info.Goals as goal
 
 pub make-requires-clause-allowed : goal.make-requires-clause-allowed
@@ -20,6 +21,7 @@ returns-then-is_same g c = record {
       sets_nothing c.args.info c.tables.result.now.info sort (g.W.Session.now c.args.s.now)
       (c.is_same.ensures.0 c.if-is_same.true) (ap (λ (t : Tables). t.info) c.tables.ensures)
       c.requires.ready;
+  fails = tt;
 }
 
 pub returns : goal.returns
@@ -31,4 +33,9 @@ returns g c = record {
       (λ same. c.is_same.ensures.1 (same ∙ sym (ap (λ (t : Tables). t.info) c.tables.ensures)))
       c.if-is_same.false)
       (c.make.ensures.ends sort);
+  fails = set_in_vain c.args.info _ c.make.result
+      (differ c.args.info _ c.is_same.result
+      (λ same. c.is_same.ensures.1 (same ∙ sym (ap (λ (t : Tables). t.info) c.tables.ensures)))
+      c.if-is_same.false)
+      c.make.ensures.fails;
 }

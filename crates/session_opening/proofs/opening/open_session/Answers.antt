@@ -1,7 +1,8 @@
-use Rattle.std.specs.Prelude.{refl}
+use Rattle.std.specs.Prelude.{Ok, Err, refl}
 use Rattle.std.proofs.lemmas.Result.{err_from_is_err_and}
 use Rattle.session_opening.proofs.Judged.{ahead_in_order, stays_ahead}
 use Rattle.session_opening.proofs.Opened.{lawful_joined, lawful_read, merges_joined, merges_read, opened, reading_within, stops_joining}
+use Rattle.session_opening.proofs.HeadwayPuts.{opens_progress}
 use Rattle.session_opening.specs.Opening.{RefusesTarget, is_joining, is_opening, is_reading}
 use Rattle.session_opening.specs.Verdict.{verdict_in}
 use Rattle.session.proofs.Behind.{went_given_up}
@@ -97,3 +98,25 @@ returns-clause-order g c = λ due.
     stays_ahead is_joining (g.W.Session.now c.read_supported.new.s)
     (g.W.Session.now c.join_info.new.s) c.in_ok-join_info.ensures.ends.0.went
     (c.in_ok-remote.ensures.order due)
+
+pub returns-in_err-remote-clause-progress : goal.returns-in_err-remote-clause-progress
+returns-in_err-remote-clause-progress g c = λ unread.
+    let p = err_from_is_err_and c.from_residual.result c.from_residual.ensures.1 in
+    rw (p.1, p.2) (c.in_err-remote.ensures.progress _ unread)
+
+pub returns-in_err-join_info-clause-progress : goal.returns-in_err-join_info-clause-progress
+returns-in_err-join_info-clause-progress g c = λ unread.
+    let now = g.W.Session.now in
+    let p = err_from_is_err_and c.from_residual-in_err-join_info.result
+    c.from_residual-in_err-join_info.ensures.1 in
+    rw (p.1, p.2) (opens_progress _ (now c.args.s.now) (now c.read_supported.new.s)
+    (now c.join_info.new.s) (Err _) c.in_ok-remote.ensures.reads.does
+    c.in_err-join_info.ensures.ends.0 (c.in_ok-remote.ensures.progress _ unread)
+    c.in_err-join_info.ensures.progress)
+
+pub returns-clause-progress : goal.returns-clause-progress
+returns-clause-progress g c = λ unread.
+    let now = g.W.Session.now in
+    opens_progress _ (now c.args.s.now) (now c.read_supported.new.s) (now c.join_info.new.s)
+    (Ok _) c.in_ok-remote.ensures.reads.does c.in_ok-join_info.ensures.ends.0
+    (c.in_ok-remote.ensures.progress _ unread) c.in_ok-join_info.ensures.progress

@@ -1,15 +1,15 @@
 use Rattle.std.proofs.lemmas.Result.{err_from_is_err_and}
 use Rattle.session.proofs.Wider.{gives_up_within}
 use Rattle.upload.specs.Uploading.{is_upload}
-use Rattle.sync_session.proofs.Exchanged.{ends_sends, leaves_nothing, upload_within}
-use Rattle.sync_session.specs.Working.{is_exchange}
+use Rattle.sync_session.proofs.Exchanged.{ends_sends, leaves_nothing, upload_sent}
+use Rattle.sync_session.specs.Working.{is_sending}
 use Rattle.sync_session.proofs.exchanging.send.Goals as goal
 
 pub returns-in_err-upload_waiting-clause-ends : goal.returns-in_err-upload_waiting-clause-ends
 returns-in_err-upload_waiting-clause-ends g c =
     let p = err_from_is_err_and c.from_residual.result c.from_residual.ensures.1 in
     rw (p.1, p.2)
-    (gives_up_within is_upload is_exchange _ _ _ upload_within
+    (gives_up_within is_upload is_sending _ _ _ upload_sent
     c.in_err-upload_waiting.ensures.ends)
 
 pub returns-clause-ends : goal.returns-clause-ends

@@ -4,6 +4,7 @@ use Rattle.client.specs.Sites.{SiteNow}
 use Rattle.lease.proofs.Sessions.{has_room}
 use Rattle.sync_session.proofs.Ordered.{none_in_order, open_in_order, whole_in_order}
 use Rattle.sync_session.proofs.Whole.{has_begun_sync, line_open, line_same, line_whole, none_open, open_after, whole_after}
+use Rattle.sync_session.proofs.Wanted.{none_by_key, open_by_key, whole_by_key}
 use Rattle.sync_session.proofs.syncing.make_session.Goals as goal
 
 pub take_and_sync-outcome-requires : goal.take_and_sync-outcome-requires
@@ -63,3 +64,18 @@ returns-else-has_ended-clause-order g c =
     let took = c.take_and_sync-outcome.ensures in
     open_in_order c.args.client.now _ _ (g.S.Client.site c.take_and_sync-outcome.new.site) _
     c.in_ok-begin.ensures.writes took.runs.goes took.order
+
+pub returns-in_err-begin-clause-key : goal.returns-in_err-begin-clause-key
+returns-in_err-begin-clause-key g c = none_by_key _ _ _ c.in_err-begin.ensures.writes
+
+pub returns-in_ok-end-clause-key : goal.returns-in_ok-end-clause-key
+returns-in_ok-end-clause-key g c =
+    let took = c.take_and_sync-outcome.ensures in
+    whole_by_key c.args.client.now _ _ _ _ _ c.in_ok-begin.ensures.writes took.runs.goes
+    c.in_ok-end.ensures.writes took.key
+
+pub returns-else-has_ended-clause-key : goal.returns-else-has_ended-clause-key
+returns-else-has_ended-clause-key g c =
+    let took = c.take_and_sync-outcome.ensures in
+    open_by_key c.args.client.now _ _ (g.S.Client.site c.take_and_sync-outcome.new.site) _
+    c.in_ok-begin.ensures.writes took.runs.goes took.key

@@ -2,8 +2,10 @@ use Rattle.std.proofs.Common.{◌≡◌, ap, rules, sym}
 use Rattle.client.specs.Sites.{Place}
 use Rattle.sync_run.proofs.Leases.{Laws}
 use Rattle.sync_session.proofs.Ordered.{added_as}
-use Rattle.sync_session.proofs.Promised.{keeps_from, licensed_from}
+use Rattle.sync_session.proofs.Promised.{heeds_from, keeps_from, licensed_from}
 use Rattle.sync_session.proofs.Ran.{adds_as, is_site, line_as}
+use Rattle.law_licences.specs.Sealing.{no_keys}
+use Rattle.sync_session.proofs.Wanted.{key_as}
 use Rattle.sync_session.proofs.syncing.sync_on.Goals as goal
 
 -- what it works on stays where it is
@@ -32,8 +34,10 @@ returns g c =
       line = line_as client _ _ _ made.line is;
       keeps = keeps_from client _ _ _ laws session;
       order = added_as _ _ _ _ made.order is;
+      key = key_as _ _ _ _ _ made.key is;
+      emptied = heeds_from client _ _ _ session;
       licensed = licensed;
       kept = λ added changes trail made.
-          c.notes_are_kept_by_tables.ensures.joined client _ added changes
+          c.notes_are_kept_by_tables.ensures.joined client no_keys _ added changes
           (licensed added changes trail made).0;
     }

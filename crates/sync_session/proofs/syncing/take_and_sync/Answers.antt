@@ -7,6 +7,7 @@ use Rattle.sync_session.proofs.Done.{counted_locked}
 use Rattle.sync_session.proofs.Left.{has_taken}
 use Rattle.sync_session.proofs.Ordered.{idle_in_order}
 use Rattle.sync_session.proofs.Ran.{HasTried, runs_done, runs_none, runs_refused, starts_taken}
+use Rattle.sync_session.proofs.Wanted.{held_by_key, idle_by_key}
 use Rattle.sync_session.proofs.syncing.take_and_sync.Goals as goal
 
 pub acquire-requires : goal.acquire-requires
@@ -76,3 +77,23 @@ returns-in_err-sync_held-clause-order g c =
 
 pub returns-clause-order : goal.returns-clause-order
 returns-clause-order g c = c.in_ok-sync_held.ensures.order
+
+pub returns-in_err-lease-clause-key : goal.returns-in_err-lease-clause-key
+returns-in_err-lease-clause-key g c =
+    idle_by_key _ _ (g.S.Client.site c.args.site.now).tables c.args.client.now
+    (g.S.Client.site c.args.site.now) (g.S.Client.site c.acquire.new.line) _ _
+    (g.met.S.Client.same_line _) (g.met.S.Client.same_line _) c.requires.begun.calls
+    c.in_err-lease.ensures.goes
+
+pub returns-in_err-sync_held-clause-key : goal.returns-in_err-sync_held-clause-key
+returns-in_err-sync_held-clause-key g c =
+    let p = err_from_is_err_and c.from_residual-in_err-sync_held.result
+    c.from_residual-in_err-sync_held.ensures.1 in
+    rw (p.1, p.2)
+    (held_by_key _ _ (g.S.Client.site c.args.site.now) (g.S.Client.site c.acquire.new.line) _
+    (g.met.S.Client.keeps_site _ _ c.in_ok-lease.ensures.keeps) c.in_err-sync_held.ensures.key)
+
+pub returns-clause-key : goal.returns-clause-key
+returns-clause-key g c =
+    held_by_key _ _ (g.S.Client.site c.args.site.now) (g.S.Client.site c.acquire.new.line) _
+    (g.met.S.Client.keeps_site _ _ c.in_ok-lease.ensures.keeps) c.in_ok-sync_held.ensures.key

@@ -1,12 +1,14 @@
-use Rattle.std.proofs.Common.{◌∙◌, Option, ap, subst, sym}
+use Rattle.std.proofs.Common.{◌∙◌, Ok, Option, ap, subst, sym}
 use Rattle.std.proofs.lemmas.Result.{err_from_is_err_and}
 use Rattle.conflicts.specs.declared.refusal.Refusal.{Refusal}
+use Rattle.local_store.specs.declared.tables.Tables.{Tables}
 use Rattle.session_opening.proofs.Judged.{ahead_in_order, stays_ahead}
 use Rattle.session_opening.proofs.Merged.{merged_opened}
 use Rattle.sync_session.proofs.Ordered.{of_step_in_order, unread}
-use Rattle.sync_session.proofs.Worked.{can_put, lawful_behind, merges_behind, opened, unput_opened, went_stopped, works_behind, works_done, works_keyless, works_unopened}
-use Rattle.sync_session.specs.Keys.{RefusesKeysOr, needs_key}
+use Rattle.sync_session.proofs.Worked.{between_step, can_put, heeds_keyless, heeds_opened, heeds_unopened, lawful_behind, merges_behind, opened, unput_opened, went_stopped, works_behind, works_done, works_keyless, works_unopened}
+use Rattle.sync_session.specs.Keys.{RefusesKeys, RefusesKeysOr, needs_key}
 use Rattle.sync_session.specs.Working.{is_exchange}
+use Rattle.sync_session.proofs.Wanted.{first_unread, refused_by_key, spared_by_key, stopped_by_key}
 use Rattle.sync_session.proofs.working.work.Goals as goal
 
 pub returns-in_err-open_session-clause-ends : goal.returns-in_err-open_session-clause-ends
@@ -119,3 +121,76 @@ returns-clause-order g c =
     (stays_ahead is_exchange (now c.open_session.new.s) (now c.exchange.new.s)
     c.in_ok-exchange.ensures.ends.0.went
     (c.in_ok-open_session.ensures.order (unread (now c.args.s.now) c.requires.starts.first)))
+
+pub returns-in_err-open_session-clause-key : goal.returns-in_err-open_session-clause-key
+returns-in_err-open_session-clause-key g c =
+    let p = err_from_is_err_and c.from_residual.result c.from_residual.ensures.1 in
+    let t = (g.W.Session.now c.args.s.now).site.tables in
+    rw (p.1, p.2)
+    (stopped_by_key t _ _
+    (c.in_err-open_session.ensures.progress (first_unread t.info _ c.requires.starts.first)))
+
+pub returns-in-Some-clause-key : goal.returns-in-Some-clause-key
+returns-in-Some-clause-key g c =
+    let now = g.W.Session.now in
+    let t = (now c.args.s.now).site.tables in
+    let u = (now c.open_session.new.s).site.tables in
+    refused_by_key t u _ _
+    (subst (λ (x : Tables). RefusesKeys c.in-Some.why x) c.tables.ensures
+    (subst (λ (o : Option Refusal). RefusesKeysOr c.tables.result.now o) c.in-Some.is
+    c.key_refusal.ensures))
+    (c.in_ok-open_session.ensures.progress (first_unread t.info _ c.requires.starts.first))
+
+pub returns-in_err-exchange-clause-key : goal.returns-in_err-exchange-clause-key
+returns-in_err-exchange-clause-key g c =
+    let now = g.W.Session.now in
+    let a = now c.args.s.now in
+    let b = now c.open_session.new.s in
+    spared_by_key a b (now c.exchange.new.s) _ c.in_ok-open_session.ensures.opens
+    (ap needs_key (sym c.tables.ensures)
+    ∙ subst (λ (o : Option Refusal). RefusesKeysOr c.tables.result.now o) c.in_default.is
+    c.key_refusal.ensures)
+    (went_stopped b _ _ c.in_err-exchange.ensures.ends)
+    (c.in_ok-open_session.ensures.progress (first_unread a.site.tables.info _ c.requires.starts.first))
+
+pub returns-clause-key : goal.returns-clause-key
+returns-clause-key g c =
+    let now = g.W.Session.now in
+    let a = now c.args.s.now in
+    let b = now c.open_session.new.s in
+    spared_by_key {R = Unit {0}} a b (now c.exchange.new.s) (Ok tt)
+    c.in_ok-open_session.ensures.opens
+    (ap needs_key (sym c.tables.ensures)
+    ∙ subst (λ (o : Option Refusal). RefusesKeysOr c.tables.result.now o) c.in_default.is
+    c.key_refusal.ensures)
+    c.in_ok-exchange.ensures.ends.0.went
+    (c.in_ok-open_session.ensures.progress (first_unread a.site.tables.info _ c.requires.starts.first))
+
+pub returns-in_err-open_session-clause-emptied : goal.returns-in_err-open_session-clause-emptied
+returns-in_err-open_session-clause-emptied g c =
+    heeds_unopened _ (g.W.Session.now c.args.s.now) (g.W.Session.now c.open_session.new.s) _
+    c.in_err-open_session.ensures.opens
+
+pub returns-in-Some-clause-emptied : goal.returns-in-Some-clause-emptied
+returns-in-Some-clause-emptied g c =
+    heeds_keyless _ (g.W.Session.now c.args.s.now) (g.W.Session.now c.open_session.new.s)
+    c.in_ok-open_session.ensures.opens
+
+pub returns-in_err-exchange-clause-emptied : goal.returns-in_err-exchange-clause-emptied
+returns-in_err-exchange-clause-emptied g c =
+    let now = g.W.Session.now in
+    let a = now c.args.s.now in
+    let b = now c.open_session.new.s in
+    let p = err_from_is_err_and c.from_residual-in_err-exchange.result
+    c.from_residual-in_err-exchange.ensures.1 in
+    rw (p.1, p.2)
+    (heeds_opened _ a b (now c.exchange.new.s) c.in_ok-open_session.ensures.opens
+    (went_stopped b _ _ c.in_err-exchange.ensures.ends)
+    (between_step b.site (now c.exchange.new.s).site _ c.in_err-exchange.ensures.emptied))
+
+pub returns-clause-emptied : goal.returns-clause-emptied
+returns-clause-emptied g c =
+    let now = g.W.Session.now in
+    heeds_opened _ (now c.args.s.now) (now c.open_session.new.s) (now c.exchange.new.s)
+    c.in_ok-open_session.ensures.opens c.in_ok-exchange.ensures.ends.0.went
+    c.in_ok-exchange.ensures.emptied

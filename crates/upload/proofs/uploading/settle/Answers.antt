@@ -6,8 +6,8 @@ use Rattle.upload.proofs.uploading.settle.Goals as goal
 pub returns-in-Other : goal.returns-in-Other
 returns-in-Other g c = record {
   ends = settles_as (blobs_of (g.W.Session.now c.args.s.now).site.keeper.kept) c.args.row.now
-      c.args.finding (Other c.in-Other.remote) _ _ c.give_way.result c.in-Other.is
-      c.give_way.ensures.ends;
+      c.args.finding (Other c.in-Other.remote) _ _ c.give_way_to.result c.in-Other.is
+      c.give_way_to.ensures.ends;
 }
 
 pub returns-in-Missing : goal.returns-in-Missing

@@ -1,14 +1,15 @@
-use Rattle.std.specs.Prelude.{◌+◌, List, ℕ, drop, take, Option, refl}
+use Rattle.std.specs.Prelude.{◌+◌, List, ℕ, drop, refl}
 use Rattle.std.proofs.Common.{◌∙◌, ap, arith, subst}
 use Rattle.std.proofs.lemmas.List.{drop_all}
 use Rattle.std.proofs.lemmas.Result.{err_from_is_err_and}
-use Rattle.keeper.specs.declared.blob.Blob.{Blob}
-use Rattle.session.proofs.Ending.{does_nothing, gives_up_behind}
+use Rattle.law_licences.specs.Checks.{is_pending}
+use Rattle.session.proofs.Ending.{does_as, does_nothing, gives_up_behind}
 use Rattle.session.proofs.Repeating.{does_all, does_here, here_and_left}
-use Rattle.session.specs.Doing.{Does}
 use Rattle.session.specs.Parts.{ForEach}
+use Rattle.session.specs.Work.{view_of}
 use Rattle.upload.proofs.Licensed.{plain_as}
-use Rattle.upload.proofs.Left.{can_put, left_on, same_blobs, settled, tended, unput_on}
+use Rattle.upload.proofs.Bytes.{same_waiting, uploads_by}
+use Rattle.upload.proofs.Left.{can_put, left_on, settled, tended, unput_on}
 use Rattle.upload.specs.Settled.{AreLeft}
 use Rattle.upload.specs.Uploading.{UploadsOne, blobs_of, is_upload}
 use Rattle.upload.proofs.uploading.upload_each.Goals as goal
@@ -19,6 +20,7 @@ loop-index-init g c = record {
   info = refl;
   read = refl;
   unput = c.requires.uploadable.unput;
+  bytes = λ id waits. refl;
   left = c.requires.uploadable.left;
   does = does_nothing is_upload _ c.requires.ready;
 }
@@ -45,19 +47,24 @@ loop-index-preserved g c =
     let b = now c.loop-index.s in
     let n = now c.upload_one.new.s in
     let blobs = blobs_of a.site.keeper.kept in
-    let t = tended (blobs_of b.site.keeper.kept) is_upload id b n
-    before.does.ready.tidy.sound.rows_ordered done.ends in
+    let own = blobs_of b.site.keeper.kept in
+    let ordered = before.does.ready.tidy.sound.rows_ordered in
+    let t = tended own is_upload id b n ordered done.ends in
     record {
       info = t.tended.tends.keeps.info ∙ before.info;
       read = t.tended.tends.read ∙ before.read;
       unput = unput_on id b.site n.site t before.unput;
+      bytes = λ other waits.
+          same_waiting own id other b n ordered done.ends waits
+          ∙ before.bytes other
+          (ap is_pending (t.tended.tends.keeps.rows other waits) ∙ waits);
       left = left_on b.site n.site id (drop (i + 1) ids) t
           (subst (λ (rest : List (List ℕ)). AreLeft b.site rest)
           (here_and_left ids i id (omega arith) c.index-ids-index.is) before.left);
       does = does_here (UploadsOne blobs) is_upload ids i id a b n (omega arith)
           c.index-ids-index.is before.does
-          (subst (λ (own : Option (List Blob)). Does (UploadsOne own id) is_upload b n)
-          (same_blobs (ForEach (UploadsOne blobs) (take i ids)) is_upload a b (λ id. refl) before.does)
+          (does_as (UploadsOne own id) (UploadsOne blobs id) is_upload b n
+          (λ shown ds it. uploads_by own blobs id (view_of shown b.site) ds (before.bytes id) it)
           done.ends);
     }
 

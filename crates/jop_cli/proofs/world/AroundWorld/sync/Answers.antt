@@ -14,5 +14,7 @@ returns-clause-syncs g c =
       keeps = c.sync_on.ensures.keeps line.more line.trail;
       licensed = λ changes is. c.sync_on.ensures.licensed line.more changes line.trail is;
       order = c.sync_on.ensures.order line.more line.trail;
+      key = c.sync_on.ensures.key line.more line.trail;
+      emptied = λ changes is. c.sync_on.ensures.emptied line.more changes line.trail is;
       same = refl;
     }

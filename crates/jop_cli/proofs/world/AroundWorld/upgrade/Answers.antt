@@ -8,5 +8,6 @@ returns-clause-upgrades g c =
       session = c.upgrade_on.ensures.session;
       line = line;
       keeps = c.upgrade_on.ensures.keeps line.more line.trail;
+      order = c.upgrade_on.ensures.order line.more line.trail;
       same = refl;
     }

@@ -1,7 +1,7 @@
 use Rattle.std.proofs.Common.{◌∙◌, ap}
 use Rattle.std.proofs.lemmas.Result.{err_from_is_err_and}
 use Rattle.conflicts.specs.Reports.{with_tally}
-use Rattle.session.proofs.Committed.{does_made, gives_up_making, ready_made}
+use Rattle.session.proofs.Committed.{does_made, gives_up_making, ready_made, unkept}
 use Rattle.session.proofs.Stepped.{stays_by}
 use Rattle.session.specs.Doing.{DoesTo, GivesNothing}
 use Rattle.session.proofs.hand.HandSession.make_shown.Goals as goal
@@ -25,3 +25,8 @@ returns-clause-ends g c = λ known sort may.
 
 pub returns-clause-ready : goal.returns-clause-ready
 returns-clause-ready g c = ready_made _ _ _ _ c.in_ok-commit.ensures.commits c.requires.ready
+
+pub returns-in_err-commit-clause-fails : goal.returns-in_err-commit-clause-fails
+returns-in_err-commit-clause-fails g c =
+    let p = err_from_is_err_and c.from_residual.result c.from_residual.ensures.1 in
+    rw (p.1, p.2) (unkept _)

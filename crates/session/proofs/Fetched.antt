@@ -3,7 +3,7 @@ use Rattle.std.specs.Prelude.{ℕ, ◌≡◌, List, Bool, true, false, Result}
 use Rattle.std.proofs.Common.{ap, subst, sym}
 use Rattle.conflicts.specs.declared.error.StepErr.{StepErr}
 use Rattle.client.specs.Sites.{SiteNow}
-use Rattle.download.specs.Taking.{GetsBytes, is_taking}
+use Rattle.jop_target.specs.declared.call.Call.{Call}
 use Rattle.law_licences.specs.Checks.{last_on}
 use Rattle.law_licences.specs.Deeds.{Deed}
 use Rattle.law_licences.specs.Trails.{session_calls}
@@ -13,22 +13,21 @@ use Rattle.session.proofs.Ending.{does_nothing}
 use Rattle.session.proofs.Recast.{ShowsNone, fetches_none}
 use Rattle.session.specs.Doing.{Does, Ends}
 use Rattle.session.specs.Parts.{Nothing}
-use Rattle.session.specs.Sessions.{Fetches}
+use Rattle.session.specs.Sessions.{Fetches, GetsBytes}
 use Rattle.session.specs.Work.{IsAtWork, WorkNow}
 
 -- ---- told
 
-pub gets_bytes : {R : Type 0} (id : List ℕ) (is : Bool) (a b : WorkNow)
-    (result : Result R StepErr) → is ≡ true → Ends (Fetches id) is_taking a result b
-    → Ends (GetsBytes id is) is_taking a result b
-gets_bytes id is a b result same h =
-    subst (λ (x : Bool). Ends (GetsBytes id x) is_taking a result b) (sym same) h
+pub gets_bytes : {R : Type 0} (id : List ℕ) (is : Bool) (sort : Call → Bool) (a b : WorkNow)
+    (result : Result R StepErr) → is ≡ true → Ends (Fetches id) sort a result b
+    → Ends (GetsBytes id is) sort a result b
+gets_bytes id is sort a b result same h =
+    subst (λ (x : Bool). Ends (GetsBytes id x) sort a result b) (sym same) h
 
-pub gets_none : (id : List ℕ) (is : Bool) (a : WorkNow) → is ≡ false → IsAtWork a
-    → Does (GetsBytes id is) is_taking a a
-gets_none id is a same ready =
-    subst (λ (x : Bool). Does (GetsBytes id x) is_taking a a) (sym same)
-    (does_nothing is_taking a ready)
+pub gets_none : (id : List ℕ) (is : Bool) (sort : Call → Bool) (a : WorkNow) → is ≡ false
+    → IsAtWork a → Does (GetsBytes id is) sort a a
+gets_none id is sort a same ready =
+    subst (λ (x : Bool). Does (GetsBytes id x) sort a a) (sym same) (does_nothing sort a ready)
 
 -- ---- what stands behind it
 
@@ -37,17 +36,17 @@ pub record Keeps (id : List ℕ) (a b : SiteNow) : Type 0 where
   pub tables : b.tables ≡ a.tables
   pub last : last_on id (session_calls b.line.trail) ≡ last_on id (session_calls a.line.trail)
 
-pub got_keeps : (id : List ℕ) (is : Bool) (a b : WorkNow)
-    → Does (GetsBytes id is) is_taking a b → Keeps id a.site b.site
+pub got_keeps : (id : List ℕ) (is : Bool) (sort : Call → Bool) (a b : WorkNow)
+    → Does (GetsBytes id is) sort a b → Keeps id a.site b.site
 unfolding view_from
-got_keeps id true a b h = record {
-  tables = tables_fetched id is_taking a b h;
-  last = last_fetched id id is_taking a b h;
+got_keeps id true sort a b h = record {
+  tables = tables_fetched id sort a b h;
+  last = last_fetched id id sort a b h;
 }
-got_keeps id false a b h = record {
-  tables = behind (λ t cs u us. u ≡ t) Nothing is_taking a b
+got_keeps id false sort a b h = record {
+  tables = behind (λ t cs u us. u ≡ t) Nothing sort a b
       (λ v ds it. ap (λ (x : List Deed). (view_from v x).tables) it) h;
-  last = behind (λ t cs u us. last_on id us ≡ last_on id cs) Nothing is_taking a b
+  last = behind (λ t cs u us. last_on id us ≡ last_on id cs) Nothing sort a b
       (λ v ds it. ap (λ (x : List Deed). last_on id (view_from v x).calls) it) h;
 }
 
