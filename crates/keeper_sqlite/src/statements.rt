@@ -21,8 +21,12 @@ pub(crate) const ALL_CONFLICTS: &str =
 
 pub(crate) const BLOB: &str = "SELECT bytes FROM blobs WHERE id = ?1";
 
+/// A row that is there is written in its place: another one would take an entry of the index, and
+/// two more pages of the file, at each commit.
 pub(crate) const SET_ROW: &str = "\
-INSERT OR REPLACE INTO rows (id, sealed, content, base, pending) VALUES (?1, ?2, ?3, ?4, ?5)";
+INSERT INTO rows (id, sealed, content, base, pending) VALUES (?1, ?2, ?3, ?4, ?5) \
+ON CONFLICT (id) DO UPDATE SET sealed = excluded.sealed, content = excluded.content, \
+base = excluded.base, pending = excluded.pending";
 
 pub(crate) const DROP_ROW: &str = "DELETE FROM rows WHERE id = ?1";
 

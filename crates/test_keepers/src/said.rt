@@ -17,7 +17,9 @@ use std::test::Fail;
 /// What is said of a row, a deletion, a conflict note, and of what goes and is set: each statement,
 /// and its values.
 const SAID: [&str; 12] = [
-    "INSERT OR REPLACE INTO rows (id, sealed, content, base, pending) VALUES (?1, ?2, ?3, ?4, ?5) \
+    "INSERT INTO rows (id, sealed, content, base, pending) VALUES (?1, ?2, ?3, ?4, ?5) \
+ON CONFLICT (id) DO UPDATE SET sealed = excluded.sealed, content = excluded.content, \
+base = excluded.base, pending = excluded.pending \
 | '1111111111111111aaaaaaaaaaaaaaaa' | 0 \
 | x'A title\n\na body\n\nid: 1111111111111111aaaaaaaaaaaaaaaa\nencryption_applied: 0\ntype_: 1' \
 | x'a body' | 0",
