@@ -1,0 +1,16 @@
+pub mod FirstSlash
+pub mod Rises
+pub mod Repeated
+pub mod FileNames
+pub mod OneClass
+pub mod FileClasses
+pub mod ProgressLemmas
+pub mod Reading
+pub mod Listed
+pub mod OneListing
+pub mod TagReading
+pub mod PassedReading
+pub mod TreeReading
+pub mod Properties
+pub mod Responses
+pub mod FewBytes

@@ -1,0 +1,10 @@
+pub mod Elements
+pub mod Lexing
+pub mod Places
+pub mod Members
+pub mod Multistatus
+pub mod Hrefs
+pub mod Listings
+pub mod Readers
+pub mod Tags
+pub mod Grammar

@@ -1,0 +1,6 @@
+pub mod Heads
+pub mod Texts
+pub mod Answers
+pub mod Causes
+pub mod Steps
+pub mod Whole

@@ -1,0 +1,4 @@
+pub mod Outcomes
+pub mod Replies
+pub mod Sites
+pub mod Asking
