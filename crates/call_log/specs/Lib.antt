@@ -1,0 +1,4 @@
+pub mod Logs
+pub mod Agreeing
+pub mod Differing
+pub mod Closing

@@ -1,0 +1,4 @@
+pub mod Seen
+pub mod Standing
+pub mod Walks
+pub mod Linked

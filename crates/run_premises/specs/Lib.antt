@@ -1,0 +1,4 @@
+pub mod Between
+pub mod InTime
+pub mod Seen
+pub mod Steps
