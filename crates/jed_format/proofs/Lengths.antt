@@ -14,7 +14,8 @@ use Rattle.jed_format.specs.declared.sjcl_chunk.SjclChunk.{SjclChunk}
 use Rattle.jed_format.proofs.Encoded.{symbols}
 use Rattle.jed_format.proofs.Valid.{limits_of}
 
-length-encoded : (bytes : List ℕ) → 3 * length (encoded bytes) ≤ 4 * length bytes + 8
+-- four letters for three bytes, the last ones begun
+pub length-encoded : (bytes : List ℕ) → 3 * length (encoded bytes) ≤ 4 * length bytes + 8
 unfolding encoded
 length-encoded bytes =
     let n : ℕ = length bytes in

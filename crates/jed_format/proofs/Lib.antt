@@ -4,6 +4,7 @@ pub mod Chunks
 pub mod Valid
 pub mod Encoded
 pub mod Texts
+pub mod Visible
 pub mod Lengths
 pub mod JedBack
 pub mod Joined

@@ -1,6 +1,7 @@
 -- The texts that are written.
 use Rattle.std.specs.Prelude.{◌≡◌, ℕ, ◌+◌, ◌/◌, ◌%◌, ◌^◌, ◌<◌, Bool, ◌&&◌, nat_le, nat_lt, true, List, [], ◌∷◌, ◌++◌, length, codes, decimal, if◌then◌else◌}
-use Rattle.std.specs.List.{flat_map, All, AllPass}
+use Rattle.std.specs.Char.{is_ascii_graphic}
+use Rattle.std.specs.List.{flat_map, list_all, All, AllPass}
 use Rattle.base64.specs.GeneralPurpose.{IsBytes}
 use Rattle.jed_format.specs.Base64.{encoded}
 use Rattle.jed_format.specs.Chunk.{is_chunk}
@@ -68,3 +69,7 @@ pub record IsSjcl (c : SjclChunk) : Type 0 where
   pub iv : IsBytes c.iv
   pub salt : IsBytes c.salt
   pub ct : IsBytes c.ct
+
+-- whether each byte is a letter of ASCII that can be seen: no blank, and no line feed
+abbrev pub are_visible : List ℕ → Bool
+are_visible text = list_all is_ascii_graphic text

@@ -7,7 +7,7 @@ ghost use Rattle.jed_format.specs.Refusals.{Refuses};
 use crate::base64_text::decoded;
 use crate::jed::Jed;
 use crate::jed_err::JedErr;
-use crate::open_chunk::open_chunk;
+use crate::one_piece::open_chunk;
 use crate::sjcl_chunk::SjclChunk;
 use jed_text::{unescape_units, units_of, units_text};
 use jop_base::{Bytes, Text};

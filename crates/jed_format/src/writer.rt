@@ -1,10 +1,11 @@
 ghost use Rattle.std.specs.Prelude.{◌≡◌, ◌++◌, ℕ, All, decimal, string_bytes, true, IfOk, OnOk, Ok};
 ghost use Rattle.std.specs.List.{AllPass};
+ghost use Rattle.std.specs.Str.{IsUtf8};
 ghost use Rattle.base64.specs.GeneralPurpose.{IsBytes};
 ghost use Rattle.jed_format.specs.Base64.{encoded};
 ghost use Rattle.jed_format.specs.Chunk.{is_chunk, chunk_in};
 ghost use Rattle.jed_format.specs.Jed.{jed_in};
-ghost use Rattle.jed_format.specs.Write.{sizes_text, chunk_text, digit, six_digits, framed_chunk, jed_text, IsJed, IsSjcl};
+ghost use Rattle.jed_format.specs.Write.{sizes_text, chunk_text, digit, six_digits, framed_chunk, jed_text, are_visible, IsJed, IsSjcl};
 
 use crate::jed::Jed;
 use crate::sjcl_chunk::SjclChunk;
@@ -91,11 +92,13 @@ fn chunk_text(alloc: Global, chunk: &SjclChunk) -> Result<Bytes, AllocError>
 }
 
 /// The text of a chunk: an SJCL object in mode `ccm`, without spaces, its texts in padded base64.
-/// It is read back as the chunk.
+/// It is read back as the chunk, and each of its bytes is a letter of ASCII that can be seen.
 pub fn write_chunk(alloc: Global, chunk: &SjclChunk) -> Result<Bytes, AllocError>
     requires { is_chunk chunk.now ≡ true }
     ensures text { IfOk result (λ text. text ≡ chunk_text chunk.now) }
     ensures reads_back { IfOk result (λ text. (n : ℕ) → chunk_in text n ≡ Ok chunk.now) }
+    ensures visible { IfOk result (λ text. are_visible text ≡ true) }
+    ensures utf8 { IfOk result IsUtf8 }
 {
     prove_sjcl(chunk);
     let text = chunk_text(alloc, chunk)?;
@@ -146,11 +149,14 @@ fn jed_text(alloc: Global, jed: &Jed) -> Result<Bytes, AllocError>
     Ok(text)
 }
 
-/// The bytes of a sealed text of method 5. They are read back as the sealed text.
+/// The bytes of a sealed text of method 5. They are read back as the sealed text, and each is a letter of ASCII that
+/// can be seen, so that they can stand in a line.
 pub fn write_jed(alloc: Global, jed: &Jed) -> Result<Bytes, AllocError>
     requires { IsJed jed.now }
     ensures text { IfOk result (λ text. text ≡ jed_text jed.now) }
     ensures reads_back { IfOk result (λ text. jed_in text ≡ Ok jed.now) }
+    ensures visible { IfOk result (λ text. are_visible text ≡ true) }
+    ensures utf8 { IfOk result IsUtf8 }
 {
     jed.key.prove_valid();
     prove_all(jed.chunks.as_slice());

@@ -97,7 +97,7 @@ AreUnits-drop (suc n) [] held = tt
 AreUnits-drop (suc n) (u ∷ units) held = AreUnits-drop n units held.1
 
 -- a list up to a place, and so many more
-take_further : (units : List ℕ) (a b : ℕ) → take (a + b) units ≡ take a units ++ take b (drop a units)
+pub take_further : (units : List ℕ) (a b : ℕ) → take (a + b) units ≡ take a units ++ take b (drop a units)
 take_further units a b =
     let whole : take a (take (a + b) units) ++ drop a (take (a + b) units) ≡ take (a + b) units = take-append-drop a (take (a + b) units) in
     sym (rw (take-take a (a + b) units (omega arith), drop-take a b units) at whole)

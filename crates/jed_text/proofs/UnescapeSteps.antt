@@ -1,6 +1,6 @@
 -- Unescaping, and what it is to escaping.
-use Rattle.std.proofs.Common.{◌≡◌, ℕ, zero, suc, ◌+◌, ◌-◌, ◌*◌, ◌/◌, ◌%◌, ◌^◌, ◌<◌, ◌≤◌, true, false, ◌==◌, nat_le, nat_lt, List, [], ◌∷◌, ◌++◌, length, drop, get_or, Some, refl, sym, ap, ◌∙◌, arith, inl, inr, append_assoc}
-use Rattle.std.specs.List.{flat_map, AllByRecursion}
+use Rattle.std.proofs.Common.{◌≡◌, ℕ, zero, suc, ◌+◌, ◌-◌, ◌*◌, ◌/◌, ◌%◌, ◌^◌, ◌<◌, ◌≤◌, Bool, true, false, ◌||◌, ◌==◌, nat_le, nat_lt, List, [], ◌∷◌, ◌++◌, length, drop, get_or, Some, refl, sym, ap, ◌∙◌, arith, inl, inr, append_assoc}
+use Rattle.std.specs.List.{flat_map, list_any, AllByRecursion}
 use Rattle.std.proofs.lemmas.Bool.{cases_lt, cases_Bool}
 use Rattle.std.proofs.lemmas.Bool.Decides.{nat_tests, eqb_tells}
 use Rattle.std.proofs.lemmas.List.{append-nil, drop_all, drop_more}
@@ -40,6 +40,19 @@ pub unescaped_further : (units before after whole : List ℕ) (n k more : ℕ) �
     → after ++ unescaped_behind more (drop (n + 1) units) ≡ whole
 unescaped_further units before after whole n k more lt held step =
     step ∙ ap (λ (us : List ℕ). before ++ unescaped_behind k us) (sym (drop_more units n 0 lt)) ∙ held
+
+-- ---- units without a per cent sign
+
+neither : (a b : Bool) → (a || b) ≡ false → (a ≡ false) × (b ≡ false)
+neither true b h = absurd (cc)
+neither false b h = (refl, h)
+
+pub unescaped-plain : (units : List ℕ) → list_any (λ u. u == 37) units ≡ false → units ≡ unescaped_units units
+unfolding unescaped_behind
+unescaped-plain [] none = refl
+unescaped-plain (u ∷ units) none =
+    let parts = neither (u == 37) (list_any (λ u. u == 37) units) none in
+    rw parts.0 (ap (λ (us : List ℕ). u ∷ us) (unescaped-plain units parts.1))
 
 -- ---- what is escaped is unescaped
 

@@ -33,8 +33,9 @@ fn escape_unit(out: &mut Vec<u8>, unit: u16) -> Result<(), AllocError>
     Ok(())
 }
 
+/// JavaScript's `escape`, of units of UTF-16 in one piece.
 #[tactic(auto, using(crate::proofs::EscapeSteps::escaped_step), unfolding(crate::specs::Escape::escaped_units))]
-pub(crate) fn escape_units(alloc: Global, units: &[u16]) -> Result<Bytes, AllocError>
+pub fn escape_units(alloc: Global, units: &[u16]) -> Result<Bytes, AllocError>
     ensures { IfOk result (λ bytes. bytes ≡ escaped_units units.now) }
 {
     let mut out = Vec::new(alloc);

@@ -9,7 +9,7 @@ mod laws;
 mod unescaping;
 mod units;
 
-pub use escaping::escape;
+pub use escaping::{escape, escape_units};
 pub use hexadecimal::{four_digits, two_digits};
 pub use laws::{joins_what_is_cut, spells_its_units, unescapes_what_is_escaped};
 pub use unescaping::{unescape, unescape_units};

@@ -73,7 +73,11 @@ fn unescape_one(
 pub fn unescape_units(alloc: Global, units: &[u16]) -> Result<Vec<u16>, AllocError>
     ensures { IfOk result (λ out. out.items ≡ unescaped_units units.now) }
 {
-    let mut out = Vec::new(alloc);
+    if !units.contains(&37) {
+        let plain = Vec::from_slice(alloc, units)?;
+        return Ok(plain);
+    }
+    let mut out = Vec::with_capacity(alloc, units.len())?;
     let mut skipped = 0;
     for n in 0..units.len() {
         let more = unescape_one(&mut out, skipped, units[n], &units[n + 1..])?;

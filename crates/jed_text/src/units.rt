@@ -1,4 +1,4 @@
-ghost use Rattle.std.specs.Prelude.{◌≡◌, IfOk};
+ghost use Rattle.std.specs.Prelude.{◌≡◌, IfOk, length};
 ghost use Rattle.jed_text.specs.Units.{units_of, units_in, text_of};
 
 use jop_base::Text;
@@ -9,7 +9,11 @@ use std::alloc::{AllocError, Global};
 pub fn units_of(alloc: Global, text: &str) -> Result<Vec<u16>, AllocError>
     ensures { IfOk result (λ units. units.items ≡ units_of text.now) }
 {
-    let mut units = Vec::new(alloc);
+    if text.is_ascii() {
+        let units = widened(alloc, text.as_bytes())?;
+        return Ok(units);
+    }
+    let mut units = Vec::with_capacity(alloc, text.len())?;
     for letter in text.chars() {
         let mut pair = [0; 2];
         units.extend_from_slice(letter.encode_utf16(&mut pair))?;
@@ -33,13 +37,21 @@ pub(crate) fn units_in(alloc: Global, bytes: &[u8]) -> Result<Vec<u16>, AllocErr
     }
 }
 
+/// Puts each byte where a unit is.
+fn widen(units: &mut [u16], bytes: &[u8])
+    requires { length units.old ≡ length bytes.now }
+    ensures { units.new ≡ bytes.now }
+{
+    for n in 0..bytes.len() {
+        units[n] = u16::from(bytes[n]);
+    }
+}
+
 fn widened(alloc: Global, bytes: &[u8]) -> Result<Vec<u16>, AllocError>
     ensures { IfOk result (λ units. units.items ≡ bytes.now) }
 {
-    let mut units = Vec::new(alloc);
-    for byte in bytes {
-        units.push(u16::from(*byte))?;
-    }
+    let mut units = vec![in alloc; 0u16; bytes.len()]?;
+    widen(&mut units, bytes);
     Ok(units)
 }
 

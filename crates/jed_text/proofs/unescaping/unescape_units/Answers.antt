@@ -1,8 +1,12 @@
-use Rattle.std.proofs.Common.{◌≡◌, ◌+◌, ◌-◌, List, ℕ, length, take, drop, arith}
+use Rattle.std.proofs.Common.{◌≡◌, ◌+◌, ◌-◌, List, ℕ, length, take, drop, sym, ◌∙◌, arith}
 use Rattle.std.proofs.lemmas.List.{take_rest}
 use Rattle.jed_text.specs.Escape.{unescaped_behind}
-use Rattle.jed_text.proofs.UnescapeSteps.{unescaped_end, unescaped_further}
+use Rattle.jed_text.proofs.UnescapeSteps.{unescaped_end, unescaped_further, unescaped-plain}
 use Rattle.jed_text.proofs.unescaping.unescape_units.Goals as goal
+
+pub returns-then-not-contains : goal.returns-then-not-contains
+returns-then-not-contains c =
+    c.in_ok-plain.ensures.items ∙ unescaped-plain c.args.units.now (sym c.contains.ensures.value ∙ c.if-not-contains.true)
 
 pub loop-n-preserved : goal.loop-n-preserved
 loop-n-preserved c =

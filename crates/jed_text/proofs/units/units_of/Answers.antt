@@ -4,7 +4,13 @@ use Rattle.std.proofs.lemmas.Iterator.Consumers.{YieldsList-end}
 use Rattle.std.specs.Char.Escape.{encode_utf16}
 use Rattle.std.specs.List.{flat_map}
 use Rattle.jed_text.specs.Units.{units_of}
+use Rattle.jed_text.proofs.Ascii.{units_of-IsAscii}
 use Rattle.jed_text.proofs.units.units_of.Goals as goal
+
+pub returns-then-is_ascii : goal.returns-then-is_ascii
+returns-then-is_ascii c =
+    let low = rw c.if-is_ascii.true at c.is_ascii.ensures in
+    c.in_ok-units.ensures ∙ c.as_bytes.ensures.value ∙ sym (units_of-IsAscii c.args.text.now low.cases)
 
 pub returns : goal.returns
 unfolding units_of

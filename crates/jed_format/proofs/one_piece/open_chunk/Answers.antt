@@ -3,7 +3,7 @@ use Rattle.std.proofs.lemmas.Bool.{false≢true}
 use Rattle.aes_ccm.specs.Ccm.{ciphered}
 use Rattle.aes_ccm.specs.declared.ccm_err.CcmErr.TheVariants.{BadParams, BadTag}
 use Rattle.jed_format.proofs.Sealing.{cut_of, cut_good, written_back, length-plain, opened_right, opened_wrong}
-use Rattle.jed_format.proofs.open_chunk.open_chunk.Goals as goal
+use Rattle.jed_format.proofs.one_piece.open_chunk.Goals as goal
 
 pub unreachable-requires : goal.unreachable-requires
 unreachable-requires c =

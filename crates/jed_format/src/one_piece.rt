@@ -48,7 +48,7 @@ fn key_of(chunk: &SjclChunk, password: &[u8]) -> Aes
 
 /// The piece that is sealed. None if its tag isn't right under the password.
 #[tactic(auto, unfolding(crate::specs::Opening::opened_piece))]
-pub(crate) fn open_chunk(
+pub fn open_chunk(
     alloc: Global,
     chunk: &SjclChunk,
     password: &[u8],

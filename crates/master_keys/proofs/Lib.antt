@@ -1,0 +1,9 @@
+pub mod Visible
+pub mod Pairs
+pub mod Framed
+pub mod Opened
+pub mod Found
+pub mod Causes
+pub mod Locked
+pub mod Ciphers
+pub mod BlobsOpened
