@@ -1,5 +1,5 @@
 # Completes the words of jop in bash: its commands and their options, behind check, sync and upgrade the targets, `mem:`, `dir:` with a
-# folder and `dav:`, and files behind attach, --profile and a redirection.
+# folder, `dav:` and `webdav:`, and files behind attach, --profile and a redirection.
 # shellcheck shell=bash
 
 # Offers those of the words that begin with $1.
@@ -41,9 +41,9 @@ _jop_targets() {
     fi
     case $target in
         dir:*) _jop_folders "$target" "${target%"$word"}" ;;
-        dav:*) ;;
+        dav:* | webdav:*) ;;
         *)
-            _jop_words "$word" mem: dir: dav:
+            _jop_words "$word" mem: dir: dav: webdav:
             [ "${COMPREPLY[*]}" = mem: ] || compopt -o nospace 2>/dev/null
             ;;
     esac
@@ -64,7 +64,7 @@ _jop() {
     case $((COMP_CWORD - first)) in
         -1) _jop_files "$word" ;;
         0)
-            _jop_words "$word" add attach cat check conflicts edit find help ls mkbook move rename resources rm sync tag tags tidy trash untag upgrade version
+            _jop_words "$word" add attach blob cat check conflicts edit find help keys ls mkbook move rename resources rm sync tag tags tidy trash untag upgrade version
             [[ $first -ne 1 || $word != -* ]] || _jop_words "$word" --profile
             ;;
         *) _jop_behind "$first" "$word" ;;
@@ -76,8 +76,10 @@ _jop() {
 _jop_behind() {
     case ${COMP_WORDS[$1]}$((COMP_CWORD - $1)) in
         attach1) _jop_files "$2" ;;
+        blob2) _jop_words "$2" --password ;;
         conflicts1) _jop_words "$2" --clear --show ;;
         edit2) _jop_words "$2" --title ;;
+        keys1) _jop_words "$2" --new --use ;;
         ls1) _jop_words "$2" --tag ;;
         mkbook2) _jop_words "$2" --in ;;
         check* | sync* | upgrade*) _jop_targets "$2" $(($1 + 1)) ;;

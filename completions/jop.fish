@@ -20,8 +20,8 @@ function __jop_targets
         for folder in (__fish_complete_directories (string sub -s 5 -- $word) folder)
             echo dir:$folder
         end
-    else if not string match -q 'dav:*' -- $word
-        printf '%s\n' mem: dir: dav:
+    else if not string match -q -r '^(web)?dav:' -- $word
+        printf '%s\n' mem: dir: dav: webdav:
     end
 end
 
@@ -29,12 +29,14 @@ complete -c jop -f
 complete -c jop -n 'test (count (commandline -opc)) -eq 1' -l profile -r -F -d 'the file of the tables'
 complete -c jop -n '__jop_at 0' -a add -d 'make a note in a notebook, of standard input'
 complete -c jop -n '__jop_at 0' -a attach -d 'make a resource of standard input'
+complete -c jop -n '__jop_at 0' -a blob -d 'print the bytes of a resource'
 complete -c jop -n '__jop_at 0' -a cat -d 'print the text of an item'
 complete -c jop -n '__jop_at 0' -a check -d 'take a sync lock on a target, and release it'
 complete -c jop -n '__jop_at 0' -a conflicts -d 'list the texts that a sync has put aside'
 complete -c jop -n '__jop_at 0' -a edit -d 'give a note standard input as its text'
 complete -c jop -n '__jop_at 0' -a find -d 'list the notes that have a text'
 complete -c jop -n '__jop_at 0' -a help -d 'print the usage line'
+complete -c jop -n '__jop_at 0' -a keys -d 'list the master keys'
 complete -c jop -n '__jop_at 0' -a ls -d 'list the notebooks, or the notes of one'
 complete -c jop -n '__jop_at 0' -a mkbook -d 'make a notebook'
 complete -c jop -n '__jop_at 0' -a move -d 'put a note or a notebook into a notebook'
@@ -52,7 +54,10 @@ complete -c jop -n '__jop_at 0' -a version -d 'print the version of the program'
 complete -c jop -n '__jop_at 1 attach' -F
 complete -c jop -n '__jop_at 1 conflicts' -l clear -d 'take out one of them'
 complete -c jop -n '__jop_at 1 conflicts' -l show -d 'print one of them'
+complete -c jop -n '__jop_at 1 keys' -l new -d 'make one under a password'
+complete -c jop -n '__jop_at 1 keys' -l use -d 'make one active'
 complete -c jop -n '__jop_at 1 ls' -l tag -d 'the notes of a tag'
+complete -c jop -n '__jop_at 2 blob' -l password -d 'the password of its key'
 complete -c jop -n '__jop_at 2 edit' -l title -d 'another title, beside the text'
 complete -c jop -n '__jop_at 2 mkbook' -l in -d 'in this notebook'
 complete -c jop -n '__jop_at 1 check sync upgrade' -a '(__jop_targets)'

@@ -1,12 +1,14 @@
 """Days of two clients over a server, for `tests/dav`.
 
-    days.py PROGRAM STAND FOLDER alike | midway | late | long
+    days.py PROGRAM STAND FOLDER alike | closing | midway | late | long
 
 STAND is the server `tool_dav_stand`. The first client has a notebook, notes and a resource, which both then have. Then both change one note,
 and each removes one; where one sync alone is looked at, each adds one too, and the first attaches a file.
 
     alike    over servers that are quick, that answer late, and whose clock runs fast, all comes to what it comes to over a folder, with a
              resource of 5 MB
+    closing  over servers that close the connection behind each answer, behind every tenth and behind every hundredth, all comes to what it
+             comes to over a folder, with more notes, so that a day has more than a hundred calls
     midway   at each call of a sync in turn the server ends: before the call is made, amid the request, before the response and amid it
     late     at each call of a sync in turn the answer comes later than a client waits for it
     long     a file, a blob and a listing are announced that are longer than a client keeps
@@ -91,11 +93,14 @@ def world(folder, *tables):
     return [Client(f"{folder}/{os.path.basename(it)}") for it in tables]
 
 
-def begin(folder, size):
-    """The tables with which the days begin, with a resource of so many bytes, and the ids of the notebook and notes that both will have."""
+def begin(folder, size, more=0):
+    """The tables with which the days begin, with a resource of so many bytes and so many notes more, and the ids of the notebook and the
+    notes that both will have."""
     os.makedirs(folder)
     first = Client(f"{folder}/first.sqlite")
     book = first.run("mkbook", "Home")
+    for number in range(more):
+        first.run("add", book, f"Note {number}", given=b"text")
     notes = [first.run("add", book, title, given=title.encode()) for title in ("Milk", "Lost", "Gone")]
     first.run("attach", "photo.png", "image/png", given=os.urandom(size))
     return (first.tables, f"{folder}/second.sqlite"), book, notes
@@ -174,12 +179,13 @@ class Stand:
 
 class Relay(threading.Thread):
     """Hands what clients ask on to a server, and its answers back, and keeps what was asked. `way`, if there is one, is taken at the call
-    of number `nth`, counted from 1. Each answer is so many seconds late."""
+    of number `nth`, counted from 1. Each answer is so many seconds late. Behind each answer to a call whose number `every` divides, it says
+    that it closes the connection, and does."""
 
-    def __init__(self, port, way=None, nth=0, late=0.0):
+    def __init__(self, port, way=None, nth=0, late=0.0, every=0):
         super().__init__(daemon=True)
-        self.port, self.way, self.nth, self.late = port, way, nth, late
-        self.asked = []
+        self.port, self.way, self.nth, self.late, self.every = port, way, nth, late, every
+        self.asked, self.closed = [], 0
         self.listener = socket.create_server(("127.0.0.1", 0))
         self.target = f"dav:http://127.0.0.1:{self.listener.getsockname()[1]}/"
         self.start()
@@ -202,7 +208,17 @@ class Relay(threading.Thread):
                 _, response, told = read_message(server, told)
                 if self.late:
                     time.sleep(self.late)
+                if self.every and len(self.asked) % self.every == 0:
+                    self.closed += 1
+                    peer.sendall(closing_head(response))
+                    return
                 peer.sendall(response)
+
+
+def closing_head(response):
+    """The same response, which says that the connection is closed behind it."""
+    line, rest = response.split(b"\r\n", 1)
+    return line + b"\r\nConnection: close\r\n" + rest
 
 
 def halves(message):
@@ -273,6 +289,27 @@ def alike():
             if got != wanted:
                 fail(f"{name}: {got}\nover a folder: {wanted}")
             print(f"note: {len(wanted[3])} files, {len(relay.asked)} calls")
+
+
+# ------------------------------------------------------------------------------------------------------------- closing
+
+
+def closing():
+    tables, book, notes = begin(f"{FOLDER}/begin", 5_000, 60)
+    root = f"{FOLDER}/target"
+    os.makedirs(root)
+    wanted = days(f"{FOLDER}/folder", tables, book, notes, f"dir:{root}", lambda: files_in(root))
+    told = []
+    for every in (1, 10, 100):
+        with Stand() as stand:
+            relay = Relay(stand.port, every=every)
+            got = days(f"{FOLDER}/every {every}", tables, book, notes, relay.target, stand.files)
+            if got != wanted:
+                fail(f"every {every}: {got}\nover a folder: {wanted}")
+            if relay.closed < 2:
+                fail(f"every {every}: closed {relay.closed} times in {len(relay.asked)} calls")
+            told.append(f"{relay.closed} times in {len(relay.asked)} calls")
+    print(f"note: closed {', '.join(told)}")
 
 
 # ------------------------------------------------------------------------------------------------------- one sync again
@@ -387,4 +424,4 @@ def long():
     print("note: an item, a blob and listings")
 
 
-{"alike": alike, "midway": midway, "late": late, "long": long}[sys.argv[4]]()
+{"alike": alike, "closing": closing, "midway": midway, "late": late, "long": long}[sys.argv[4]]()

@@ -87,6 +87,7 @@ UNLISTED = {
     "falling": lambda body: response(b"207 Multi-Status", listing(LOCKS[::-1])),
     "twice": lambda body: response(b"207 Multi-Status", listing(LOCKS[:1] * 2)),
     "long-body": lambda body: response(b"207 Multi-Status", b"y" * 16_777_216),
+    "head-alone": lambda body: response(b"207 Multi-Status", length=b"Content-Length: %d\r\n" % len(body)),
 }
 
 

@@ -6,7 +6,7 @@ use std::alloc::{AllocError, Global};
 use url::{ParseError, Url};
 
 /// The port of `http` (RFC 9110, 4.2.1).
-const HTTP_PORT: u16 = 80;
+pub(crate) const HTTP_PORT: u16 = 80;
 
 /// The `host:port` of the server that a word names, if the word is a URL of the scheme `http` with the path `/`, and
 /// without credentials, query or fragment. It is read as browsers read one (the URL Standard): a scheme and a host in
@@ -57,7 +57,7 @@ fn is_server(url: &Url) -> bool
         && url.fragment().is_none()
 }
 
-fn address_text(alloc: Global, host: &str, port: u16) -> Result<Text, AllocError>
+pub(crate) fn address_text(alloc: Global, host: &str, port: u16) -> Result<Text, AllocError>
     ensures { IfOk result (λ text. text ≡ host.now ++ (codes ":" ++ decimal port)) }
 {
     let mut text = Text::of(alloc, host)?;

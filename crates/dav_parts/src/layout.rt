@@ -40,8 +40,9 @@ pub(crate) fn entry_close() -> &'static [u8]
       <d:status>HTTP/1.1 200 OK</d:status></d:propstat></d:response>\n"
 }
 
+/// The last line of the body that lists a folder.
 #[tactic(auto, unfolding(crate::specs::Multistatus::ending))]
-pub(crate) fn ending() -> &'static [u8]
+pub fn ending() -> &'static [u8]
     ensures { result.now ≡ ending }
 {
     b"</d:multistatus>\n"

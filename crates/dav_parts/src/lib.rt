@@ -2,7 +2,8 @@
 //! and the body that lists a folder. Each is written and read exactly.
 //!
 //! Begin with [`write_multistatus`] and [`read_multistatus`], and with `specs/Multistatus.antt`,
-//! the layout of that body. Dates are those of `httpdate`, and a head's fields those that
+//! the layout of that body. [`after_folder`], [`line_at`], [`follows`] and [`ending`] are its parts,
+//! for one who reads it line by line. Dates are those of `httpdate`, and a head's fields those that
 //! `httparse` finds.
 #![tactic(auto)]
 
@@ -20,7 +21,8 @@ pub use date::{date_of, read_moment};
 pub use decimal::append_decimal;
 pub use field::{FieldValue, field_value, has_value};
 pub use laws::{a_target_names_one_thing, a_written_listing_is_read};
+pub use layout::ending;
 pub use method::Method;
-pub use multistatus_reader::read_multistatus;
+pub use multistatus_reader::{after_folder, follows, line_at, read_multistatus};
 pub use multistatus_writer::write_multistatus;
 pub use target::{dir_target, path_target, put_limit, read_dir, read_path};

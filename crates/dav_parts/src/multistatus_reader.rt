@@ -109,8 +109,9 @@ fn file_at(dir: Dir, text: &[u8]) -> Option<(Entry, &[u8])>
     }
 }
 
-/// The file of a line, and what comes after the line.
-fn line_at(dir: Dir, text: &[u8]) -> Option<(Entry, &[u8])>
+/// The file of the line that a text begins with, and what comes after the line. None if it doesn't
+/// begin with a file's line.
+pub fn line_at(dir: Dir, text: &[u8]) -> Option<(Entry, &[u8])>
     ensures some { IfSome result (λ cut. IsLineOf dir cut.0 text.now cut.1.now) }
     ensures none { IfNone result
         ((entry : Entry) (rest : List ℕ) → ¬ (IsLineOf dir entry text.now rest)) }
@@ -122,7 +123,7 @@ fn line_at(dir: Dir, text: &[u8]) -> Option<(Entry, &[u8])>
 }
 
 /// Whether a file comes after the one before it, in the order of paths.
-fn follows(before: &Option<Entry>, entry: &Entry) -> bool
+pub fn follows(before: &Option<Entry>, entry: &Entry) -> bool
     ensures { IsTrue result ↔ ComesAfter before.now entry.now }
 {
     match before {
@@ -154,8 +155,8 @@ fn lines_at(alloc: Global, dir: Dir, text: &[u8]) -> Result<Option<Seq<Entry>>, 
     Ok(Some(entries))
 }
 
-/// What comes after the lines of the folder itself.
-fn after_folder(dir: Dir, text: &[u8]) -> Option<&[u8]>
+/// What comes after the lines of the folder itself. None if a text doesn't begin with them.
+pub fn after_folder(dir: Dir, text: &[u8]) -> Option<&[u8]>
     ensures some { IfSome result (λ rest. text.now ≡ folder_lines dir rest.now) }
     ensures none { IfNone result ((rest : List ℕ) → ¬ (text.now ≡ folder_lines dir rest)) }
 {

@@ -103,7 +103,7 @@ module _ (front rest : List ℕ) (head : ResponseHead) (tail : List ℕ)
   head_text = ap (take (length (print_response head))) begins.reads.1
       ∙ take_at (print_response head) tail (length (print_response head)) refl
 
-  open_within : length front < length (print_response head) → IsUnfinished front
+  pub open_within : length front < length (print_response head) → IsUnfinished front
   open_within short = record {
     none = λ other left reads.
         let same = response_prefix_free front rest other head left tail reads begins.reads in
@@ -128,7 +128,7 @@ module _ (front rest : List ℕ) (head : ResponseHead) (tail : List ℕ)
     short = omega (arith, begins.short);
   }
 
-  head_within : length (print_response head) ≤ length front
+  pub head_within : length (print_response head) ≤ length front
       → BeginsWith front head (drop (length (print_response head)) front)
   head_within long = record {
     reads = (

@@ -6,3 +6,4 @@ pub mod ResponseReading
 pub mod ResponseTexts
 pub mod ResponseBack
 pub mod TargetStages
+pub mod HeadReading

@@ -12,7 +12,7 @@ use jop_target::{BLOB_LIMIT, Call};
 
 /// What the head of a response tells of what follows it.
 #[derive(Clone, Copy, Debug, PartialEq, Eq)]
-pub(crate) enum Frame {
+pub enum Frame {
     /// That the response is none to this call.
     Unreadable,
     /// That the file is longer than its limit, by its length in bytes.

@@ -6,7 +6,7 @@ use jop_target::{Call, limit_of};
 
 /// What the status of a response means.
 #[derive(Clone, Copy, Debug, PartialEq, Eq)]
-pub(crate) enum Outcome {
+pub enum Outcome {
     Listing(Dir),
     /// A file, and its limit in bytes.
     Content(u64),

@@ -1,4 +1,4 @@
-ghost use Rattle.std.specs.Prelude.{◌≡◌, ◌++◌, IfOk, OnOk};
+ghost use Rattle.std.specs.Prelude.{◌≡◌, ◌++◌, ℕ, List, IfOk, OnOk, take, drop};
 ghost use Rattle.dav_parts.specs.Targets.{method_of, target_of};
 ghost use Rattle.dav_wire.specs.Requests.{body_of, depth_line, start_line, host_line, length_lines, request_text};
 
@@ -6,6 +6,9 @@ use dav_parts::{Method, append_decimal, dir_target, path_target};
 use jop_base::{Bytes, Path, Text};
 use jop_target::Call;
 use std::alloc::{AllocError, Global};
+
+/// How many bytes of a body are written with its head.
+const FIRST_LIMIT: usize = 65_536;
 
 /// The method by which a call is sent.
 fn method_of(call: &Call) -> Method
@@ -90,6 +93,18 @@ pub(crate) fn append_length(alloc: Global, text: &mut Bytes, count: u64) -> Resu
     Ok(())
 }
 
+/// The head of a request whose body has so many bytes.
+fn request_head(alloc: Global, host: &Text, call: &Call, count: u64) -> Result<Bytes, AllocError>
+    ensures { IfOk result (λ text. (rest : List ℕ) → text ++ rest ≡ start_line call.now
+        ++ (host_line host.now ++ (depth_line call.now ++ (length_lines count ++ rest)))) }
+{
+    let mut text = start_line(alloc, call)?;
+    append_host(&mut text, host)?;
+    text.append(depth_line(call))?;
+    append_length(alloc, &mut text, count)?;
+    Ok(text)
+}
+
 /// The request by which a call is sent to a host, as `host:port`. `blob` has the bytes of a blob that is put.
 #[tactic(auto, unfolding(crate::specs::Requests::request_text))]
 pub fn write_request(
@@ -101,10 +116,41 @@ pub fn write_request(
     ensures { IfOk result (λ text. text ≡ request_text host.now call.now blob.now) }
 {
     let body = body_of(call, blob);
-    let mut text = start_line(alloc, call)?;
-    append_host(&mut text, host)?;
-    text.append(depth_line(call))?;
-    append_length(alloc, &mut text, body.len() as u64)?;
+    let mut text = request_head(alloc, host, call, body.len() as u64)?;
     text.append(body)?;
     Ok(text)
+}
+
+/// The first bytes of a body, and those behind them.
+fn split_body(body: &[u8]) -> (&[u8], &[u8])
+    ensures first { result.0.now ≡ take FIRST_LIMIT body.now }
+    ensures rest { result.1.now ≡ drop FIRST_LIMIT body.now }
+{
+    if body.len() < FIRST_LIMIT {
+        body.split_at(body.len())
+    } else {
+        body.split_at(FIRST_LIMIT)
+    }
+}
+
+/// The request by which a call is sent to a host, as `host:port`, in two parts: its head with the
+/// first 65,536 bytes of its body, and the rest of the body, of which no copy is made. So one part
+/// alone is short, or there is one part. `blob` has the bytes of a blob that is put.
+#[tactic(auto, unfolding(crate::specs::Requests::request_text))]
+pub fn split_request<'a>(
+    alloc: Global,
+    host: &Text,
+    call: &'a Call,
+    blob: &'a Bytes,
+) -> Result<(Bytes, &'a [u8]), AllocError>
+    ensures whole { IfOk result
+        (λ parts. parts.0 ++ parts.1.now ≡ request_text host.now call.now blob.now) }
+    ensures rest { IfOk result
+        (λ parts. parts.1.now ≡ drop FIRST_LIMIT (body_of call.now blob.now)) }
+{
+    let body = body_of(call, blob);
+    let mut text = request_head(alloc, host, call, body.len() as u64)?;
+    let (first, rest) = split_body(body);
+    text.append(first)?;
+    Ok((text, rest))
 }

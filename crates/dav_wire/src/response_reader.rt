@@ -1,16 +1,11 @@
-ghost use Rattle.std.specs.Prelude.{◌≡◌, ◌+◌, ◌<◌, ◌≤◌, ◌^◌, ℕ, IfOk, IfSome, IfNone, MatchOption, length, map, take, All};
-ghost use Rattle.httparse.specs.Grammar.{status_code};
-ghost use Rattle.httparse.specs.Spans.{IsHeaderWithin, IsResponseWithin, IsResponseOf, ResponseExceeds, header_bytes};
+ghost use Rattle.std.specs.Prelude.{◌+◌, ◌<◌, ◌^◌, IfOk, MatchOption, length};
 ghost use Rattle.dav_wire.specs.declared.frame.Frame.TheVariants.{Body};
-ghost use Rattle.dav_wire.specs.ResponseReading.{IsReplyOf, IsNoReply, ResponseReadsAs, ResponseHeadReadsAs, ResponseBodyReadsAs};
+ghost use Rattle.dav_wire.specs.ResponseReading.{IsReplyOf, IsNoReply, ResponseReadsAs, ResponseBodyReadsAs};
 
-use crate::frame::{Frame, frame_of};
-use crate::limits::{FIELD_LIMIT, FIELD_ROOM, HEAD_LIMIT, head_part};
+use crate::frame::Frame;
+use crate::head_reader::{ReadHead, read_head};
 use crate::outcome::Outcome;
-use crate::request_reader::is_crowded;
 use dav_parts::read_multistatus;
-use httparse::Status;
-use httparse::spans::{EMPTY_HEADER_SPAN, HeaderSpan, ResponseSpans, parse_response};
 use jop_base::{Bytes, Dir};
 use jop_target::{Call, Listing, Reply};
 use std::alloc::{AllocError, Global};
@@ -125,73 +120,6 @@ fn read_told(
     }
 }
 
-/// Reads on after a whole head.
-fn read_after_head(
-    alloc: Global,
-    call: &Call,
-    bytes: &[u8],
-    part: &[u8],
-    head: &ResponseSpans,
-    room: &[HeaderSpan],
-) -> Result<ReadResponse, AllocError>
-    requires part { part.now ≡ take HEAD_LIMIT bytes.now }
-    requires within { IsResponseWithin part.now room.now head.now }
-    requires whole { IsResponseOf part.now room.now head.now }
-    requires fits { head.now.len ≤ length bytes.now }
-    ensures { IfOk result (ResponseHeadReadsAs call.now bytes.now) }
-{
-    let fields = &room[..head.headers];
-    let frame = frame_of(call, head.code, part, fields);
-    let rest = &bytes[head.len..];
-    let read = read_body(alloc, frame, rest, head.len)?;
-    Ok(read)
-}
-
-/// Reads with room for so many fields. None if there are more.
-fn read_in(
-    alloc: Global,
-    call: &Call,
-    bytes: &[u8],
-    room: &mut [HeaderSpan],
-) -> Result<Option<ReadResponse>, AllocError>
-    ensures { IfOk result (λ read. MatchOption read
-        (ResponseExceeds (length room.old) (take HEAD_LIMIT bytes.now))
-        (ResponseReadsAs call.now bytes.now)) }
-{
-    let part = head_part(bytes);
-    match parse_response(part, room) {
-        Ok(Status::Complete(head)) => {
-            let read = read_after_head(alloc, call, bytes, part, &head, room)?;
-            Ok(Some(read))
-        }
-        Ok(Status::Partial) => {
-            if bytes.len() < HEAD_LIMIT {
-                Ok(Some(ReadResponse::More))
-            } else {
-                Ok(Some(ReadResponse::Bad))
-            }
-        }
-        Err(error) => {
-            if is_crowded(error) {
-                Ok(None)
-            } else {
-                Ok(Some(ReadResponse::Bad))
-            }
-        }
-    }
-}
-
-/// Reads with room for as many fields as a head can have.
-fn read_crowded(alloc: Global, call: &Call, bytes: &[u8]) -> Result<ReadResponse, AllocError>
-    ensures { IfOk result (ResponseReadsAs call.now bytes.now) }
-{
-    let mut room = vec![in alloc; EMPTY_HEADER_SPAN; FIELD_ROOM]?;
-    match read_in(alloc, call, bytes, room.as_mut_slice())? {
-        Some(read) => Ok(read),
-        None => unreachable!(),
-    }
-}
-
 /// The response to a call that the bytes begin with. `Bad` comes for what is no head of HTTP/1.1,
 /// for a head of more than 16,384 bytes or 128 fields, for a status that answers no such call, for
 /// a `Transfer-Encoding`, unless there is exactly one `Date`, which is readable, and, but for 204,
@@ -201,12 +129,12 @@ fn read_crowded(alloc: Global, call: &Call, bytes: &[u8]) -> Result<ReadResponse
 pub fn read_response(alloc: Global, call: &Call, bytes: &[u8]) -> Result<ReadResponse, AllocError>
     ensures { IfOk result (ResponseReadsAs call.now bytes.now) }
 {
-    let mut room = [EMPTY_HEADER_SPAN; FIELD_LIMIT];
-    match read_in(alloc, call, bytes, &mut room)? {
-        Some(read) => Ok(read),
-        None => {
-            let read = read_crowded(alloc, call, bytes)?;
+    match read_head(alloc, call, bytes)? {
+        ReadHead::Whole { frame, len, .. } => {
+            let read = read_body(alloc, frame, &bytes[len..], len)?;
             Ok(read)
         }
+        ReadHead::More => Ok(ReadResponse::More),
+        ReadHead::Bad => Ok(ReadResponse::Bad),
     }
 }

@@ -22,7 +22,7 @@ use Rattle.dav_link.specs.declared.error.LinkErr.TheVariants.{Fault, NoMemory, T
 use Rattle.dav_link.proofs.LinkLaws.{HasReadBytes-append}
 use Rattle.http_exchange.specs.Answers.{BeginsWithAnswer, HasInterim, PassesInterims}
 use Rattle.http_exchange.specs.Causes.{FailsAnswer, FailsBody, FailsHead}
-use Rattle.http_exchange.specs.Steps.{AwaitsCarried, AwaitsFinal, AwaitsOneHead, HasCarried, HasReceived, PassesHeads, ReceivesAnswer, TakesFinal, TakesInterim}
+use Rattle.http_exchange.specs.Steps.{AwaitsCarried, AwaitsFinal, AwaitsOneHead, GivesAnswer, HasCarried, PassesHeads, ReceivesAnswer, TakesFinal, TakesInterim, is_longer_than}
 use Rattle.http_exchange.specs.declared.told.Told.{Told}
 use Rattle.http_exchange.proofs.Interims.{accepts_more, answerless_behind, goes_on, interim_is_low, never_behind, never_so_many, passes_more, passes_one}
 
@@ -34,14 +34,14 @@ pub one_answer : (old mid new : LinkNow) (c d : Client) (bytes unread carried : 
     → mid.faults ≡ old.faults → PassesHeads c bytes told d unread
     → ((framing : Framing) → d.reading ≡ Reads.Body (decoder_for d.limits framing)
     → HasCarried d.limits framing mid unread carried new last × (length carried ≤ limit))
-    → HasReceived c.limits old (record { told = told; body = carried; ready = ready }) new
+    → GivesAnswer c.limits old limit (record { told = told; body = carried; ready = ready }) new
     × (length carried ≤ limit)
 one_answer old mid new c d bytes unread carried told ready limit last goes read stays h within =
     let t = h.takes in
     let both = within t.framing
     (t.reading ∙ ap (λ (l : Limits). Reads.Body (decoder_for l t.framing)) (sym t.limits)) in
     let b = both.0 in (
-      record {
+      inl (record {
         bytes = bytes ++ b.bytes;
         read = HasReadBytes-append old mid new bytes b.bytes read b.read;
         stays = b.stays ∙ stays;
@@ -68,8 +68,37 @@ one_answer old mid new c d bytes unread carried told ready limit last goes read 
           λ is. let p = goes.0 is in (p.0, b.alone ∙ p.1),
           λ p. goes.1 (p.0, sym b.alone ∙ p.1),
         );
-      },
+      }),
       both.1,
+    )
+
+-- an answer whose length is past the limit
+pub one_length : (old mid : LinkNow) (c d : Client) (bytes unread body : List ℕ) (told : Told)
+    (limit : ℕ) → HasReadBytes old bytes mid → mid.faults ≡ old.faults
+    → PassesHeads c bytes told d unread → is_longer_than told.length limit ≡ true → body ≡ []
+    → GivesAnswer c.limits old limit (record { told = told; body = body; ready = false }) mid
+    × (length body ≤ limit)
+one_length old mid c d bytes unread body told limit read stays h past none =
+    let t = h.takes in (
+      inr (record {
+        bytes = bytes;
+        read = read;
+        stays = stays;
+        heads = h.heads;
+        few = h.few;
+        behind = h.behind;
+        passes = h.passes;
+        head = t.head;
+        framing = t.framing;
+        after = unread;
+        accepts = t.accepts;
+        final = t.final;
+        tells = t.tells;
+        past = past;
+        none = none;
+        closed = refl;
+      }),
+      subst (λ (l : List ℕ). length l ≤ limit) (sym none) (omega arith),
     )
 
 -- ---- no answer

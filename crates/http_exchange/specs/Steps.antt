@@ -1,5 +1,5 @@
 -- What each step of reading an answer comes to.
-use Rattle.std.specs.Prelude.{ℕ, ◌≡◌, ◌↔◌, IsTrue, ◌≤◌, ◌<◌, true, false, List, [], ◌++◌, length, Option, Some, None, Result, Ok, Err, nat_lt}
+use Rattle.std.specs.Prelude.{ℕ, ◌≡◌, ◌↔◌, ◌⊎◌, Bool, IsTrue, ◌≤◌, ◌<◌, true, false, List, [], ◌++◌, length, Option, Some, None, Result, Ok, Err, nat_lt}
 use Rattle.httparse.specs.Grammar.{Field, ResponseHead, status_code}
 use Rattle.http1.specs.declared.client.Client.{Client}
 use Rattle.http1.specs.declared.conn.Limits.{Limits}
@@ -186,10 +186,41 @@ pub record HasReceived (limits : Limits) (old : LinkNow) (received : Received) (
   pub body : received.body ≡ response.body.bytes
   pub goes_on : IsTrue received.ready ↔ ((received.told.lasting ≡ true) × (rest ≡ []))
 
+-- whether a length is past a limit
+abbrev pub is_longer_than : Option ℕ → ℕ → Bool
+is_longer_than (Some length) limit = nat_lt limit length
+is_longer_than None limit = false
+
+-- The bytes that were read begin with heads of 1xx and with the head of a response, which tells this, and whose body has
+-- a length past the limit. That isn't waited for.
+pub record HasHeardLength (limits : Limits) (old : LinkNow) (limit : ℕ) (received : Received)
+    (new : LinkNow) : Type 0 where
+  pub bytes : List ℕ
+  pub read : HasReadBytes old bytes new
+  pub stays : new.faults ≡ old.faults
+  pub heads : List ResponseHead
+  pub few : length heads ≤ 16
+  pub behind : List ℕ
+  pub passes : PassesInterims limits heads bytes behind
+  pub head : ResponseHead
+  pub framing : Framing
+  pub after : List ℕ
+  pub accepts : AcceptsResponse limits Method.Other behind head framing after
+  pub final : nat_lt (status_code head) 200 ≡ false
+  pub tells : received.told ≡ told_in head
+  pub past : is_longer_than received.told.length limit ≡ true
+  pub none : received.body ≡ []
+  pub closed : received.ready ≡ false
+
+-- the answer came, or its length was told, which is past the limit
+abbrev pub GivesAnswer : Limits → LinkNow → ℕ → Received → LinkNow → Type 0
+GivesAnswer limits old limit received new =
+    HasReceived limits old received new ⊎ HasHeardLength limits old limit received new
+
 -- waiting for the answer
 abbrev pub ReceivesAnswer : Limits → LinkNow → ℕ → ℕ → Result Received LinkErr → LinkNow → Type 0
 ReceivesAnswer limits old limit most (Ok received) new =
-    HasReceived limits old received new × (length received.body ≤ limit)
+    GivesAnswer limits old limit received new × (length received.body ≤ limit)
 ReceivesAnswer limits old limit most (Err Fault) new = FailsAnswer limits old limit most new
 ReceivesAnswer limits old limit most (Err NoMemory) new = Unit {0}
 ReceivesAnswer limits old limit most (Err TooLong) new = ⊥

@@ -8,7 +8,7 @@ use Rattle.dav_link.specs.Links.{LinkNow, sink_of}
 use Rattle.dav_link.specs.declared.error.LinkErr.{LinkErr}
 use Rattle.dav_link.specs.declared.error.LinkErr.TheVariants.{Fault, NoMemory, TooLong}
 use Rattle.http_exchange.specs.Causes.{FailsAnswer}
-use Rattle.http_exchange.specs.Steps.{HasReceived}
+use Rattle.http_exchange.specs.Steps.{GivesAnswer}
 use Rattle.http_exchange.specs.Texts.{IsUnwritable, exchange_text}
 use Rattle.http_exchange.specs.declared.receiving.Received.{Received}
 
@@ -21,13 +21,13 @@ exchange_limits = record {
 }
 
 -- a request of this text was written whole, and then its answer came
-pub record HasExchanged (text : List ℕ) (old : LinkNow) (received : Received) (new : LinkNow)
-    : Type 0 where
+pub record HasExchanged (text : List ℕ) (old : LinkNow) (limit : ℕ) (received : Received)
+    (new : LinkNow) : Type 0 where
   pub mid : LinkNow
   pub left : mid.left ≡ old.left
   pub opened : mid.opened ≡ old.opened
   pub written : Appends old.written text mid.written
-  pub answer : HasReceived exchange_limits mid received new
+  pub answer : GivesAnswer exchange_limits mid limit received new
 
 -- a request of this text was written whole, and then no answer came
 pub record HasAskedInVain (text : List ℕ) (old : LinkNow) (limit most : ℕ) (new : LinkNow)
@@ -43,7 +43,7 @@ pub record HasAskedInVain (text : List ℕ) (old : LinkNow) (limit most : ℕ) (
 abbrev pub ExchangesOnce : List ℕ → List ℕ → List Header → List ℕ → LinkNow → ℕ → ℕ
     → Result Received LinkErr → LinkNow → Type 0
 ExchangesOnce method target headers body old limit most (Ok received) new =
-    HasExchanged (exchange_text (new_client exchange_limits) method target headers body) old
+    HasExchanged (exchange_text (new_client exchange_limits) method target headers body) old limit
     received new
     × (length received.body ≤ limit)
 ExchangesOnce method target headers body old limit most (Err Fault) new =

@@ -2,9 +2,11 @@
 //! [`jop_start::run_named`] is handed.
 #![tactic(auto)]
 
+mod password;
 mod watchers;
 mod words;
 
+use crate::password::read_password;
 use crate::watchers::watchers;
 use crate::words::read_words;
 use jop_host::{ReaderSource, SystemClock, SystemEntropy, WriterSink};
@@ -32,7 +34,7 @@ fn start(rt: &HostRuntime) -> Result<u8, StartErr> {
     run_named(
         rt.alloc(),
         &words,
-        &mut SystemOpener::new(*rt, watchers(rt)),
+        &mut SystemOpener::new(*rt, watchers(rt), read_password(rt)?),
         &mut streams,
     )
 }

@@ -5,20 +5,22 @@ use std::alloc::AllocError;
 use std::env::{self, Args, VarError};
 use std::io::ErrorKind;
 
-/// The words that are read: the arguments, with the profile and the target that the environment names
-/// where they lack it. Where one of these isn't UTF-8 there are no words, which mean nothing.
+/// The words that are read: the arguments, with the profile, the target and the password that the
+/// environment names where they lack it. Where one of these isn't UTF-8 there are no words, which mean
+/// nothing.
 pub fn read_words(rt: &HostRuntime) -> Result<Words, AllocError> {
     let words = read_args(rt)?;
-    let (Some(profile), Some(target)) = (
+    let (Some(profile), Some(target), Some(password)) = (
         read_variable(rt, "JOP_PROFILE")?,
         read_variable(rt, "JOP_TARGET")?,
+        read_variable(rt, "JOP_PASSWORD")?,
     ) else {
         return Ok(Words {
             list: Seq::new(rt.alloc()),
         });
     };
     Ok(Words {
-        list: full_words(rt.alloc(), words.list.as_slice(), profile, target)?,
+        list: full_words(rt.alloc(), words.list.as_slice(), profile, target, password)?,
     })
 }
 

@@ -6,6 +6,7 @@ mod DueEmptied
 pub mod Whole
 mod Heard
 mod Licensed
+mod Keyed
 mod Local
 pub mod Opened
 mod OwnLicences

@@ -4,7 +4,7 @@ use Rattle.std.proofs.Common.{Bool, true, false, Option, Some, None, Result, Ok,
 use Rattle.std.specs.Prelude.{option_map}
 use Rattle.std.proofs.lemmas.List.Elements.{All-nil, All-cons}
 use Rattle.client.specs.Outside.{OutsideNow}
-use Rattle.jop_cli.proofs.Runs.{Comes, completes, unfailed_uncalled, uses_changes}
+use Rattle.jop_cli.proofs.Runs.{Comes, unfailed_uncalled, uses_changes}
 use Rattle.jop_cli.specs.Causes.{IsExplained, NothingHinders}
 use Rattle.jop_cli.specs.Commands.Local.{DoesLocally, local_outcome}
 use Rattle.jop_cli.specs.Commands.Sessions.{IsChange, IsUncalled}
@@ -55,11 +55,11 @@ explained_refusal command before after ClockFault runs heard = runs.risen
 explained_refusal command before after EntropyFault runs heard =
     drawn_fault (plan_of command).draws before.entropy after.entropy runs.fails
 explained_refusal command before after (NotFound id) runs heard =
-    record { command = command; is = refl; runs = runs }
+    inl (record { command = command; is = refl; runs = runs })
 explained_refusal command before after (NotOne count) runs heard =
-    record { command = command; is = refl; runs = runs }
+    inl (record { command = command; is = refl; runs = runs })
 explained_refusal command before after (Sealed id) runs heard =
-    record { command = command; is = refl; runs = runs }
+    inl (record { command = command; is = refl; runs = runs })
 explained_refusal command before after (TimeEnd id) runs heard =
     record { command = command; is = refl; runs = runs }
 explained_refusal command before after (NotEmpty id) runs heard =
@@ -102,7 +102,7 @@ early_local NoMemory = refl
 
 -- ---- what is written down
 
-numbers_uncalled : (from : ℕ) (made : List Change) → IsUncalled (trail_of from made)
+pub numbers_uncalled : (from : ℕ) (made : List Change) → IsUncalled (trail_of from made)
 numbers_uncalled from [] = All-nil IsChange
 numbers_uncalled from (change ∷ made) =
     All-cons IsChange (Made from) (trail_of (from + 1) made) tt (numbers_uncalled (from + 1) made)
@@ -143,11 +143,11 @@ kept_by_changes : (made : List Change) (kept : Option Kept) →
 kept_by_changes made None = refl
 kept_by_changes made (Some kept) = ap (λ (k : Kept). Some k) (kept_changes made kept)
 
-only_changes : (made : List Change) → changes_among (map MakeChange made) ≡ made
+pub only_changes : (made : List Change) → changes_among (map MakeChange made) ≡ made
 only_changes [] = refl
 only_changes (change ∷ made) = ap (λ (others : List Change). change ∷ others) (only_changes made)
 
-keeps_changes : (before after : KeeperNow) (made changes : List Change) → made ≡ changes →
+pub keeps_changes : (before after : KeeperNow) (made changes : List Change) → made ≡ changes →
     after.kept ≡ option_map (kept_after_all (map MakeChange changes)) before.kept →
     KeepsChanges false before made after
 keeps_changes before after made changes is kept =
@@ -249,7 +249,7 @@ by_answer command before mid out (Err error) status fresh is runs emits =
     (subst (λ (s : Status). may_be_late s ≡ false) emits.0 is) runs
 
 -- what is printed saves nothing
-unsaved_still : (before mid : OutsideNow) (out : SinkNow) → IsFreshAndUnsaved before mid →
+pub unsaved_still : (before mid : OutsideNow) (out : SinkNow) → IsFreshAndUnsaved before mid →
     IsFreshAndUnsaved before (record mid { out = out })
 unsaved_still before mid out h = record {
   same = h.same;
@@ -306,7 +306,8 @@ well_told (Err error) a b status (inr memory) unfailed emits =
     let same : error ≡ NoMemory = cc memory in
     inr (emits.0 ∙ ap local_status same)
 
-obeyed_well : (command : LocalCommand) (before after : OutsideNow) (status : Status) →
+-- a command that nothing hinders goes well, unless memory runs out
+pub obeyed_well : (command : LocalCommand) (before after : OutsideNow) (status : Status) →
     AnswersWords (Some (Local command)) before status after →
     NothingHinders (Some (Local command)) before after →
     (status ≡ statuses.Ok) ⊎ (status ≡ statuses.NoMemory)
@@ -319,12 +320,3 @@ obeyed_well command before after status (inr obeys) free =
     (goes_well command before obeys.mid local.answer local.runs unhindered)
     (subst (λ (o : SinkNow). ¬ HasRisen o.faults after.out.faults) (sym obeys.quiet) free.1)
     (subst (λ (o : Outcome). Emits o obeys.mid.out status after.out) local.is obeys.emits.emits)
-
--- a command that nothing hinders goes well, unless memory runs out
-pub complete_of : (verb : Option Verb) (before after : OutsideNow) (status : Status) →
-    IsExplained verb before status after → AnswersWords verb before status after →
-    NothingHinders verb before after → (status ≡ statuses.Ok) ⊎ (status ≡ statuses.NoMemory)
-complete_of (Some (Local command)) before after status explained answers free =
-    obeyed_well command before after status answers free
-complete_of verb before after status explained answers free =
-    completes verb before after status explained free

@@ -25,8 +25,9 @@ use Rattle.jop_target.specs.Trail.{LineNow}
 use Rattle.jop_target.specs.declared.event.Event.{Event}
 use Rattle.jop_target.specs.declared.event.Event.TheVariants.{Began, Called, Ended, Made, Sent}
 use Rattle.jop_words.specs.declared.verb.Verb.{Verb}
-use Rattle.jop_words.specs.declared.verb.Verb.TheVariants.{Local, Tidy}
+use Rattle.jop_words.specs.declared.verb.Verb.TheVariants.{Keys, Local, Tidy}
 use Rattle.keeper.specs.Keepers.{KeeperNow, Kept}
+use Rattle.key_commands.specs.declared.key_command.KeyCommand.{KeyCommand}
 use Rattle.law_kept.specs.Trails.{KeepsNotes}
 use Rattle.law_licences.specs.Deeds.{deeds_of}
 use Rattle.law_licences.specs.Licences.{Each, ObeysData}
@@ -437,10 +438,12 @@ pub does_of : (verb : Option Verb) (before after : OutsideNow) (status : Status)
     ((bytes : List ℕ) → verb ≡ Some Tidy → before.input.left ≡ Some bytes → TidiesTold bytes status) →
     ((command : LocalCommand) → verb ≡ Some (Local command) → may_be_late status ≡ false →
     IsFreshAndUnsaved before after) →
+    ((command : KeyCommand) → verb ≡ Some (Keys command) → may_be_late status ≡ false →
+    IsFreshAndUnsaved before after) →
     ((client : List ℕ) (s : Sealing) (t : Tables) (trail : List Event) (made : List Change) →
     ObeysData (at_rest s t) (deeds_of trail made) → KeepsNotes client t trail made) →
     Acts verb before status after → RunsAsPromised verb before status after
-does_of verb before after status complete due key emptied exact unsaved joined h = record {
+does_of verb before after status complete due key emptied exact unsaved keys_unsaved joined h = record {
   answers = h.answers;
   explained = h.explained;
   complete = complete;
@@ -449,6 +452,7 @@ does_of verb before after status complete due key emptied exact unsaved joined h
   emptied = emptied;
   exact = exact;
   unsaved = unsaved;
+  keys_unsaved = keys_unsaved;
   sessions = h.sessions;
   tables = h.tables;
   notes = λ k told.

@@ -34,6 +34,11 @@ use Rattle.local_commands.specs.declared.command.LocalCommand.{LocalCommand}
 use Rattle.local_commands.specs.declared.local_err.LocalErr.{LocalErr}
 use Rattle.local_commands.specs.declared.local_err.LocalErr.TheVariants.{NotFound, NotOne, Sealed, TimeEnd, TooLarge, NoConflict, NotEmpty, NotText, BelowItself}
 use Rattle.keeper.specs.Keepers.{IsOfKept, KeeperNow}
+use Rattle.key_commands.specs.Hindering.{IsKeyUnhindered}
+use Rattle.key_commands.specs.Running.{RunsKeys}
+use Rattle.key_commands.specs.declared.key_command.KeyCommand.{KeyCommand}
+use Rattle.key_commands.specs.declared.keys_err.KeysErr.{KeysErr}
+use Rattle.key_commands.specs.declared.keys_err.KeysErr.TheVariants as keys_errors
 use Rattle.local_store.specs.declared.tables.Tables.{Tables}
 use Rattle.session_opening.specs.Opening.{IsOldVersion}
 use Rattle.sync_info.specs.Json.{info_text}
@@ -71,6 +76,13 @@ pub record IsRefusedLocally (verb : Option Verb) (before : OutsideNow) (refusal 
   pub command : LocalCommand
   pub is : verb ≡ Some (verbs.Local command)
   pub runs : Runs (plan_of command) before (Err refusal) after
+
+-- the command is one on master keys, and is refused so
+pub record IsRefusedByKeys (verb : Option Verb) (before : OutsideNow) (refusal : KeysErr)
+    (after : OutsideNow) : Type 0 where
+  pub command : KeyCommand
+  pub is : verb ≡ Some (verbs.Keys command)
+  pub runs : RunsKeys command before (Err refusal) after
 
 -- ---- the end of a session
 
@@ -218,10 +230,13 @@ IsExplained verb before statuses.EntropyFault after =
     HasRisen before.entropy.faults after.entropy.faults
 IsExplained verb before (statuses.NotFound id) after =
     IsRefusedLocally verb before (NotFound id) after
+    ⊎ IsRefusedByKeys verb before (keys_errors.NotFound id) after
 IsExplained verb before (statuses.NotOne count) after =
     IsRefusedLocally verb before (NotOne count) after
+    ⊎ IsRefusedByKeys verb before (keys_errors.NotOne count) after
 IsExplained verb before (statuses.Sealed id) after =
     IsRefusedLocally verb before (Sealed id) after
+    ⊎ IsRefusedByKeys verb before (keys_errors.Sealed id) after
 IsExplained verb before (statuses.TimeEnd id) after =
     IsRefusedLocally verb before (TimeEnd id) after
 IsExplained verb before (statuses.TooLarge number) after =
@@ -238,15 +253,21 @@ IsExplained verb before statuses.NotText after =
     IsRefusedLocally verb before NotText after
 IsExplained verb before (statuses.BelowItself id) after =
     IsRefusedLocally verb before (BelowItself id) after
+IsExplained verb before (statuses.BadPassword key) after =
+    IsRefusedByKeys verb before (keys_errors.BadPassword key) after
+IsExplained verb before (statuses.NoKey key) after =
+    IsRefusedByKeys verb before (keys_errors.NoKey key) after
 
 -- no refusal has its cause
 abbrev pub IsUnexplained : Option Verb → OutsideNow → OutsideNow → Type 0
 IsUnexplained verb before after =
     (status : Status) → is_refusal status ≡ true → ¬ IsExplained verb before status after
 
--- Nothing hinders a command. One on the tables: by what keeper and input tell, and no count of
+-- Nothing hinders a command. One on the tables or on keys: by what keeper and input tell, and no count of
 -- faults rises, that of the output neither. Any other: no refusal has its cause.
 abbrev pub NothingHinders : Option Verb → OutsideNow → OutsideNow → Type 0
 NothingHinders (Some (verbs.Local command)) before after =
     IsUnhindered (plan_of command) before after × ¬ HasRisen before.out.faults after.out.faults
+NothingHinders (Some (verbs.Keys command)) before after =
+    IsKeyUnhindered command before after × ¬ HasRisen before.out.faults after.out.faults
 NothingHinders verb before after = IsUnexplained verb before after

@@ -2,6 +2,7 @@
 pub mod Sessions
 pub mod Check
 pub mod Constants
+pub mod Keys
 pub mod Local
 pub mod Sync
 pub mod Tidy
@@ -11,6 +12,7 @@ use Rattle.std.specs.Prelude.{Option, Some, None, Ok, option_map}
 use Rattle.jop_status.specs.Outcomes.{Outcome}
 use Rattle.jop_base.specs.declared.lock_name.LockKind.{LockKind}
 use Rattle.jop_base.specs.declared.lock_name.LockKind.TheVariants as kinds
+use Rattle.key_commands.specs.Commands.{asks_clock, draws_bytes}
 use Rattle.local_commands.specs.Commands.{plan_of}
 use Rattle.local_commands.specs.Sparing.{draws_ids, intake_limit}
 use Rattle.local_commands.specs.declared.command.LocalCommand.{LocalCommand}
@@ -19,6 +21,7 @@ use Rattle.jop_words.specs.declared.verb.Verb.{Verb}
 use Rattle.jop_words.specs.declared.verb.Verb.TheVariants as verbs
 use Rattle.jop_cli.specs.Commands.Check.{Checks}
 use Rattle.jop_cli.specs.Commands.Constants.{PrintsConstant, constant_of}
+use Rattle.jop_cli.specs.Commands.Keys.{DoesKeys}
 use Rattle.jop_cli.specs.Commands.Local.{DoesLocally}
 use Rattle.jop_cli.specs.Commands.Sessions.{NamedSession}
 use Rattle.jop_cli.specs.Commands.Sync.{SyncsAsNamed}
@@ -64,6 +67,11 @@ abbrev pub uses : Verb → Uses
 uses (verbs.Check target client) =
     record nothing { session = Some (record { kind = kinds.Sync; client = Some client }) }
 uses verbs.Tidy = record nothing { input = Some TIDY_LIMIT }
+uses (verbs.Keys command) = record nothing {
+  tables = uses_tables (verbs.Keys command);
+  clock = asks_clock command;
+  random = draws_bytes command;
+}
 uses (verbs.Local command) = uses_locally command
 uses (verbs.Sync target) = record nothing {
   session = Some (record { kind = kinds.Sync; client = None });
@@ -89,6 +97,7 @@ used (Some verb) = uses verb
 abbrev pub ComesTo : Verb → OutsideNow → Outcome → OutsideNow → Type 0
 ComesTo (verbs.Check target client) before outcome after = Checks client before outcome after
 ComesTo verbs.Tidy before outcome after = Tidies before outcome after
+ComesTo (verbs.Keys command) before outcome after = DoesKeys command before outcome after
 ComesTo (verbs.Local command) before outcome after = DoesLocally command before outcome after
 ComesTo (verbs.Sync target) before outcome after = SyncsAsNamed before outcome after
 ComesTo (verbs.Upgrade target) before outcome after = UpgradesAsNamed before outcome after

@@ -23,6 +23,7 @@ use Rattle.local_commands.specs.Sparing.{SparesClock, SparesInput, SparesRandom}
 use Rattle.local_commands.specs.declared.command.LocalCommand.{LocalCommand}
 use Rattle.local_store.specs.Changing.{after_all}
 use Rattle.keeper.specs.Keepers.{KeeperNow, Kept}
+use Rattle.key_commands.specs.declared.key_command.KeyCommand.{KeyCommand}
 use Rattle.local_store.specs.declared.change.Change.{Change}
 use Rattle.local_store.specs.declared.tables.Tables.{Tables}
 use Rattle.jop_cli.specs.Causes.{IsExplained, NothingHinders}
@@ -251,6 +252,9 @@ pub record RunsAsPromised (verb : Option Verb) (before : OutsideNow) (status : S
   -- a command on the tables that is refused before it saves anything leaves them and the bytes of
   -- resources as they were
   pub unsaved : (command : LocalCommand) → verb ≡ Some (verbs.Local command) →
+      may_be_late status ≡ false → IsFreshAndUnsaved before after
+  -- so does one on master keys
+  pub keys_unsaved : (command : KeyCommand) → verb ≡ Some (verbs.Keys command) →
       may_be_late status ≡ false → IsFreshAndUnsaved before after
   -- its session keeps its lease, in every history of all clients
   pub sessions : Sessions (used verb).session after.keeper after.line.trail status

@@ -2,6 +2,7 @@
 
 mod check;
 mod constant;
+mod keys;
 mod local;
 mod sync;
 mod tidy;
@@ -29,6 +30,7 @@ pub(crate) fn obey<W: World>(alloc: Global, world: &mut W, verb: Verb) -> Status
     match verb {
         Verb::Check { target: _, client } => check::obey(alloc, world, &client),
         Verb::Help => constant::obey(world, USAGE_LINE),
+        Verb::Keys(command) => keys::obey(alloc, world, command),
         Verb::Local(command) => local::obey(alloc, world, command),
         Verb::Sync { target: _ } => sync::obey(alloc, world),
         Verb::Tidy => tidy::obey(alloc, world),

@@ -3,15 +3,17 @@ ghost use Rattle.jop_cli.specs.Commands.Sync.{report_text};
 ghost use Rattle.client.specs.Outside.{AreKeptTables};
 ghost use Rattle.jop_cli.specs.Worlds.{EmitsTo, RanCheck, RanSync, RanUpgrade};
 ghost use Rattle.jop_status.specs.Pieces.{pieces_text};
+ghost use Rattle.key_commands.specs.Running.{RunsKeys};
 
 use crate::report::emit_report;
 use client::{Around, Outside};
 use conflicts::SyncReport;
-use jop_base::ClientId;
+use jop_base::{Bytes, ClientId};
 use jop_outside::{Clock, Entropy, Sink, Source};
 use jop_status::{Piece, Status, emit, emit_three};
 use jop_target::Target;
 use keeper::Keeper;
+use key_commands::{KeyCommand, KeysErr};
 use local_store::Tables;
 use std::alloc::Global;
 use sync_run::{SessionErr, check_on, upgrade_on};
@@ -38,6 +40,11 @@ pub(crate) trait World: Outside {
     ) -> Result<SyncReport, SyncErr>
         requires { AreKeptTables (Self.now self.old).keeper tables.old }
         ensures syncs { RanSync client.now tables.old (Self.now self.old) result (Self.now self.new) }
+        ensures stays { Self.place self.new ≡ Self.place self.old };
+
+    /// Does a command on master keys, and answers the text that it prints.
+    fn obey_keys(&mut self, alloc: Global, command: KeyCommand) -> Result<Bytes, KeysErr>
+        ensures runs { RunsKeys command (Self.now self.old) result (Self.now self.new) }
         ensures stays { Self.place self.new ≡ Self.place self.old };
 
     /// Prints pieces in a row.
@@ -84,6 +91,10 @@ impl<'a, 'b, 'c, K: Keeper, T: Target, I: Source, O: Sink, C: Clock, N: Entropy>
             &mut *self.diary,
             &mut *self.made,
         )
+    }
+
+    fn obey_keys(&mut self, alloc: Global, command: KeyCommand) -> Result<Bytes, KeysErr> {
+        key_commands::obey(alloc, self, command)
     }
 
     fn emit(&mut self, pieces: &[Piece]) -> Status {

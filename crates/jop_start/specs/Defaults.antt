@@ -1,5 +1,5 @@
--- The words that are read where the environment names a profile and a target.
-use Rattle.std.specs.Prelude.{ℕ, List, [], ◌∷◌, codes, bytes_eq, Bool, false, ◌||◌, if◌then◌else◌, Option, Some, None}
+-- The words that are read where the environment names a profile, a target and a password.
+use Rattle.std.specs.Prelude.{ℕ, List, [], ◌∷◌, ◌++◌, codes, bytes_eq, Bool, false, ◌||◌, ◌&&◌, if◌then◌else◌, Option, Some, None}
 
 -- the command has a target, and stands without it; `check` has a client behind that
 abbrev pub lacks_target : List ℕ → List (List ℕ) → Bool
@@ -19,9 +19,27 @@ abbrev pub begun_by : Option (List ℕ) → List (List ℕ) → List (List ℕ)
 begun_by None words = words
 begun_by (Some path) words = codes "--profile" ∷ path ∷ words
 
--- A profile that is typed counts, and so does a target.
-abbrev pub full_words : Option (List ℕ) → Option (List ℕ) → List (List ℕ) → List (List ℕ)
-full_words profile target (option ∷ path ∷ words) =
-    if bytes_eq option (codes "--profile") then begun_by (Some path) (with_target target words)
-    else begun_by profile (with_target target (option ∷ path ∷ words))
-full_words profile target words = begun_by profile (with_target target words)
+-- the words of a password behind these two: of `blob` and an id, and of `keys --new`
+abbrev pub password_words : List ℕ → List ℕ → List ℕ → List (List ℕ)
+password_words command word password =
+    if bytes_eq command (codes "blob") then codes "--password" ∷ password ∷ []
+    else if bytes_eq command (codes "keys") && bytes_eq word (codes "--new") then password ∷ []
+    else []
+
+-- the same behind the words of a command, where there is a password
+abbrev pub password_behind : Option (List ℕ) → List (List ℕ) → List (List ℕ)
+password_behind None words = []
+password_behind (Some password) (command ∷ word ∷ []) = password_words command word password
+password_behind (Some password) words = []
+
+-- the words of a command, with the target and the password that are left out
+abbrev pub completed : Option (List ℕ) → Option (List ℕ) → List (List ℕ) → List (List ℕ)
+completed target password words = with_target target words ++ password_behind password words
+
+-- A profile that is typed counts, and so do a target and a password.
+abbrev pub full_words : Option (List ℕ) → Option (List ℕ) → Option (List ℕ) → List (List ℕ)
+    → List (List ℕ)
+full_words profile target password (option ∷ path ∷ words) =
+    if bytes_eq option (codes "--profile") then begun_by (Some path) (completed target password words)
+    else begun_by profile (completed target password (option ∷ path ∷ words))
+full_words profile target password words = begun_by profile (completed target password words)

@@ -1,13 +1,14 @@
 -- What is open while a run goes on, and what is known of it when it was just made.
-use Rattle.std.specs.Prelude.{◌≡◌, [], Bool, true, false, Some, None}
+use Rattle.std.specs.Prelude.{◌≡◌, ℕ, List, [], Bool, true, false, Option, Some, None}
 use Rattle.jop_target.specs.Memory.{memory_at}
 use Rattle.jop_target.specs.Replies.{TargetNow}
 use Rattle.jop_words.specs.declared.profile.Profile.{Profile}
 use Rattle.jop_words.specs.declared.profile.Profile.TheVariants.{Memory, File}
 use Rattle.jop_words.specs.declared.target_name.TargetKind.{TargetKind}
-use Rattle.jop_words.specs.declared.target_name.TargetKind.TheVariants.{Mem, Dir, Dav}
+use Rattle.jop_words.specs.declared.target_name.TargetKind.TheVariants.{Mem, Dir, Dav, WebDav}
 use Rattle.keeper.specs.Keepers.{KeeperNow}
 use Rattle.local_store.specs.Tables.{new_tables}
+use Rattle.webdav_calls.specs.Sites.{basic_credentials}
 
 -- ---- what is open
 
@@ -46,6 +47,12 @@ abbrev pub new_target : TargetKind → TargetNow
 new_target Mem = record { store = Some (memory_at 0 1).store; faults = 0 }
 new_target (Dir path) = record { store = None; faults = 0 }
 new_target (Dav address) = record { store = None; faults = 0 }
+new_target (WebDav name) = record { store = None; faults = 0 }
+
+-- what a server is given for a user, if there is one
+abbrev pub credentials_of : Option (List ℕ) → List ℕ → Option (List ℕ)
+credentials_of None password = None
+credentials_of (Some user) password = Some (basic_credentials user password)
 
 -- a keeper of this profile and a target of this kind were open at first, which were just made
 abbrev pub OpensNew : Profile → TargetKind → OpenNow → OpenNow → Type 0

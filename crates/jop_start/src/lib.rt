@@ -18,7 +18,7 @@ mod work;
 
 pub use defaults::full_words;
 pub use opener::Opener;
-pub use server::server_target;
+pub use server::{known_site, server_target, site_target};
 pub use start_err::StartErr;
 pub use starting::run_named;
 pub use streams::Streams;

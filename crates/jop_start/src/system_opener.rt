@@ -2,10 +2,11 @@ ghost use Rattle.std.specs.Prelude.{◌≡◌, Err, IfOk, OnErr, true};
 ghost use Rattle.jop_start.specs.Opening.{OpensOn, OpensNew, WhileOpen, is_folder_kind, new_target};
 
 use crate::opener::Opener;
-use crate::server::server_target;
+use crate::server::{server_target, site_target};
 use crate::start_err::StartErr;
 use crate::work::Work;
 use client::draw_id;
+use jop_base::Text;
 use jop_host::SystemEntropy;
 use jop_target::{MemTarget, Target};
 use jop_watch::{Waiting, WatchedKeeper, WatchedTarget, Watcher};
@@ -24,11 +25,18 @@ use target_files::FolderTarget;
 pub struct SystemOpener<V: Watcher> {
     rt: HostRuntime,
     watcher: V,
+    /// That of the user whom the URL of a target names.
+    password: Text,
 }
 
 impl<V: Watcher> SystemOpener<V> {
-    pub fn new(rt: HostRuntime, watcher: V) -> SystemOpener<V> {
-        SystemOpener { rt, watcher }
+    /// The password is sent to the server of a target whose URL names a user, and to no other.
+    pub fn new(rt: HostRuntime, watcher: V, password: Text) -> SystemOpener<V> {
+        SystemOpener {
+            rt,
+            watcher,
+            password,
+        }
     }
 
     /// Opens a target of this kind, and has the work done on it and on this keeper.
@@ -61,6 +69,13 @@ impl<V: Watcher> SystemOpener<V> {
             }
             TargetKind::Dav(address) => {
                 let target: Box<dyn Target> = Box::new(alloc, server_target(&self.rt, address)?)?;
+                Ok(lend(alloc, keeper, target, &mut self.watcher, work))
+            }
+            TargetKind::WebDav(name) => {
+                let target: Box<dyn Target> = Box::new(
+                    alloc,
+                    site_target(&self.rt, name, &self.password)?,
+                )?;
                 Ok(lend(alloc, keeper, target, &mut self.watcher, work))
             }
         }

@@ -1,4 +1,6 @@
 -- The refusals of what commands stand on, each as a status.
+use Rattle.key_commands.specs.declared.keys_err.KeysErr.{KeysErr}
+use Rattle.key_commands.specs.declared.keys_err.KeysErr.TheVariants as keys_errors
 use Rattle.local_commands.specs.declared.local_err.LocalErr.{LocalErr}
 use Rattle.local_commands.specs.declared.local_err.LocalErr.TheVariants as local_errors
 use Rattle.client.specs.declared.own_err.OwnErr.{OwnErr}
@@ -38,3 +40,15 @@ local_status (local_errors.NoConflict number) = statuses.NoConflict number
 local_status (local_errors.TooLarge len) = statuses.TooLarge len
 local_status local_errors.NotText = statuses.NotText
 local_status local_errors.NoMemory = statuses.NoMemory
+
+-- why a command on master keys ended otherwise than well
+abbrev pub keys_status : KeysErr → Status
+keys_status keys_errors.KeeperFault = statuses.KeeperFault
+keys_status keys_errors.ClockFault = statuses.ClockFault
+keys_status keys_errors.EntropyFault = statuses.EntropyFault
+keys_status (keys_errors.NotFound id) = statuses.NotFound id
+keys_status (keys_errors.NotOne count) = statuses.NotOne count
+keys_status (keys_errors.Sealed id) = statuses.Sealed id
+keys_status (keys_errors.BadPassword key) = statuses.BadPassword key
+keys_status (keys_errors.NoKey key) = statuses.NoKey key
+keys_status keys_errors.NoMemory = statuses.NoMemory

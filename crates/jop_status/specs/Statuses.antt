@@ -85,6 +85,9 @@ row_of (statuses.NoConflict number) =
 row_of (statuses.NotEmpty id) = row 24 (line_of (codes "not empty " ++ id))
 row_of statuses.NotText = row 25 (line_of (codes "input is not text"))
 row_of (statuses.BelowItself id) = row 26 (line_of (codes "below itself " ++ id))
+row_of (statuses.BadPassword id) = row 19 (line_of (codes "bad password " ++ id))
+row_of (statuses.NoKey None) = row 20 (line_of (codes "no key"))
+row_of (statuses.NoKey (Some id)) = row 20 (line_of (codes "no key " ++ id))
 
 -- whether a status says why the words were not done
 abbrev pub is_refusal : Status → Bool

@@ -14,6 +14,7 @@ use conflicts::Refusal;
 use item_text::BadItem;
 use jop_base::Id;
 use jop_outside::{Failed, Sink};
+use key_commands::KeysErr;
 use lease::{Lock, Seen};
 use local_commands::{LocalErr, StartCount};
 use sync_run::SessionErr;
@@ -50,7 +51,7 @@ pub enum Status {
     NotFound(Id),
     /// It isn't one row whose id begins so, but none or several.
     NotOne(StartCount),
-    /// The item of this id is sealed.
+    /// The item of this id is sealed, or its bytes are and don't open.
     Sealed(Id),
     /// The note of this id was last changed at the end of time.
     TimeEnd(Id),
@@ -68,6 +69,10 @@ pub enum Status {
     NotText,
     /// The notebook of this id would come into itself, or below itself.
     BelowItself(Id),
+    /// The record of this key doesn't open under the password.
+    BadPassword(Id),
+    /// There is no password for this key, or no readable record of it.
+    NoKey(Option<Id>),
 }
 
 impl Status {
@@ -94,7 +99,9 @@ impl Status {
             Status::Sealed(_) => 16,
             Status::TimeEnd(_) => 17,
             Status::TooLarge(_) => 18,
+            Status::BadPassword(_) => 19,
             Status::Refused(Refusal::NoKey(_)) => 20,
+            Status::NoKey(_) => 20,
             Status::BadItem(_) => 21,
             Status::NoMemory => 22,
             Status::NoConflict(_) => 23,
@@ -140,6 +147,9 @@ fn write_line<E: Sink>(err: &mut E, status: &Status) -> Result<(), Failed>
         Status::NotEmpty(id) => write_id(err, "not empty ", *id),
         Status::NotText => write_word(err, "input is not text"),
         Status::BelowItself(id) => write_id(err, "below itself ", *id),
+        Status::BadPassword(id) => write_id(err, "bad password ", *id),
+        Status::NoKey(None) => write_word(err, "no key"),
+        Status::NoKey(Some(id)) => write_id(err, "no key ", *id),
     }
 }
 
@@ -213,6 +223,27 @@ impl From<LocalErr> for Status {
             LocalErr::TooLarge(len) => Status::TooLarge(len),
             LocalErr::NotText => Status::NotText,
             LocalErr::NoMemory => Status::NoMemory,
+        }
+    }
+}
+
+impl From<KeysErr> for Status {
+    ghost use Rattle.std.specs.Prelude.{◌≡◌};
+    ghost use Rattle.jop_status.specs.Refusals.{keys_status};
+
+    ghost from_gives = { λ k e. e ≡ keys_status k };
+
+    fn from(error: KeysErr) -> Status {
+        match error {
+            KeysErr::KeeperFault => Status::KeeperFault,
+            KeysErr::ClockFault => Status::ClockFault,
+            KeysErr::EntropyFault => Status::EntropyFault,
+            KeysErr::NotFound(id) => Status::NotFound(id),
+            KeysErr::NotOne(count) => Status::NotOne(count),
+            KeysErr::Sealed(id) => Status::Sealed(id),
+            KeysErr::BadPassword(key) => Status::BadPassword(key),
+            KeysErr::NoKey(key) => Status::NoKey(key),
+            KeysErr::NoMemory => Status::NoMemory,
         }
     }
 }

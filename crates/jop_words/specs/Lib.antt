@@ -1,4 +1,6 @@
 pub mod Words
+pub mod Trials
 pub mod Local
+pub mod Keys
 pub mod Verbs
 pub mod Commands

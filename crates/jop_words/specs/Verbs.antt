@@ -2,6 +2,7 @@
 use Rattle.std.specs.Prelude.{ℕ, List, [], ◌∷◌, codes, bytes_eq, Bool, true, false, if◌then◌else◌}
 use Rattle.std.specs.Prelude.{Option, Some, None, option_map}
 use Rattle.local_commands.specs.Commands.{IsWellFormed}
+use Rattle.jop_words.specs.Keys.{blob_words, keys_words}
 use Rattle.jop_words.specs.Local.{local_words}
 use Rattle.jop_words.specs.Words.{word_id, word_target}
 use Rattle.jop_words.specs.declared.target_name.TargetName.{TargetName}
@@ -48,8 +49,10 @@ upgrade_words words = None
 abbrev pub verb_of : List (List ℕ) → Option Verb
 verb_of [] = None
 verb_of (word ∷ words) =
-    if bytes_eq word (codes "check") then check_words words
+    if bytes_eq word (codes "blob") then option_map verbs.Keys (blob_words words)
+    else if bytes_eq word (codes "check") then check_words words
     else if bytes_eq word (codes "help") then verb_alone verbs.Help words
+    else if bytes_eq word (codes "keys") then option_map verbs.Keys (keys_words words)
     else if bytes_eq word (codes "sync") then sync_words words
     else if bytes_eq word (codes "tidy") then verb_alone verbs.Tidy words
     else if bytes_eq word (codes "upgrade") then upgrade_words words
@@ -67,6 +70,7 @@ target_in verb = None
 
 -- whether a command uses this machine's own tables
 abbrev pub uses_tables : Verb → Bool
+uses_tables (verbs.Keys command) = true
 uses_tables (verbs.Local command) = true
 uses_tables (verbs.Sync target) = true
 uses_tables (verbs.Upgrade target) = true

@@ -3,9 +3,10 @@ use Rattle.std.specs.Prelude.{ℕ, List, [], ◌∷◌, codes, drop, if◌then�
 use Rattle.std.specs.Prelude.{Option, Some, None, nat_eq, bytes_eq, option_map}
 use Rattle.std.specs.List.{starts_with}
 use Rattle.dav_address.specs.Addresses.{address_of}
+use Rattle.dav_address.specs.Places.{place_of}
 use Rattle.jop_base.specs.Id.{is_id}
 use Rattle.jop_words.specs.declared.target_name.TargetKind.{TargetKind}
-use Rattle.jop_words.specs.declared.target_name.TargetKind.TheVariants.{Mem, Dir, Dav}
+use Rattle.jop_words.specs.declared.target_name.TargetKind.TheVariants.{Mem, Dir, Dav, WebDav}
 use Rattle.jop_words.specs.declared.target_name.TargetName.{TargetName}
 
 -- the id that a word is
@@ -21,13 +22,23 @@ folder_of (c ∷ cs) = Some (Dir (c ∷ cs))
 abbrev pub server_of : List ℕ → Option TargetKind
 server_of url = option_map (λ address. Dav address) (address_of url)
 
--- `mem:`, `dir:` and a path that isn't empty, or `dav:` and the URL of a server
+-- the folder on a server that a URL names
+abbrev pub site_kind : List ℕ → Option TargetKind
+site_kind url = option_map (λ site. WebDav site) (place_of url)
+
+-- `dav:` and the URL of a server, or `webdav:` and that of a folder on one
+unfoldable pub remote_of : List ℕ → Option TargetKind
+remote_of word =
+    if starts_with nat_eq word (codes "dav:") then server_of (drop 4 word)
+    else if starts_with nat_eq word (codes "webdav:") then site_kind (drop 7 word)
+    else None
+
+-- `mem:`, `dir:` and a path that isn't empty, `dav:` and the URL of a server, or `webdav:` and that of a folder on one
 unfoldable pub kind_of : List ℕ → Option TargetKind
 kind_of word =
     if bytes_eq word (codes "mem:") then Some Mem
     else if starts_with nat_eq word (codes "dir:") then folder_of (drop 4 word)
-    else if starts_with nat_eq word (codes "dav:") then server_of (drop 4 word)
-    else None
+    else remote_of word
 
 -- a target and the word that names it
 abbrev pub named : List ℕ → Option TargetKind → Option TargetName

@@ -36,13 +36,15 @@ impl From<AllocError> for WordsErr {
 /// What the words mean. `Usage` exactly when they mean nothing. Accepted are, each word at its place:
 ///
 /// - `help`; `version`; `tidy`; `check TARGET CLIENT`; `sync TARGET`; `upgrade TARGET`;
+/// - `blob ID`; `blob ID --password PASSWORD`; `keys`; `keys --new PASSWORD`; `keys --use KEY`;
 /// - `add BOOK TITLE`; `attach NAME MIME`; `cat ID`; `conflicts`; `conflicts --clear N`;
 ///   `conflicts --show N`; `edit ID`; `edit ID --title TITLE`; `find TEXT`; `ls`; `ls BOOK`;
 ///   `ls --tag ID`; `mkbook TITLE`; `mkbook TITLE --in BOOK`; `move ID BOOK`; `rename ID TITLE`;
 ///   `resources`; `rm ID`; `tag ID TITLE`; `tags`; `trash`; `untag ID TAG`.
 ///
-/// TARGET is `mem:`, `dir:PATH` with a path that isn't empty, or `dav:URL` with a URL that names a
-/// server. CLIENT is an id; BOOK, ID and TAG are ids or the first 4 to 31 digits of one. TITLE, NAME and
+/// TARGET is `mem:`, `dir:PATH` with a path that isn't empty, `dav:URL` with a URL that names a
+/// server, or `webdav:URL` with one that names a folder on a server. CLIENT and KEY are ids; BOOK, ID
+/// and TAG are ids or the first 4 to 31 digits of one. PASSWORD is any text. TITLE, NAME and
 /// MIME have no line feed or carriage return, MIME has no blanks at its ends, and TEXT is any. N is 1 to
 /// 20 decimal digits, below 2^64.
 /// `--profile PATH` may stand before each.

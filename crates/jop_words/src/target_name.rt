@@ -3,6 +3,7 @@ ghost use Rattle.jop_words.specs.Commands.{target_words};
 
 use crate::command::{WordsErr, read_words};
 use crate::words::Words;
+use dav_address::SiteName;
 use jop_base::Text;
 use std::alloc::{AllocError, Global};
 
@@ -21,6 +22,8 @@ pub enum TargetKind {
     Dir(Text),
     /// `dav:URL`, a WebDAV server, by its `host:port`.
     Dav(Text),
+    /// `webdav:URL`, a folder on a WebDAV server of any make.
+    WebDav(SiteName),
 }
 
 /// The target of the words, exactly when they mean a command that has one.

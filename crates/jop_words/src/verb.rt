@@ -1,4 +1,5 @@
 ghost use Rattle.std.specs.Prelude.{◌≡◌, IfOk, IfSome, option_map};
+ghost use Rattle.jop_words.specs.Keys.{blob_words, keys_words};
 ghost use Rattle.jop_words.specs.Local.{local_words};
 ghost use Rattle.jop_words.specs.Verbs.{IsFit, check_for, check_words, sync_of, sync_words};
 ghost use Rattle.jop_words.specs.Verbs.{target_in, uses_tables};
@@ -6,10 +7,11 @@ ghost use Rattle.jop_words.specs.Verbs.{upgrade_of, upgrade_words, verb_alone, v
 ghost use Rattle.jop_words.specs.Words.{word_id, word_target};
 ghost use Rattle.jop_words.specs.declared.verb.Verb.TheVariants as verbs;
 
-use crate::local;
 use crate::target_name::TargetName;
 use crate::words::{read_id, read_target};
+use crate::{keys, local};
 use jop_base::{ClientId, Text, let_go};
+use key_commands::KeyCommand;
 use local_commands::LocalCommand;
 use std::alloc::{AllocError, Global};
 
@@ -23,6 +25,8 @@ pub enum Verb {
     },
     /// Prints how the program is called.
     Help,
+    /// Works on the master keys of this machine's tables.
+    Keys(KeyCommand),
     /// Works on this machine's own tables.
     Local(LocalCommand),
     /// Brings the tables and the target together, for the client that the tables name.
@@ -58,7 +62,7 @@ impl Verb {
     {
         matches!(
             self,
-            Verb::Local(_) | Verb::Sync { target: _ } | Verb::Upgrade { target: _ }
+            Verb::Keys(_) | Verb::Local(_) | Verb::Sync { target: _ } | Verb::Upgrade { target: _ }
         )
     }
 }
@@ -72,8 +76,10 @@ pub(crate) fn read_verb(alloc: Global, words: &[Text]) -> Result<Option<Verb>, A
         return Ok(None);
     };
     match word.as_str() {
+        "blob" => read_blob(alloc, words),
         "check" => read_check(alloc, words),
         "help" => Ok(alone(Verb::Help, words)),
+        "keys" => read_keys(alloc, words),
         "sync" => read_sync(alloc, words),
         "tidy" => Ok(alone(Verb::Tidy, words)),
         "upgrade" => read_upgrade(alloc, words),
@@ -101,6 +107,28 @@ fn read_local(alloc: Global, word: &Text, words: &[Text]) -> Result<Option<Verb>
 {
     match local::read(alloc, word, words)? {
         Some(command) => Ok(Some(Verb::Local(command))),
+        None => Ok(None),
+    }
+}
+
+/// A resource, and perhaps a password.
+fn read_blob(alloc: Global, words: &[Text]) -> Result<Option<Verb>, AllocError>
+    ensures means { IfOk result (λ verb. verb ≡ option_map verbs.Keys (blob_words words.now)) }
+    ensures fit { IfOk result (λ verb. IfSome verb IsFit) }
+{
+    match keys::read_blob(alloc, words)? {
+        Some(command) => Ok(Some(Verb::Keys(command))),
+        None => Ok(None),
+    }
+}
+
+/// Nothing, or what is to be done with master keys.
+fn read_keys(alloc: Global, words: &[Text]) -> Result<Option<Verb>, AllocError>
+    ensures means { IfOk result (λ verb. verb ≡ option_map verbs.Keys (keys_words words.now)) }
+    ensures fit { IfOk result (λ verb. IfSome verb IsFit) }
+{
+    match keys::read_keys(alloc, words)? {
+        Some(command) => Ok(Some(Verb::Keys(command))),
         None => Ok(None),
     }
 }

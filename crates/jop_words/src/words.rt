@@ -1,9 +1,9 @@
 ghost use Rattle.std.specs.Prelude.{◌≡◌, IfOk};
 ghost use Rattle.local_commands.specs.TypedIds.{typed_id};
-ghost use Rattle.jop_words.specs.Words.{folder_of, word_id, kind_of, server_of, word_target};
+ghost use Rattle.jop_words.specs.Words.{folder_of, word_id, kind_of, remote_of, server_of, site_kind, word_target};
 
 use crate::target_name::{TargetKind, TargetName};
-use dav_address::read_address;
+use dav_address::{read_address, read_site};
 use jop_base::{Copied, Id, Seq, Text};
 use local_commands::TypedId;
 use std::alloc::{AllocError, Global};
@@ -40,7 +40,8 @@ pub(crate) fn read_target(alloc: Global, word: &Text) -> Result<Option<TargetNam
     Ok(Some(TargetName { text, kind }))
 }
 
-/// `mem:`, `dir:` and a path that isn't empty, or `dav:` and the URL of a server.
+/// `mem:`, `dir:` and a path that isn't empty, `dav:` and the URL of a server, or `webdav:` and that of a folder on a
+/// server.
 #[tactic(auto, unfolding(crate::specs::Words::kind_of))]
 fn read_kind(alloc: Global, word: &str) -> Result<Option<TargetKind>, AllocError>
     ensures { IfOk result (λ kind. kind ≡ kind_of word.now) }
@@ -48,11 +49,22 @@ fn read_kind(alloc: Global, word: &str) -> Result<Option<TargetKind>, AllocError
     if word == "mem:" {
         return Ok(Some(TargetKind::Mem));
     }
-    if let Some(path) = word.strip_prefix("dir:") {
-        return read_folder(alloc, path);
+    match word.strip_prefix("dir:") {
+        Some(path) => read_folder(alloc, path),
+        None => read_remote(alloc, word),
     }
-    match word.strip_prefix("dav:") {
-        Some(url) => read_server(alloc, url),
+}
+
+/// `dav:` and the URL of a server, or `webdav:` and that of a folder on a server.
+#[tactic(auto, unfolding(crate::specs::Words::remote_of))]
+fn read_remote(alloc: Global, word: &str) -> Result<Option<TargetKind>, AllocError>
+    ensures { IfOk result (λ kind. kind ≡ remote_of word.now) }
+{
+    if let Some(url) = word.strip_prefix("dav:") {
+        return read_server(alloc, url);
+    }
+    match word.strip_prefix("webdav:") {
+        Some(url) => read_place(alloc, url),
         None => Ok(None),
     }
 }
@@ -72,6 +84,15 @@ fn read_server(alloc: Global, url: &str) -> Result<Option<TargetKind>, AllocErro
 {
     match read_address(alloc, url)? {
         Some(address) => Ok(Some(TargetKind::Dav(address))),
+        None => Ok(None),
+    }
+}
+
+fn read_place(alloc: Global, url: &str) -> Result<Option<TargetKind>, AllocError>
+    ensures { IfOk result (λ kind. kind ≡ site_kind url.now) }
+{
+    match read_site(alloc, url)? {
+        Some(site) => Ok(Some(TargetKind::WebDav(site))),
         None => Ok(None),
     }
 }

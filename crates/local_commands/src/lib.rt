@@ -36,6 +36,7 @@ pub use laws::{
     only_plans_with_bytes_save_some, refusals_leave_all_as_it_was, runs_follow_their_acts,
     tables_give_one_answer, unhindered_runs_go_well,
 };
+pub use lines::id_line;
 pub use local_err::LocalErr;
 pub use obeying::obey;
 pub use start_count::StartCount;

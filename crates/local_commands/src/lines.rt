@@ -17,7 +17,7 @@ pub(crate) fn title_of(item: &Item) -> &str
 }
 
 /// An id on a line of its own.
-pub(crate) fn id_line(alloc: Global, id: &Id) -> Result<Bytes, AllocError>
+pub fn id_line(alloc: Global, id: &Id) -> Result<Bytes, AllocError>
     ensures { IfOk result (λ line. line ≡ id_line id.now) }
 {
     let mut line = Bytes::new(alloc);

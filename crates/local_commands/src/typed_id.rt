@@ -30,7 +30,7 @@ impl TypedId {
 
     /// The id that is meant: the whole one, whether a row has it or not, or that of the one row whose id
     /// begins so. The error says how many rows' ids do, if it isn't one.
-    pub(crate) fn find(&self, tables: &Tables) -> Result<Id, StartCount>
+    pub fn find(&self, tables: &Tables) -> Result<Id, StartCount>
         ensures { result ≡ meant_id tables.now self.now }
     {
         match self {

@@ -98,7 +98,7 @@ pub replied : (host : List ℕ) (call : Call) (blob : List ℕ) (old mid new : L
     (received : Received) (after : List ℕ) → HasSent (request_text host call blob) old mid
     → HasResponse call mid.link received new.link
     → after ≡ blob_after received.reply blob received.blob
-    → new.ready ≡ is_ready received.reply received.alone
+    → new.ready ≡ is_ready received.reply received.lasts received.alone
     → HasReply host call blob old received.reply new after
 replied host call blob old mid new received after sent response left ready = record {
   bytes = response.bytes;
@@ -108,7 +108,9 @@ replied host call blob old mid new received after sent response left ready = rec
   used = response.used;
   response = response.response;
   kept = left;
-  ready = ready ∙ ap (λ (b : Bool). is_ready received.reply b) response.alone;
+  lasts = received.lasts;
+  leaves = response.lasts;
+  ready = ready ∙ ap (λ (b : Bool). is_ready received.reply received.lasts b) response.alone;
 }
 
 untold : (text : List ℕ) (call : Call) (old mid new : LinkClientNow) → HasSent text old mid

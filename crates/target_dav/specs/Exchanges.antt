@@ -1,5 +1,5 @@
 -- What a call over a link comes to.
-use Rattle.std.specs.Prelude.{ℕ, ◌≡◌, ◌⊎◌, List, ◌++◌, length, Bool, true, false, nat_eq, Result, Ok, Err}
+use Rattle.std.specs.Prelude.{ℕ, ◌≡◌, ◌⊎◌, ◌&&◌, List, ◌++◌, length, Bool, true, false, nat_eq, Result, Ok, Err}
 use Rattle.std.specs.declared.alloc.AllocError.{AllocError}
 use Rattle.jop_outside.specs.Outside.{HasRisen, risen}
 use Rattle.jop_outside.specs.Writing.{Appends}
@@ -10,6 +10,7 @@ use Rattle.jop_outside.specs.declared.failed.Failed.{Failed as LinkFailed}
 use Rattle.dav_link.specs.Links.{LinkNow, OpensAlone, TakesBytes}
 use Rattle.dav_link.specs.declared.error.LinkErr.{LinkErr}
 use Rattle.dav_link.specs.declared.error.LinkErr.TheVariants.{Fault, NoMemory, TooLong}
+use Rattle.dav_wire.specs.HeadReading.{LeavesOpen}
 use Rattle.dav_wire.specs.Requests.{request_text}
 use Rattle.dav_wire.specs.ResponseReading.{ResponseReadsAs}
 use Rattle.dav_wire.specs.declared.response_reader.ReadResponse.TheVariants.{Whole}
@@ -42,11 +43,12 @@ abbrev pub blob_after : Reply → List ℕ → List ℕ → List ℕ
 blob_after (GotBlob now len) before got = got
 blob_after reply before got = before
 
--- Whether the next call may go on with the link: not if the reply was told by the head alone, and
--- not if bytes came behind the response, which nobody asked for (RFC 9112, 9.2).
-abbrev pub is_ready : Reply → Bool → Bool
-is_ready (TooLarge len) alone = false
-is_ready reply alone = alone
+-- Whether the next call may go on with the link: not if the reply was told by the head alone, not if
+-- the server closes it behind the response, and not if bytes came behind that, which nobody asked for
+-- (RFC 9112, 9.2).
+abbrev pub is_ready : Reply → Bool → Bool → Bool
+is_ready (TooLarge len) lasts alone = false
+is_ready reply lasts alone = lasts && alone
 
 -- the request was written, and the bytes that came begin with its response, which tells this reply
 pub record HasReply (host : List ℕ) (call : Call) (blob : List ℕ) (old : LinkClientNow) (reply : Reply)
@@ -58,7 +60,9 @@ pub record HasReply (host : List ℕ) (call : Call) (blob : List ℕ) (old : Lin
   pub used : ℕ
   pub response : ResponseReadsAs call bytes (Whole reply got used)
   pub kept : after ≡ blob_after reply blob got
-  pub ready : new.ready ≡ is_ready reply (nat_eq used (length bytes))
+  pub lasts : Bool
+  pub leaves : LeavesOpen bytes lasts
+  pub ready : new.ready ≡ is_ready reply lasts (nat_eq used (length bytes))
 
 -- ---- no reply
 

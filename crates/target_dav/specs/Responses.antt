@@ -5,11 +5,15 @@ use Rattle.dav_link.specs.Links.{LinkNow, IsAtEnd}
 use Rattle.dav_link.specs.Receiving.{HasReadBytes, HasBroken, HasStarved}
 use Rattle.dav_link.specs.declared.error.LinkErr.{LinkErr}
 use Rattle.dav_link.specs.declared.error.LinkErr.TheVariants.{Fault, NoMemory, TooLong}
+use Rattle.dav_wire.specs.HeadReading.{LeavesOpen}
 use Rattle.dav_wire.specs.ResponseReading.{ResponseReadsAs, IsResponseMissing}
 use Rattle.dav_wire.specs.declared.response_reader.ReadResponse.TheVariants.{Whole, More, Bad}
 use Rattle.jop_base.specs.declared.dir.Dir.TheVariants.{Root}
 use Rattle.jop_target.specs.declared.call.Call.{Call}
 use Rattle.jop_target.specs.declared.call.Call.TheVariants as calls
+use Rattle.reply_reader.specs.Pieces.{Feeds, HasBeenTold}
+use Rattle.reply_reader.specs.declared.fed.Fed.{Fed}
+use Rattle.reply_reader.specs.declared.reply_reader.ReplyReader.{ReplyReader}
 use Rattle.target_dav.specs.declared.receiving.Received.{Received}
 
 -- the most bytes that are waited for, once its head came, of the body that answers a call: 256 MiB of a
@@ -49,6 +53,32 @@ pub record HasResponse (call : Call) (old : LinkNow) (received : Received) (new 
   pub used : ℕ
   pub response : ResponseReadsAs call bytes (Whole received.reply received.blob used)
   pub alone : received.alone ≡ nat_eq used (length bytes)
+  pub lasts : LeavesOpen bytes received.lasts
+
+-- ---- on the way
+
+-- a reader was told all bytes that were read so far
+pub record IsReading (call : Call) (old new : LinkNow) (r : ReplyReader) : Type 0 where
+  pub bytes : List ℕ
+  pub read : HasReadBytes old bytes new
+  pub stays : new.faults ≡ old.faults
+  pub told : HasBeenTold call r bytes
+
+-- what a reader answered to the last of them
+pub record HasSaid (call : Call) (old new : LinkNow) (fed : Fed) (r : ReplyReader) : Type 0 where
+  pub bytes : List ℕ
+  pub read : HasReadBytes old bytes new
+  pub stays : new.faults ≡ old.faults
+  pub says : Feeds call bytes fed r
+
+-- what reading a piece more comes to, by all that was read since a moment
+abbrev pub ReadsPiece : Call → LinkNow → Result Fed LinkErr → LinkNow → ReplyReader → Type 0
+ReadsPiece call old (Ok fed) new r = HasSaid call old new fed r
+ReadsPiece call old (Err Fault) new r = HasBroken old new ⊎ HasNoResponse call old new
+ReadsPiece call old (Err TooLong) new r = ⊥
+ReadsPiece call old (Err NoMemory) new r = HasStarved old new
+
+-- ---- the whole response
 
 abbrev pub Receives : Call → LinkNow → Result Received LinkErr → LinkNow → Type 0
 Receives call old (Ok received) new = HasResponse call old received new

@@ -1,10 +1,11 @@
-ghost use Rattle.std.specs.Prelude.{◌≡◌, IfOk, None, false};
+ghost use Rattle.std.specs.Prelude.{◌≡◌, ◌++◌, IfOk, None, false};
 ghost use Rattle.jop_target.specs.Replies.{IsReplyTo, HasReplyCause, Answers, KeepsBlob};
 ghost use Rattle.target_dav.specs.Exchanges.{BeginsCall, CallsOver, SendsText, TriesOver, blob_after, client_now, is_ready};
 
 use crate::receiving::{Received, receive};
-use dav_link::{Link, LinkErr, write_message};
-use dav_wire::write_request;
+use crate::sending::write_both;
+use dav_link::{Link, LinkErr};
+use dav_wire::split_request;
 use jop_base::{Bytes, Text};
 use jop_outside::{Failed, Faults};
 use jop_target::{Call, Reply, Target};
@@ -22,10 +23,11 @@ use std::marker::Model;
 /// may have landed all the same.
 ///
 /// **The link** is opened before the first call, and anew before a call that comes after `Failed`, after `TooLarge`
-/// (which is told by the head alone), after want of memory, and after a response behind which more bytes came than
-/// were asked for. No request is sent twice.
+/// (which is told by the head alone), after want of memory, after a response behind which more bytes came than were
+/// asked for, and after one of HTTP/1.0 or with `Connection: close`. No request is sent twice.
 ///
-/// **Memory.** A response is kept until it is whole. Once its head came at most 256 MiB more are waited for of a
+/// **Memory.** Of a response no more is kept than its reply: a blob stands once, and of a listing its files alone. Of a
+/// request the body isn't copied, but for its first 64 KiB. Once a head came at most 256 MiB more are waited for of a
 /// listing of the root, 64 MiB of a blob and 16 MiB of any other body. A file that is announced to be longer than its
 /// limit is `TooLarge`, and where more would have to be waited for it is a fault.
 #[derive(Drop)]
@@ -83,13 +85,14 @@ impl<L: Link> DavTarget<L> {
         self.link.open()
     }
 
-    /// Writes a request over the link.
-    fn send(&mut self, text: &[u8]) -> Result<(), Failed>
-        ensures sends { SendsText text.now (client_now L.state self.old) result (client_now L.state self.new) }
+    /// Writes a request over the link, which stands in two parts.
+    fn send(&mut self, first: &[u8], rest: &[u8]) -> Result<(), Failed>
+        ensures sends { SendsText (first.now ++ rest.now) (client_now L.state self.old) result
+            (client_now L.state self.new) }
         ensures others { (self.new.host ≡ self.old.host) × (self.new.faults ≡ self.old.faults) }
     {
         self.begin()?;
-        write_message(&mut self.link, text)?;
+        write_both(&mut self.link, first, rest)?;
         Ok(())
     }
 
@@ -97,7 +100,8 @@ impl<L: Link> DavTarget<L> {
     fn accept(&mut self, received: Received, blob: &mut Bytes) -> Reply
         ensures reply { result ≡ received.reply }
         ensures blob { blob.new ≡ blob_after received.reply blob.old received.blob }
-        ensures ready { self.new.ready ≡ is_ready received.reply received.alone }
+        ensures ready { self.new.ready
+            ≡ is_ready received.reply received.lasts received.alone }
         ensures link { self.new.link ≡ self.old.link }
         ensures others { (self.new.host ≡ self.old.host) × (self.new.faults ≡ self.old.faults) }
     {
@@ -105,8 +109,9 @@ impl<L: Link> DavTarget<L> {
             reply,
             blob: got,
             alone,
+            lasts,
         } = received;
-        self.ready = is_ready(&reply, alone);
+        self.ready = is_ready(&reply, lasts, alone);
         leave(&reply, got, blob);
         reply
     }
@@ -116,20 +121,21 @@ impl<L: Link> DavTarget<L> {
         ensures asks { TriesOver L.state call.now blob.old self.old result self.new blob.new }
         ensures others { (self.new.host ≡ self.old.host) × (self.new.faults ≡ self.old.faults) }
     {
-        let request = write_request(alloc, &self.host, call, blob)?;
-        self.send(request.as_slice())?;
+        let (first, rest) = split_request(alloc, &self.host, call, blob)?;
+        self.send(first.as_slice(), rest)?;
         let received = receive(alloc, &mut self.link, call)?;
         Ok(self.accept(received, blob))
     }
 }
 
-/// Whether a call may follow over the same link, by what was read of a response and whether it came alone.
-fn is_ready(reply: &Reply, alone: bool) -> bool
-    ensures { result ≡ is_ready reply.now alone }
+/// Whether a call may follow over the same link, by what was read of a response, whether the server
+/// leaves the link open behind it, and whether it came alone.
+fn is_ready(reply: &Reply, lasts: bool, alone: bool) -> bool
+    ensures { result ≡ is_ready reply.now lasts alone }
 {
     match reply {
         Reply::TooLarge { .. } => false,
-        _ => alone,
+        _ => lasts && alone,
     }
 }
 

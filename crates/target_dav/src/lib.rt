@@ -6,7 +6,7 @@
 mod budget;
 mod dav_target;
 mod receiving;
-mod response_to;
+mod sending;
 
 pub use dav_link::{Link, MemLink};
 pub use dav_target::DavTarget;

@@ -30,7 +30,7 @@ fn failing(alloc: Global, text: &[u8], nth: u64) -> Result<DavTarget<MemLink>, A
     Ok(target)
 }
 
-const LOCKS: &[u8] = b"HTTP/1.1 207 Multi-Status\r\n\
+pub(crate) const LOCKS: &[u8] = b"HTTP/1.1 207 Multi-Status\r\n\
 Date: Thu, 01 Jan 1970 00:00:01 GMT\r\n\
 Content-Type: application/xml; charset=\"utf-8\"\r\n\
 Content-Length: 263\r\n\r\n\
@@ -45,6 +45,16 @@ const ABSENT: &[u8] =
 
 const TWICE_ABSENT: &[u8] =
     b"HTTP/1.1 404 Not Found\r\nDate: Thu, 01 Jan 1970 00:00:01 GMT\r\nContent-Length: 0\r\n\r\n\
+HTTP/1.1 404 Not Found\r\nDate: Thu, 01 Jan 1970 00:00:01 GMT\r\nContent-Length: 0\r\n\r\n";
+
+/// Two responses, behind the first of which the server closes the link.
+const CLOSED_BETWEEN: &[u8] =
+    b"HTTP/1.1 404 Not Found\r\nDate: Thu, 01 Jan 1970 00:00:01 GMT\r\nConnection: Close\r\nContent-Length: 0\r\n\r\n\
+HTTP/1.1 404 Not Found\r\nDate: Thu, 01 Jan 1970 00:00:01 GMT\r\nContent-Length: 0\r\n\r\n";
+
+/// The same, of HTTP/1.0.
+const OLD_BETWEEN: &[u8] =
+    b"HTTP/1.0 404 Not Found\r\nDate: Thu, 01 Jan 1970 00:00:01 GMT\r\nContent-Length: 0\r\n\r\n\
 HTTP/1.1 404 Not Found\r\nDate: Thu, 01 Jan 1970 00:00:01 GMT\r\nContent-Length: 0\r\n\r\n";
 
 /// Calls, what a link has for each, what it is answered, and how often the target has failed then.
@@ -182,16 +192,26 @@ fn a_link_that_fails_is_opened_anew(rt: HostRuntime) -> Result<(), Fail> {
     Ok(())
 }
 
-/// Whether two gets are answered over one link.
-fn is_kept(alloc: Global) -> Result<bool, Fail> {
-    let mut target = dripping(alloc, TWICE_ABSENT)?;
+/// How often a link that has these two responses is opened for two gets. 0 if one isn't answered.
+fn openings(alloc: Global, text: &[u8]) -> Result<u64, Fail> {
+    let mut target = dripping(alloc, text)?;
     let first = tells(alloc, &mut target, Step::Get, "absent at 1000")?;
     let second = tells(alloc, &mut target, Step::Get, "absent at 1000")?;
-    Ok(first && second && target.link.link.opened() == 1)
+    if first && second && target.faults() == 0 {
+        return Ok(target.link.link.opened());
+    }
+    Ok(0)
 }
 
 #[test]
 fn a_link_is_kept_for_the_next_call(rt: HostRuntime) -> Result<(), Fail> {
-    assert!(rt; is_kept(rt.alloc())?);
+    assert_eq!(rt; openings(rt.alloc(), TWICE_ABSENT)?, 1);
+    Ok(())
+}
+
+#[test]
+fn a_link_that_the_server_closes_is_opened_again(rt: HostRuntime) -> Result<(), Fail> {
+    assert_eq!(rt; openings(rt.alloc(), CLOSED_BETWEEN)?, 2);
+    assert_eq!(rt; openings(rt.alloc(), OLD_BETWEEN)?, 2);
     Ok(())
 }

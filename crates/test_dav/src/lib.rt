@@ -15,6 +15,8 @@ mod messages;
 #[cfg(test)]
 mod parts;
 #[cfg(test)]
+mod pieces;
+#[cfg(test)]
 mod server;
 #[cfg(test)]
 mod steps;

@@ -1,6 +1,6 @@
 use dav_wire::{
     ReadRequest, ReadResponse, Request, read_request, read_response, request_missing,
-    response_missing, write_refusal, write_request, write_response,
+    response_missing, split_request, write_refusal, write_request, write_response,
 };
 use jop_base::{Bytes, Dir, Path, Seq, Text};
 use jop_target::{Call, Listing, Reply};
@@ -418,6 +418,26 @@ fn listing_request(alloc: Global) -> Result<Bytes, AllocError> {
 fn a_request_is_written(rt: HostRuntime) -> Result<(), Fail> {
     let text = listing_request(rt.alloc())?;
     assert!(rt; text.as_slice() == REQUEST);
+    Ok(())
+}
+
+/// How many bytes the second part has of a request that puts so many, and whether both parts are
+/// the whole request.
+fn split_put(alloc: Global, len: usize) -> Result<(usize, bool), AllocError> {
+    let none = Bytes::new(alloc);
+    let host = Text::of(alloc, "h:80")?;
+    let call = Call::Put(Path::Info, Bytes::from_vec(vec![in alloc; b'x'; len]?));
+    let whole = write_request(alloc, &host, &call, &none)?;
+    let (mut first, rest) = split_request(alloc, &host, &call, &none)?;
+    first.append(rest)?;
+    Ok((rest.len(), first == whole))
+}
+
+#[test]
+fn a_long_request_is_split(rt: HostRuntime) -> Result<(), Fail> {
+    for (len, rest) in [(0, 0), (65_536, 0), (65_537, 1), (200_000, 134_464)] {
+        assert!(rt; split_put(rt.alloc(), len)? == (rest, true));
+    }
     Ok(())
 }
 

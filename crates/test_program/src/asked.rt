@@ -81,6 +81,7 @@ fn is_kind(kind: &TargetKind, due: &str) -> bool {
         TargetKind::Mem => due == "mem:",
         TargetKind::Dir(path) => is_word(due, "dir:", path.as_str()),
         TargetKind::Dav(address) => is_word(due, "dav:", address.as_str()),
+        TargetKind::WebDav(site) => is_word(due, "webdav:", site.path.as_str()),
     }
 }
 
@@ -151,6 +152,7 @@ ls|jop.sqlite|mem:
 sync dir:two|jop.sqlite|dir:two
 --profile one sync dir:two|one|dir:two
 upgrade dav:http://host:81/|jop.sqlite|dav:host:81
+upgrade webdav:http://ann@localhost:81/dav|jop.sqlite|webdav:/dav/
 --profile one check dir:two 000102030405060708090a0b0c0d0e0f|-|dir:two
 --profile one tidy|-|mem:
 sync two|-|mem:

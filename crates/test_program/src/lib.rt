@@ -24,6 +24,8 @@ mod file_day;
 mod first;
 mod histories;
 #[cfg(test)]
+mod keyed;
+#[cfg(test)]
 mod locks;
 #[cfg(test)]
 mod machine;

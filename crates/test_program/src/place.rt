@@ -92,7 +92,7 @@ impl Place {
     }
 
     fn meets(&self, words: &Words, around: &mut Around, due: &Due) -> bool {
-        let mut opener = SystemOpener::new(self.rt, Nobody);
+        let mut opener = SystemOpener::new(self.rt, Nobody, Text::new(self.rt.alloc()));
         is_met(self.rt.alloc(), words, &mut opener, around, due)
     }
 

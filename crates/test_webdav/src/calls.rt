@@ -6,13 +6,13 @@ use std::alloc::{AllocError, Global};
 use std::test::Fail;
 use webdav_calls::{Site, ask, reply_of};
 
-fn bytes(alloc: Global, text: &[u8]) -> Result<Bytes, AllocError> {
+pub(crate) fn bytes(alloc: Global, text: &[u8]) -> Result<Bytes, AllocError> {
     let mut bytes = Bytes::new(alloc);
     bytes.append(text)?;
     Ok(bytes)
 }
 
-fn site(alloc: Global, user: bool) -> Result<Site, AllocError> {
+pub(crate) fn site(alloc: Global, user: bool) -> Result<Site, AllocError> {
     let host = bytes(alloc, b"localhost:8080")?;
     let path = bytes(alloc, b"/dav/")?;
     if user {
@@ -79,7 +79,7 @@ fn call_of(alloc: Global, step: Step) -> Call {
 }
 
 /// Which reply came.
-fn name_of(reply: &Reply) -> &'static str {
+pub(crate) fn name_of(reply: &Reply) -> &'static str {
     match reply {
         Reply::Listed(_) => "listed",
         Reply::Got { .. } => "got",
@@ -130,6 +130,7 @@ fn replies_to(
     let told = Told {
         status,
         moment: Some(9_000),
+        length: None,
         endless,
         lasting: true,
     };

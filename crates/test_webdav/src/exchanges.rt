@@ -145,16 +145,19 @@ fn sixteen_heads_of_1xx_are_passed_over(rt: HostRuntime) -> Result<(), Fail> {
     Ok(())
 }
 
-/// Whether a body of so many bytes is read.
+/// Whether a body is read whole.
 fn is_kept(alloc: Global, head: &[u8], body: &[u8]) -> Result<bool, LinkErr> {
     let mut text = Bytes::new(alloc);
     text.append(head)?;
     text.append(body)?;
-    Ok(answered(alloc, text.as_slice()).is_ok())
+    match answered(alloc, text.as_slice()) {
+        Ok(told) => Ok(told.1.as_slice() == body),
+        Err(_) => Ok(false),
+    }
 }
 
 #[test]
-fn a_body_past_the_limit_is_a_fault(rt: HostRuntime) -> Result<(), Fail> {
+fn a_body_past_the_limit_is_not_kept(rt: HostRuntime) -> Result<(), Fail> {
     let alloc = rt.alloc();
     let head = b"HTTP/1.1 200 OK\r\nContent-Length: 1000\r\n\r\n";
     assert!(rt; matches!(is_kept(alloc, head, &[b'a'; 1000]), Ok(true)));

@@ -1,5 +1,5 @@
-//! Tests of what real WebDAV servers say: of their listings, of exchanges over a link, and of calls with their replies,
-//! over public calls alone.
+//! Tests of what real WebDAV servers say: of their listings, of exchanges over a link, of calls with their replies, and
+//! of targets that they hold, over public calls alone.
 #![tactic(auto)]
 
 #[cfg(test)]
@@ -8,3 +8,5 @@ mod calls;
 mod exchanges;
 #[cfg(test)]
 mod listings;
+#[cfg(test)]
+mod targets;

@@ -9,12 +9,15 @@
 //!
 //! - `tool_dav_stand calls HOST:PORT N` puts N files of 1 KiB and gets them over one connection, and
 //!   prints how long that took.
+//! - `tool_dav_stand calls-at URL N` does so in a folder on a server of another make.
+//! - `tool_dav_stand list HOST:PORT` lists the root, and prints how long that took.
+//! - `tool_dav_stand put HOST:PORT N` puts a blob of N bytes, and `tool_dav_stand get HOST:PORT` gets it.
 #![tactic(auto)]
 
 mod measuring;
 mod serving;
 
-use crate::measuring::measure;
+use crate::measuring::{Measured, measure, measure_site};
 use crate::serving::{hold_lock, serve};
 use anyhow::Context;
 use jop_target::MemTarget;
@@ -22,13 +25,17 @@ use std::env;
 use std::net::TcpListener;
 
 fn main(rt: HostRuntime) -> anyhow::Result<()> {
-    if word(&rt, 1)?.as_deref() == Some("calls") {
-        return measure_calls(&rt);
+    if word(&rt, 1)?.as_deref() == Some("calls-at") {
+        return measure_calls_at(&rt);
+    }
+    if let Some(what) = measured(&rt)? {
+        return measure_at(&rt, what);
     }
     match number(&rt, 1)? {
         Some(step) => stand(&rt, step),
         None => Ok(eprintln!(rt;
-            "usage: tool_dav_stand STEP [busy | fail N] | calls HOST:PORT N"
+            "usage: tool_dav_stand STEP [busy | fail N] | calls HOST:PORT N | calls-at URL N | \
+             list HOST:PORT | put HOST:PORT N | get HOST:PORT"
         )?),
     }
 }
@@ -76,8 +83,25 @@ fn fail_at(rt: &HostRuntime, target: &mut MemTarget) -> anyhow::Result<()> {
     Ok(())
 }
 
-fn measure_calls(rt: &HostRuntime) -> anyhow::Result<()> {
+/// What the words ask to measure.
+fn measured(rt: &HostRuntime) -> anyhow::Result<Option<Measured>> {
+    let count = number(rt, 3)?.unwrap_or(0);
+    match word(rt, 1)?.as_deref() {
+        Some("calls") => Ok(Some(Measured::Calls(count))),
+        Some("list") => Ok(Some(Measured::List)),
+        Some("put") => Ok(Some(Measured::Put(count))),
+        Some("get") => Ok(Some(Measured::Get)),
+        _ => Ok(None),
+    }
+}
+
+fn measure_at(rt: &HostRuntime, what: Measured) -> anyhow::Result<()> {
     let address = word(rt, 2)?.context("no server")?;
+    measure(rt, address.as_str(), what)
+}
+
+fn measure_calls_at(rt: &HostRuntime) -> anyhow::Result<()> {
+    let url = word(rt, 2)?.context("no URL")?;
     let count = number(rt, 3)?.context("no number of calls")?;
-    measure(rt, address.as_str(), count)
+    measure_site(rt, url.as_str(), count)
 }

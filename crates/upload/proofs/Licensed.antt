@@ -43,7 +43,7 @@ use Rattle.session.specs.declared.finding.Finding.TheVariants.{Other, Same}
 use Rattle.keeper.specs.declared.blob.Blob.{Blob}
 use Rattle.sync_info.specs.declared.info.Info.{Info}
 use Rattle.upload.specs.Conditions.{IsPlain}
-use Rattle.upload.specs.Found.{IsFoundForRow, MayYield}
+use Rattle.upload.specs.Found.{IsFoundForRow, MayYieldTo}
 use Rattle.upload.specs.Uploading.{PutsIfNew, PutsKept, PutsText, is_new_resource, is_upload}
 
 -- ---- what was read
@@ -73,7 +73,7 @@ still_found row finding a b tables last h = record {
 -- the row may give way to another file
 pub may_yield : (row : Row) (remote : List ℕ × Content) (d : SiteNow)
     → IsFoundForRow row (Other remote) d → IsContentOf row.id remote.1
-    → MayYield row (Some remote) d
+    → MayYieldTo row (Some remote) d
 may_yield row remote d h sound = record {
   sound = sound;
   may = λ shown. record {

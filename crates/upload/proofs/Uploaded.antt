@@ -2,7 +2,6 @@
 use Rattle.std.specs.Prelude.{ℕ, ◌≡◌, List, Bool, true, false, ◌&&◌, is_none, Option, Some, Result, Ok, Err}
 use Rattle.std.proofs.Common.{sym, ap, subst, ◌∙◌}
 use Rattle.conflicts.specs.declared.error.StepErr.{StepErr}
-use Rattle.client.specs.Sites.{SiteNow}
 use Rattle.law_licences.specs.Deeds.{Deed}
 use Rattle.law_licences.specs.Views.{View, view_from}
 use Rattle.local_store.specs.Tables.{base_of, row_at}
@@ -17,7 +16,7 @@ use Rattle.session.specs.Work.{IsReady, WorkNow, view_of}
 use Rattle.session.specs.declared.finding.Finding.{Finding}
 use Rattle.session.specs.declared.finding.Finding.TheVariants.{Unreadable}
 use Rattle.keeper.specs.declared.blob.Blob.{Blob}
-use Rattle.upload.specs.Conditions.{AreUnput, IsPlain, is_new_row}
+use Rattle.upload.specs.Conditions.{CanUploadAny, is_new_row}
 use Rattle.upload.specs.Found.{IsUploadable}
 use Rattle.upload.specs.Uploading.{Settles, UploadsFound, UploadsOne, UploadsRow, is_upload}
 
@@ -75,14 +74,16 @@ both_true : (a b : Bool) → a ≡ true → b ≡ true → (a && b) ≡ true
 both_true true b h k = k
 both_true false b h k = absurd cc
 
-pub uploadable_at : (d : SiteNow) (id : List ℕ) (row : Row) → Waits d.tables id row
-    → IsPlain d → AreUnput d → IsUploadable row d
-uploadable_at d id row h readable unput = record {
+pub uploadable_at : (w : WorkNow) (id : List ℕ) (row : Row) → Waits w.site.tables id row
+    → CanUploadAny w → IsUploadable row w
+uploadable_at w id row h can = record {
+  ready = can.ready;
   at = h.own;
   pending = h.pending;
-  readable = readable;
+  readable = can.readable;
   unput = λ none.
-      unput row.id (ap is_new_row h.own ∙ both_true row.pending (is_none row.base) h.pending none);
+      can.unput row.id
+      (ap is_new_row h.own ∙ both_true row.pending (is_none row.base) h.pending none);
 }
 
 pub uploads_found : (blobs : Option (List Blob)) (id : List ℕ) (row : Option Row) (a b : WorkNow)

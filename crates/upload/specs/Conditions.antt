@@ -31,6 +31,13 @@ AreUnput d =
     (id : List ℕ) → is_new_row (row_at d.tables id) ≡ true
     → has_put id (session_calls d.line.trail) ≡ false
 
+-- A session may upload the row of any id: it is at work, files are put as they are, and no file of a new row was put in
+-- it.
+pub record CanUploadAny (w : WorkNow) : Type 0 where
+  pub ready : IsAtWork w
+  pub readable : IsPlain w.site
+  pub unput : AreUnput w.site
+
 -- A session may upload: it is at work, all rows that wait may be put, and no file of a new one was put in it.
 pub record CanUpload (w : WorkNow) : Type 0 where
   pub ready : IsAtWork w

@@ -15,8 +15,9 @@ use Rattle.local_store.specs.Tables.{row_at}
 use Rattle.local_store.specs.declared.content.Content.{Content}
 use Rattle.local_store.specs.declared.row.Row.{Row}
 use Rattle.session.specs.Findings.{IsSoundFinding, finding_of}
-use Rattle.session.specs.Work.{view_of}
+use Rattle.session.specs.Work.{IsAtWork, WorkNow, view_of}
 use Rattle.session.specs.declared.finding.Finding.{Finding}
+use Rattle.session.specs.declared.finding.Finding.TheVariants.{Same}
 use Rattle.upload.specs.Conditions.{IsPlain}
 
 -- a get of the row's file
@@ -31,23 +32,41 @@ pub record IsFoundForRow (row : Row) (finding : Finding) (d : SiteNow) : Type 0 
   pub pending : row.pending ≡ true
   pub last : last_on row.id (session_calls d.line.trail) ≡ Some (row_file_got row reply)
 
--- The row waits, and may be put: files are put as they are, as no key is known here, and no file of it was put in this
--- session if it is new.
-pub record IsUploadable (row : Row) (d : SiteNow) : Type 0 where
-  pub at : row_at d.tables row.id ≡ Some row
-  pub pending : row.pending ≡ true
-  pub readable : IsPlain d
-  pub unput : is_none row.base ≡ true → has_put row.id (session_calls d.line.trail) ≡ false
+-- a session is at work, and has found this file of the row
+pub record HasFoundFile (row : Row) (finding : Finding) (w : WorkNow) : Type 0 where
+  pub ready : IsAtWork w
+  pub found : IsFoundForRow row finding w.site
 
--- the session's last call on its file row_file_got this, which may take its place
-pub record IsSeen (row : Row) (finding : Finding) (d : SiteNow) : Type 0 where
-  pub found : IsFoundForRow row finding d
+-- a session is at work, has found the row's file as the client left it, and puts files as they are
+pub record MayPutText (row : Row) (w : WorkNow) : Type 0 where
+  pub ready : IsAtWork w
+  pub found : IsFoundForRow row Same w.site
+  pub readable : IsPlain w.site
+
+-- A session is at work, and may upload the row, which waits: files are put as they are, as no key is known here, and no
+-- file of it was put in this session if it is new.
+pub record IsUploadable (row : Row) (w : WorkNow) : Type 0 where
+  pub ready : IsAtWork w
+  pub at : row_at w.site.tables row.id ≡ Some row
+  pub pending : row.pending ≡ true
+  pub readable : IsPlain w.site
+  pub unput : is_none row.base ≡ true → has_put row.id (session_calls w.site.line.trail) ≡ false
+
+-- a session is at work, and its last call on the row's file got this, which may take the row's place
+pub record HasSeenFile (row : Row) (finding : Finding) (w : WorkNow) : Type 0 where
+  pub ready : IsAtWork w
+  pub found : IsFoundForRow row finding w.site
   pub sound : IsSoundFinding row.id finding
-  pub readable : IsPlain d
-  pub unput : is_none row.base ≡ true → has_put row.id (session_calls d.line.trail) ≡ false
+  pub readable : IsPlain w.site
+  pub unput : is_none row.base ≡ true → has_put row.id (session_calls w.site.line.trail) ≡ false
 
 -- the row may give way to this, or to nothing, whatever the session was shown
-pub record MayYield (row : Row) (remote : Option (List ℕ × Content)) (d : SiteNow) : Type 0 where
+pub record MayYieldTo (row : Row) (remote : Option (List ℕ × Content)) (d : SiteNow) : Type 0 where
   pub sound : IsRemoteOf row.id remote
   pub may : (shown : Option Shown)
       → MayConflict (view_of shown d) row.id remote (copies_for row.content remote)
+
+-- and the session is at work
+pub record MayYield (row : Row) (remote : Option (List ℕ × Content)) (w : WorkNow) : Type 0 where
+  pub ready : IsAtWork w
+  pub yields : MayYieldTo row remote w.site

@@ -12,6 +12,7 @@ use Rattle.law_licences.specs.Sealing.{no_keys}
 use Rattle.law_licences.specs.Trails.{session_calls}
 use Rattle.law_licences.specs.Views.{Heard}
 use Rattle.local_store.specs.Tables.{row_at}
+use Rattle.session.specs.Work.{IsAtWork, WorkNow}
 use Rattle.upload.specs.Conditions.{AreUnput, CanPut}
 
 -- the file is no item of this id, or too large
@@ -45,8 +46,10 @@ AreLeft d ids =
     (id : List ℕ) → is_pending (row_at d.tables id) ≡ true
     → (includes ids id ≡ true) ⊎ WasUnreadable id (session_calls d.line.trail)
 
--- these may be put, no file of a new row was put in this session, and each row that waits is one of them or settled
-pub record AreUploadable (ids : List (List ℕ)) (d : SiteNow) : Type 0 where
-  pub readable : CanPut d ids
-  pub unput : AreUnput d
-  pub left : AreLeft d ids
+-- A session is at work, and may put these; no file of a new row was put in it, and each row that waits is one of these
+-- or settled.
+pub record AreUploadable (ids : List (List ℕ)) (w : WorkNow) : Type 0 where
+  pub ready : IsAtWork w
+  pub readable : CanPut w.site ids
+  pub unput : AreUnput w.site
+  pub left : AreLeft w.site ids

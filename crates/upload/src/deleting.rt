@@ -1,11 +1,7 @@
-ghost use Rattle.std.specs.Prelude.{◌≡◌, ◌∷◌, [], List, OnOk, Some, true};
-ghost use Rattle.upload.specs.Deleting.{Deletes, DeletesBytes, DeletesFile, DeletesOne, is_deletion};
-ghost use Rattle.jop_target.specs.declared.call.Call.TheVariants.{Delete};
+ghost use Rattle.std.specs.Prelude.{◌≡◌, [], OnOk};
+ghost use Rattle.upload.specs.Deleting.{BeginsWithDeletion, Deletes, DeletesBytes, DeletesFile, DeletesOne, HasDeletion, HasDeletions, MayDeleteFile, is_deletion};
 ghost use Rattle.lease.specs.Standing.{IsSameBut};
-ghost use Rattle.local_store.specs.Tables.{deletion_at};
-ghost use Rattle.local_store.specs.declared.deletion.Deletion.{Deletion};
 ghost use Rattle.session.specs.Doing.{Ends};
-ghost use Rattle.session.specs.Sessions.{MayAsk, is_data};
 ghost use Rattle.session.specs.Work.{IsAtWork, IsReady, work};
 
 use client::Client;
@@ -19,9 +15,7 @@ use std::alloc::Global;
 
 /// Deletes a file of an item, or the bytes of a resource.
 fn delete<W: Session>(alloc: Global, s: &mut W, path: Path) -> Result<(), StepErr>
-    requires ready { IsAtWork (W.now s.old) }
-    requires sort { is_data path ≡ true }
-    requires may { MayAsk (W.now s.old) (Delete path) }
+    requires may { MayDeleteFile path (W.now s.old) }
 
     ensures ends { Ends (DeletesFile path) is_deletion (W.now s.old) result (W.now s.new) }
 {
@@ -30,8 +24,7 @@ fn delete<W: Session>(alloc: Global, s: &mut W, path: Path) -> Result<(), StepEr
 
 /// Deletes the bytes of what was a resource.
 fn delete_bytes<W: Session>(alloc: Global, s: &mut W, deletion: &Deletion) -> Result<(), StepErr>
-    requires ready { IsAtWork (W.now s.old) }
-    requires at { deletion_at (W.now s.old).site.tables deletion.now.id ≡ Some deletion.now }
+    requires has { HasDeletion deletion.now (W.now s.old) }
 
     ensures ends { Ends (DeletesBytes deletion.now deletion.now.resource) is_deletion (W.now s.old)
         result (W.now s.new) }
@@ -44,9 +37,7 @@ fn delete_bytes<W: Session>(alloc: Global, s: &mut W, deletion: &Deletion) -> Re
 
 /// Does what is to be done for the first deletion.
 fn delete_one<W: Session>(alloc: Global, s: &mut W, deletion: &Deletion) -> Result<(), StepErr>
-    requires ready { IsAtWork (W.now s.old) }
-    requires first { (rest : List Deletion)
-        × ((W.now s.old).site.tables.deletions ≡ deletion.now ∷ rest) }
+    requires first { BeginsWithDeletion deletion.now (W.now s.old) }
 
     ensures ends { Ends (DeletesOne deletion.now) is_deletion (W.now s.old) result (W.now s.new) }
 {
@@ -57,8 +48,7 @@ fn delete_one<W: Session>(alloc: Global, s: &mut W, deletion: &Deletion) -> Resu
 
 /// Does what is to be done for each of these deletions, which are all that there are.
 fn delete_each<W: Session>(alloc: Global, s: &mut W, deletions: &[Deletion]) -> Result<(), StepErr>
-    requires ready { IsAtWork (W.now s.old) }
-    requires all { (W.now s.old).site.tables.deletions ≡ deletions.now }
+    requires all { HasDeletions deletions.now (W.now s.old) }
 
     ensures ends { Ends Deletes is_deletion (W.now s.old) result (W.now s.new) }
 {

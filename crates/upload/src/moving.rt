@@ -1,8 +1,7 @@
 ghost use Rattle.std.specs.Prelude.{OnOk};
 ghost use Rattle.session.specs.Doing.{Ends};
-ghost use Rattle.session.specs.Work.{IsAtWork};
 ghost use Rattle.session.specs.declared.finding.Finding.TheVariants.{Missing};
-ghost use Rattle.upload.specs.Found.{IsFoundForRow};
+ghost use Rattle.upload.specs.Found.{HasFoundFile, IsFoundForRow};
 ghost use Rattle.upload.specs.Uploading.{Clears, is_upload};
 
 use conflicts::{StepErr, folder_gone_changes};
@@ -12,8 +11,7 @@ use std::alloc::Global;
 
 /// Moves the notes out of a row whose file is gone, if it is a folder.
 pub(crate) fn clear<W: Session>(alloc: Global, s: &mut W, row: &Row) -> Result<(), StepErr>
-    requires ready { IsAtWork (W.now s.old) }
-    requires found { IsFoundForRow row.now Missing (W.now s.old).site }
+    requires found { HasFoundFile row.now Missing (W.now s.old) }
 
     ensures ends { Ends (Clears row.now) is_upload (W.now s.old) result (W.now s.new) }
     ensures found { OnOk result (IsFoundForRow row.now Missing (W.now s.new).site) }

@@ -1,11 +1,9 @@
 ghost use Rattle.std.specs.Prelude.{◌≡◌, IfOk};
 ghost use Rattle.item_text.specs.Grammar.{written};
 ghost use Rattle.local_store.specs.Rows.{item_of};
-ghost use Rattle.session.specs.Doing.{Ends, EndsGiving};
-ghost use Rattle.session.specs.Work.{IsAtWork};
+ghost use Rattle.session.specs.Doing.{Ends};
 ghost use Rattle.session.specs.declared.finding.Finding.TheVariants.{Same};
-ghost use Rattle.upload.specs.Conditions.{IsPlain};
-ghost use Rattle.upload.specs.Found.{IsFoundForRow, IsSeen};
+ghost use Rattle.upload.specs.Found.{HasSeenFile, MayPutText};
 ghost use Rattle.upload.specs.Uploading.{EndsUpload, Puts, PutsBytes, PutsTextOf, is_new_resource, is_upload};
 
 use crate::loading::put_bytes;
@@ -27,8 +25,7 @@ fn is_new_resource(row: &Row) -> bool
 
 /// Puts the bytes of a new resource.
 fn put_if_new<W: Session>(alloc: Global, s: &mut W, row: &Row) -> Result<(), StepErr>
-    requires ready { IsAtWork (W.now s.old) }
-    requires seen { IsSeen row.now Same (W.now s.old).site }
+    requires seen { HasSeenFile row.now Same (W.now s.old) }
 
     ensures ends { EndsUpload (λ blobs. PutsBytes blobs row.now) (W.now s.old) result (W.now s.new) }
 {
@@ -40,9 +37,7 @@ fn put_if_new<W: Session>(alloc: Global, s: &mut W, row: &Row) -> Result<(), Ste
 
 /// Puts the text of a row's item over a file that is as the client left it, and gives the text back.
 fn put_text<W: Session>(alloc: Global, s: &mut W, row: &Row) -> Result<Bytes, StepErr>
-    requires ready { IsAtWork (W.now s.old) }
-    requires found { IsFoundForRow row.now Same (W.now s.old).site }
-    requires readable { IsPlain (W.now s.old).site }
+    requires may { MayPutText row.now (W.now s.old) }
 
     ensures ends { Ends (PutsTextOf row.now) is_upload (W.now s.old) result (W.now s.new) }
     ensures text { IfOk result (λ text. text ≡ written (item_of row.now.content)) }
@@ -55,8 +50,7 @@ fn put_text<W: Session>(alloc: Global, s: &mut W, row: &Row) -> Result<Bytes, St
 
 /// Uploads a row whose file is as the client left it.
 pub(crate) fn put_row<W: Session>(alloc: Global, s: &mut W, row: &Row) -> Result<(), StepErr>
-    requires ready { IsAtWork (W.now s.old) }
-    requires seen { IsSeen row.now Same (W.now s.old).site }
+    requires seen { HasSeenFile row.now Same (W.now s.old) }
 
     ensures ends { EndsUpload (λ blobs. Puts blobs row.now) (W.now s.old) result (W.now s.new) }
 {

@@ -2,9 +2,9 @@ ghost use Rattle.std.specs.Prelude.{◌≡◌, IfOk, OnOk};
 ghost use Rattle.lease.specs.Standing.{IsSameBut};
 ghost use Rattle.session.specs.Doing.{Ends};
 ghost use Rattle.session.specs.Parts.{ForEach};
-ghost use Rattle.session.specs.Work.{IsAtWork, IsReady, work};
-ghost use Rattle.upload.specs.Conditions.{AreUnput, CanUpload, IsPlain, IsReadable};
-ghost use Rattle.upload.specs.Found.{IsSeen, IsUploadable};
+ghost use Rattle.session.specs.Work.{IsReady, work};
+ghost use Rattle.upload.specs.Conditions.{AreUnput, CanUpload, CanUploadAny, IsReadable};
+ghost use Rattle.upload.specs.Found.{HasSeenFile, IsUploadable};
 ghost use Rattle.upload.specs.Settled.{AreSettled, AreUploadable};
 ghost use Rattle.upload.specs.Uploading.{EndsUpload, Settles, Uploads, UploadsOne, UploadsRow, is_upload, pending_ids};
 
@@ -20,8 +20,7 @@ use std::alloc::{AllocError, Global};
 
 /// Does with a row that waits what its file asks for.
 fn settle<W: Session>(alloc: Global, s: &mut W, row: &Row, finding: Finding) -> Result<(), StepErr>
-    requires ready { IsAtWork (W.now s.old) }
-    requires seen { IsSeen row.now finding (W.now s.old).site }
+    requires seen { HasSeenFile row.now finding (W.now s.old) }
 
     ensures ends { EndsUpload (λ blobs. Settles blobs row.now finding)
         (W.now s.old) result (W.now s.new) }
@@ -36,8 +35,7 @@ fn settle<W: Session>(alloc: Global, s: &mut W, row: &Row, finding: Finding) -> 
 
 /// Uploads a row that waits, or lets it give way.
 fn upload_row<W: Session>(alloc: Global, s: &mut W, row: &Row) -> Result<(), StepErr>
-    requires ready { IsAtWork (W.now s.old) }
-    requires uploadable { IsUploadable row.now (W.now s.old).site }
+    requires uploadable { IsUploadable row.now (W.now s.old) }
 
     ensures ends { EndsUpload (λ blobs. UploadsRow blobs row.now)
         (W.now s.old) result (W.now s.new) }
@@ -48,9 +46,7 @@ fn upload_row<W: Session>(alloc: Global, s: &mut W, row: &Row) -> Result<(), Ste
 
 /// Uploads the row of this id, if it still waits.
 fn upload_one<W: Session>(alloc: Global, s: &mut W, id: &Id) -> Result<(), StepErr>
-    requires ready { IsAtWork (W.now s.old) }
-    requires readable { IsPlain (W.now s.old).site }
-    requires unput { AreUnput (W.now s.old).site }
+    requires can { CanUploadAny (W.now s.old) }
 
     ensures ends { EndsUpload (λ blobs. UploadsOne blobs id.now)
         (W.now s.old) result (W.now s.new) }
@@ -68,8 +64,7 @@ fn upload_one<W: Session>(alloc: Global, s: &mut W, id: &Id) -> Result<(), StepE
 
 /// Uploads the rows of these ids, among which are all that wait.
 fn upload_each<W: Session>(alloc: Global, s: &mut W, ids: &[Id]) -> Result<(), StepErr>
-    requires ready { IsAtWork (W.now s.old) }
-    requires uploadable { AreUploadable ids.now (W.now s.old).site }
+    requires uploadable { AreUploadable ids.now (W.now s.old) }
 
     ensures ends { EndsUpload (λ blobs. ForEach (UploadsOne blobs) ids.now)
         (W.now s.old) result (W.now s.new) }

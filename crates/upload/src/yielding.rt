@@ -1,9 +1,8 @@
 ghost use Rattle.std.specs.Prelude.{None};
 ghost use Rattle.session.specs.Doing.{Ends};
 ghost use Rattle.session.specs.Parts.{Then};
-ghost use Rattle.session.specs.Work.{IsAtWork};
 ghost use Rattle.session.specs.declared.finding.Finding.TheVariants.{Missing, Other};
-ghost use Rattle.upload.specs.Found.{IsFoundForRow, IsSeen, MayYield};
+ghost use Rattle.upload.specs.Found.{HasFoundFile, HasSeenFile, MayYield};
 ghost use Rattle.upload.specs.Uploading.{Clears, Yields, YieldsTo, is_upload};
 
 use crate::moving::clear;
@@ -20,8 +19,7 @@ pub(crate) fn give_way<W: Session>(
     row: &Row,
     remote: Option<(Bytes, Content)>,
 ) -> Result<(), StepErr>
-    requires ready { IsAtWork (W.now s.old) }
-    requires may { MayYield row.now remote (W.now s.old).site }
+    requires may { MayYield row.now remote (W.now s.old) }
 
     ensures ends { Ends (Yields row.now remote) is_upload (W.now s.old) result (W.now s.new) }
 {
@@ -36,8 +34,7 @@ pub(crate) fn give_way_to<W: Session>(
     row: &Row,
     remote: (Bytes, Content),
 ) -> Result<(), StepErr>
-    requires ready { IsAtWork (W.now s.old) }
-    requires seen { IsSeen row.now (Other remote) (W.now s.old).site }
+    requires seen { HasSeenFile row.now (Other remote) (W.now s.old) }
 
     ensures ends { Ends (YieldsTo row.now remote) is_upload (W.now s.old) result (W.now s.new) }
 {
@@ -47,8 +44,7 @@ pub(crate) fn give_way_to<W: Session>(
 
 /// Lets a row go whose file is gone, and before it the notes in it, if it is a folder.
 pub(crate) fn let_go<W: Session>(alloc: Global, s: &mut W, row: &Row) -> Result<(), StepErr>
-    requires ready { IsAtWork (W.now s.old) }
-    requires found { IsFoundForRow row.now Missing (W.now s.old).site }
+    requires found { HasFoundFile row.now Missing (W.now s.old) }
 
     ensures ends { Ends (Then (Clears row.now) (Yields row.now None)) is_upload (W.now s.old) result
         (W.now s.new) }

@@ -28,6 +28,7 @@ one_by (outcomes.Listing dir) folder body now one other a b =
     one_listing dir folder body now one other a b
 one_by outcomes.Content folder body now one other a b = a ∙ sym b
 one_by outcomes.Blob folder body now one other a b = a ∙ sym b
+one_by (outcomes.TooLong len) folder body now one other a b = a ∙ sym b
 one_by outcomes.Absent folder body now one other a b = a ∙ sym b
 one_by outcomes.Done folder body now one other a b = a ∙ sym b
 one_by outcomes.Failed folder body now one other a b = a ∙ sym b

@@ -1,22 +1,30 @@
 -- What the head of a response to a call means, by the statuses that real servers give (RFC 9110, 15; RFC 4918, 9 and
 -- 11). A redirect is a failure like any other: it is never followed.
-use Rattle.std.specs.Prelude.{ℕ, Bool, true, false, not, ◌||◌, ◌&&◌, ◌==◌, if◌then◌else◌}
+use Rattle.std.specs.Prelude.{ℕ, Bool, true, false, not, ◌||◌, ◌&&◌, ◌==◌, if◌then◌else◌, Option, Some, None, nat_lt}
+use Rattle.jop_base.specs.declared.path.Path.TheVariants.{Blob as BlobPath}
 use Rattle.jop_base.specs.declared.dir.Dir.{Dir}
+use Rattle.jop_target.specs.Store.{limit_of}
 use Rattle.jop_target.specs.declared.call.Call.{Call}
 use Rattle.jop_target.specs.declared.call.Call.TheVariants as calls
 use Rattle.http_exchange.specs.declared.told.Told.{Told}
 use Rattle.webdav_calls.specs.declared.outcome.Outcome.{Outcome}
-use Rattle.webdav_calls.specs.declared.outcome.Outcome.TheVariants.{Listing, Content, Blob, Absent, Done, Failed}
+use Rattle.webdav_calls.specs.declared.outcome.Outcome.TheVariants.{Listing, Content, Blob, TooLong, Absent, Done, Failed}
 
 abbrev pub done_if : Bool → Outcome
 done_if true = Done
 done_if false = Failed
 
+-- what is told of a file whose body has this length, if it has one: too long, past the limit
+abbrev pub content_outcome : Option ℕ → ℕ → Outcome → Outcome
+content_outcome None limit content = content
+content_outcome (Some length) limit content =
+    if nat_lt limit length then TooLong length else content
+
 -- 200, and 404 of a file that isn't there; a body that goes on until the link ends is none of a file, since it may be
 -- cut
-abbrev pub file_outcome : Told → Outcome → Outcome
-file_outcome told content =
-    if (told.status == 200) && not told.endless then content
+abbrev pub file_outcome : Told → ℕ → Outcome → Outcome
+file_outcome told limit content =
+    if (told.status == 200) && not told.endless then content_outcome told.length limit content
     else if told.status == 404 then Absent else Failed
 
 -- 207; a folder that isn't there is no empty one
@@ -39,9 +47,9 @@ made_outcome status = done_if ((status == 201) || (status == 405))
 -- what the head of a response to this call means
 abbrev pub call_outcome : Call → Told → Outcome
 call_outcome (calls.List dir) told = listed_outcome told.status dir
-call_outcome (calls.Get path) told = file_outcome told Content
+call_outcome (calls.Get path) told = file_outcome told (limit_of path) Content
 call_outcome (calls.Put path content) told = put_outcome told.status
 call_outcome (calls.Delete path) told = deleted_outcome told.status
 call_outcome (calls.MakeDir dir) told = made_outcome told.status
-call_outcome (calls.GetBlob id) told = file_outcome told Blob
+call_outcome (calls.GetBlob id) told = file_outcome told (limit_of (BlobPath id)) Blob
 call_outcome (calls.PutBlob id len) told = put_outcome told.status

@@ -28,6 +28,7 @@ IsOutcomeReply (outcomes.Listing dir) folder body now reply =
     IsListingReply dir folder body now reply
 IsOutcomeReply outcomes.Content folder body now reply = reply ≡ replies.Got now body
 IsOutcomeReply outcomes.Blob folder body now reply = reply ≡ replies.GotBlob now (length body)
+IsOutcomeReply (outcomes.TooLong len) folder body now reply = reply ≡ replies.TooLarge len
 IsOutcomeReply outcomes.Absent folder body now reply = reply ≡ replies.Absent now
 IsOutcomeReply outcomes.Done folder body now reply = reply ≡ replies.Done now
 IsOutcomeReply outcomes.Failed folder body now reply = reply ≡ replies.Failed

@@ -1,9 +1,9 @@
 ghost use Rattle.std.specs.Prelude.{◌≡◌};
-ghost use Rattle.webdav_calls.specs.Outcomes.{call_outcome, deleted_outcome, done_if, file_outcome, listed_outcome, made_outcome, put_outcome};
+ghost use Rattle.webdav_calls.specs.Outcomes.{call_outcome, content_outcome, deleted_outcome, done_if, file_outcome, listed_outcome, made_outcome, put_outcome};
 
 use http_exchange::Told;
-use jop_base::Dir;
-use jop_target::Call;
+use jop_base::{Dir, Path};
+use jop_target::{Call, limit_of};
 
 /// What the head of a response to a call means.
 #[derive(Clone, Copy, Debug, PartialEq, Eq)]
@@ -14,6 +14,8 @@ pub enum Outcome {
     Content,
     /// The bytes of a blob, which the body is.
     Blob,
+    /// A file with so many bytes, which are past its limit.
+    TooLong(u64),
     Absent,
     Done,
     /// No answer to the call.
@@ -30,11 +32,26 @@ fn done_if(holds: bool) -> Outcome
     }
 }
 
-fn file_outcome(told: Told, content: Outcome) -> Outcome
-    ensures { result ≡ file_outcome told content }
+fn content_outcome(length: Option<u64>, limit: u64, content: Outcome) -> Outcome
+    ensures { result ≡ content_outcome length limit content }
+{
+    match length {
+        None => content,
+        Some(length) => {
+            if limit < length {
+                Outcome::TooLong(length)
+            } else {
+                content
+            }
+        }
+    }
+}
+
+fn file_outcome(told: Told, limit: u64, content: Outcome) -> Outcome
+    ensures { result ≡ file_outcome told limit content }
 {
     if told.status == 200 && !told.endless {
-        content
+        content_outcome(told.length, limit, content)
     } else if told.status == 404 {
         Outcome::Absent
     } else {
@@ -80,8 +97,8 @@ pub fn call_outcome(call: &Call, told: Told) -> Outcome
 {
     match call {
         Call::List(dir) => listed_outcome(told.status, *dir),
-        Call::Get(_) => file_outcome(told, Outcome::Content),
-        Call::GetBlob(_) => file_outcome(told, Outcome::Blob),
+        Call::Get(path) => file_outcome(told, limit_of(path), Outcome::Content),
+        Call::GetBlob(id) => file_outcome(told, limit_of(&Path::Blob(*id)), Outcome::Blob),
         Call::Put(..) => put_outcome(told.status),
         Call::PutBlob { .. } => put_outcome(told.status),
         Call::MakeDir(_) => made_outcome(told.status),

@@ -45,6 +45,7 @@ fn outcome_reply(
             now,
             len: body.len() as u64,
         }),
+        Outcome::TooLong(len) => Ok(Reply::TooLarge { len }),
         Outcome::Absent => Ok(Reply::Absent { now }),
         Outcome::Done => Ok(Reply::Done { now }),
         Outcome::Failed => Ok(Reply::Failed),

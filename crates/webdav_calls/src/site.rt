@@ -76,8 +76,8 @@ impl Site {
         self.path.as_slice()
     }
 
-    /// What is given for the user and the password.
-    pub(crate) fn user(&self) -> Option<&[u8]>
+    /// What is given for the user and the password (RFC 7617).
+    pub fn user(&self) -> Option<&[u8]>
         ensures { option_copied result ≡ self.now.user }
     {
         match &self.user {

@@ -3,7 +3,7 @@ use Rattle.http1.specs.Head.{pairs}
 use Rattle.http1.specs.declared.client.Client.{Client}
 use Rattle.http1.specs.declared.conn.Limits.{Limits}
 use Rattle.jop_outside.specs.Writing.{Appends}
-use Rattle.http_exchange.specs.Steps.{HasReceived, IsAwaiting}
+use Rattle.http_exchange.specs.Steps.{GivesAnswer, IsAwaiting}
 use Rattle.http_exchange.specs.Texts.{past_request, exchange_text}
 use Rattle.http_exchange.specs.Whole.{exchange_limits}
 use Rattle.http_exchange.proofs.Sent.{awaits, limits_of}
@@ -54,7 +54,8 @@ returns g c =
             ∙ ap (λ (k : Client). exchange_text k method target headers body) c.new-client.ensures)
             c.in_ok-write_message.ensures.written.whole;
         answer =
-            subst (λ (l : Limits). HasReceived l mid c.in_ok-received.received new) same received.0;
+            subst (λ (l : Limits). GivesAnswer l mid c.args.limit c.in_ok-received.received new) same
+            received.0;
       },
       received.1,
     )

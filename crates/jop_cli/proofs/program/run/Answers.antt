@@ -3,7 +3,8 @@ use Rattle.client.specs.Outside.{OutsidePlace}
 use Rattle.jop_cli.proofs.Due.{due_of}
 use Rattle.jop_cli.proofs.DueEmptied.{emptied_of}
 use Rattle.jop_cli.proofs.DueKey.{key_of}
-use Rattle.jop_cli.proofs.Local.{complete_of, unsaved_of}
+use Rattle.jop_cli.proofs.Keyed.{complete_of, keys_unsaved_of}
+use Rattle.jop_cli.proofs.Local.{unsaved_of}
 use Rattle.jop_cli.proofs.Runs.{does_as, does_of}
 use Rattle.jop_cli.proofs.Tidied.{exact_of}
 use Rattle.jop_cli.specs.Run.{IsFreshOutside}
@@ -22,7 +23,8 @@ returns-clause-does g c =
     let does = does_of _ _ _ _ (complete_of _ _ _ _ acts.explained acts.answers)
     (due_of _ _ _ _ fresh acts.answers) (key_of _ _ _ _ fresh acts.answers)
     (emptied_of _ _ _ _ fresh acts.answers) (exact_of _ _ _ _ acts.answers)
-    (unsaved_of _ _ _ _ fresh acts.answers) c.notes_are_kept_by_tables.ensures.joined acts in
+    (unsaved_of _ _ _ _ fresh acts.answers) (keys_unsaved_of _ _ _ _ fresh acts.answers)
+    c.notes_are_kept_by_tables.ensures.joined acts in
     let stays = sym c.answer-status.ensures.stays in
     let world = c.answer-status.new.world in
     let keeper : _ ≡ world.keeper.ghost_name = ap (λ (p : OutsidePlace). p.keeper) stays in

@@ -1,84 +1,48 @@
-use Rattle.std.proofs.Common.{◌≡◌, ap, subst, inr, arith, ℕ, List, true, false, nat_eq}
+use Rattle.std.proofs.Common.{inr}
 use Rattle.std.proofs.lemmas.Result.{err_from_is_err_and}
-use Rattle.dav_link.specs.Awaiting.{MissesNothing}
-use Rattle.dav_link.proofs.Waiting.{awaits_true, awaits_false}
-use Rattle.dav_wire.specs.ResponseReading.{ResponseReadsAs}
-use Rattle.dav_wire.specs.declared.response_reader.ReadResponse.{ReadResponse}
-use Rattle.dav_wire.specs.declared.response_reader.ReadResponse.TheVariants.{Whole, Bad}
-use Rattle.target_dav.specs.Responses.{response_now}
-use Rattle.target_dav.specs.declared.receiving.Received.{Received}
-use Rattle.target_dav.proofs.Came.{ended_early, receives_none, came_bad, came_unread, came_whole}
+use Rattle.target_dav.proofs.Came.{came_bad, came_too_long, came_whole, reading_nothing, reading_on, receives_none}
 use Rattle.target_dav.proofs.receiving.receive.Goals as goal
 
-pub returns-then-not-branch : goal.returns-then-not-branch
-returns-then-not-branch g c =
-    let call = c.args.call.now in
-    let P = MissesNothing (response_now call) in
-    let old = g.L.Link.state c.args.link.now in
-    let new = g.L.Link.state c.await_message.new.link in
-    let came = c.in_ok-await_message.field-0 in
-    let ended : came ≡ false = grind (arith, c.if-not-branch.true) in
-    inr (ended_early call old new c.new-kept.result c.await_message.new.kept c.new-kept.ensures
-    (awaits_false (response_now call) P old new c.new-kept.result c.await_message.new.kept came
-    c.in_ok-await_message.ensures ended))
+pub loop-reader-init : goal.loop-reader-init
+loop-reader-init g c = (
+  reading_nothing c.args.call.now (g.L.Link.state c.args.link.now) c.new-reader.result
+      c.new-reader.ensures.told,
+  c.new-reader.ensures.takes,
+)
 
-pub returns-in_err-await_message : goal.returns-in_err-await_message
-returns-in_err-await_message g c =
+pub returns-in_err-read_piece : goal.returns-in_err-read_piece
+returns-in_err-read_piece g c =
+    let call = c.args.call.now in
+    let old = g.L.Link.state c.args.link.now in
+    let new = g.L.Link.state c.read_piece.new.link in
     let p = err_from_is_err_and c.from_residual.result c.from_residual.ensures.1 in
-    rw (p.1, p.2) (receives_none c.args.call.now (g.L.Link.state c.args.link.now)
-    (g.L.Link.state c.await_message.new.link) c.new-kept.result c.await_message.new.kept
-    c.await_message.result _ c.new-kept.ensures c.await_message.ensures c.in_err-await_message.was)
+    rw (p.1, p.2) (receives_none call old new c.read_piece.new.reader c.read_piece.result _
+    (c.read_piece.ensures.reads call old c.loop-reader.invariant.0) c.in_err-read_piece.was)
 
-pub returns-in_err-reply : goal.returns-in_err-reply
-returns-in_err-reply g c =
+pub returns-in-More : goal.returns-in-More
+returns-in-More g c =
     let call = c.args.call.now in
-    let P = MissesNothing (response_now call) in
     let old = g.L.Link.state c.args.link.now in
-    let new = g.L.Link.state c.await_message.new.link in
-    let came = c.in_ok-await_message.field-0 in
-    let whole : came ≡ true = grind (arith, c.if-not-branch.false) in
-    let held = awaits_true (response_now call) P old new c.new-kept.result c.await_message.new.kept
-    came c.in_ok-await_message.ensures whole in
-    let p = err_from_is_err_and c.from_residual-in_err-reply.result
-    c.from_residual-in_err-reply.ensures.1 in
-    rw (p.1, p.2) (came_unread P old new c.new-kept.result c.await_message.new.kept
-    c.new-kept.ensures held)
+    let new = g.L.Link.state c.read_piece.new.link in
+    let reader = c.read_piece.new.reader in
+    came_too_long call old new reader
+    (reading_on call old new reader c.in_ok-read_piece.field-0
+    (c.in_ok-read_piece.ensures.reads call old c.loop-reader.invariant.0) c.in-More.is)
+    (c.is_too_long.ensures.0 c.if-is_too_long.true)
 
 pub returns-in-Whole : goal.returns-in-Whole
 returns-in-Whole g c =
     let call = c.args.call.now in
-    let P = MissesNothing (response_now call) in
     let old = g.L.Link.state c.args.link.now in
-    let new = g.L.Link.state c.await_message.new.link in
-    let came = c.in_ok-await_message.field-0 in
-    let whole : came ≡ true = grind (arith, c.if-not-branch.false) in
-    let held = awaits_true (response_now call) P old new c.new-kept.result c.await_message.new.kept
-    came c.in_ok-await_message.ensures whole in
-    let used = c.in-Whole.used in
-    let received : Received = record {
-      reply = c.in-Whole.reply;
-      blob = c.in-Whole.blob;
-      alone = nat_eq used c.len.result;
-    } in
-    let read = subst (λ (r : ReadResponse). ResponseReadsAs call c.as_slice.result.now r)
-    c.in-Whole.is c.in_ok-reply.ensures in
-    let whole = subst (λ (l : List ℕ). ResponseReadsAs call l (Whole c.in-Whole.reply
-    c.in-Whole.blob used)) c.as_slice.ensures read in
-    came_whole call P old new c.new-kept.result c.await_message.new.kept received used
-    c.new-kept.ensures held whole (ap (λ (n : ℕ). nat_eq used n) c.len.ensures)
+    let new = g.L.Link.state c.read_piece.new.link in
+    came_whole call old new c.read_piece.new.reader c.in_ok-read_piece.field-0 c.in-Whole.rest
+    c.taken.result (c.in_ok-read_piece.ensures.reads call old c.loop-reader.invariant.0)
+    c.in-Whole.is c.taken.ensures.told c.taken.ensures.alone c.taken.ensures.lasts
 
-pub returns : goal.returns
-returns g c =
+pub returns-in-Bad : goal.returns-in-Bad
+returns-in-Bad g c =
     let call = c.args.call.now in
-    let P = MissesNothing (response_now call) in
     let old = g.L.Link.state c.args.link.now in
-    let new = g.L.Link.state c.await_message.new.link in
-    let came = c.in_ok-await_message.field-0 in
-    let whole : came ≡ true = grind (arith, c.if-not-branch.false) in
-    let held = awaits_true (response_now call) P old new c.new-kept.result c.await_message.new.kept
-    came c.in_ok-await_message.ensures whole in
-    let read = subst (λ (r : ReadResponse). ResponseReadsAs call c.as_slice.result.now r)
-    c.in-Bad.is c.in_ok-reply.ensures in
-    let bad = subst (λ (l : List ℕ). ResponseReadsAs call l Bad) c.as_slice.ensures read in
-    inr (came_bad call P old new c.new-kept.result c.await_message.new.kept c.new-kept.ensures held
-    bad)
+    let new = g.L.Link.state c.read_piece.new.link in
+    inr (came_bad call old new c.read_piece.new.reader c.in_ok-read_piece.field-0
+    (c.in_ok-read_piece.ensures.reads call old c.loop-reader.invariant.0) c.in-Bad.is)

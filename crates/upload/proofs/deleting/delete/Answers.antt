@@ -9,5 +9,5 @@ returns g c = record {
   ends = let path = c.args.path in
       hears_as (Delete path) (DeletesFile path) is_deletion _ _ _
       (λ reply answer shown ds it. (reply, gone_by path reply answer.0 answer.1, it))
-      (c.ask.ensures.ends is_deletion c.requires.sort);
+      (c.ask.ensures.ends is_deletion c.requires.may.sort);
 }

@@ -11,22 +11,23 @@ use Rattle.upload.proofs.deleting.delete_each.Goals as goal
 pub loop-index-init : goal.loop-index-init
 unfolding ForEach
 loop-index-init g c = record {
-  left = c.requires.all;
-  does = does_nothing is_deletion _ c.requires.ready;
+  left = c.requires.all.all;
+  does = does_nothing is_deletion _ c.requires.all.ready;
 }
 
-pub delete_one-requires-clause-ready : goal.delete_one-requires-clause-ready
-delete_one-requires-clause-ready g c = c.loop-index.invariant.does.ready
-
-pub delete_one-requires-clause-first : goal.delete_one-requires-clause-first
-delete_one-requires-clause-first g c =
+pub delete_one-requires : goal.delete_one-requires
+delete_one-requires g c =
     let ds = c.args.deletions.now in
-    let i = c.loop-index.index in (
-      drop (i + 1) ds,
-      c.loop-index.invariant.left
-          ∙ here_and_left ds i c.index-deletions-index.result (omega arith)
-          c.index-deletions-index.is,
-    )
+    let i = c.loop-index.index in
+    record {
+      first = record {
+        ready = c.loop-index.invariant.does.ready;
+        rest = drop (i + 1) ds;
+        first = c.loop-index.invariant.left
+            ∙ here_and_left ds i c.index-deletions-index.result (omega arith)
+            c.index-deletions-index.is;
+      };
+    }
 
 pub loop-index-preserved : goal.loop-index-preserved
 loop-index-preserved g c =
@@ -52,7 +53,7 @@ returns-in_err-delete_one g c = record {
 
 pub returns : goal.returns
 returns g c = record {
-  ends = all_of_them c.args.deletions.now (g.W.Session.now c.args.s.now) _ (sym c.requires.all)
+  ends = all_of_them c.args.deletions.now (g.W.Session.now c.args.s.now) _ (sym c.requires.all.all)
       (does_all DeletesOne is_deletion c.args.deletions.now c.loop-index.index _ _ (omega arith)
       c.loop-index.invariant.does);
 }

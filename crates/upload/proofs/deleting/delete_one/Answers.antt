@@ -1,3 +1,4 @@
+use Rattle.std.specs.Prelude.{refl}
 use Rattle.std.proofs.lemmas.Result.{err_from_is_err_and}
 use Rattle.jop_base.specs.declared.path.Path.TheVariants.{Item}
 use Rattle.local_store.specs.declared.change.Change.TheVariants.{Dropped}
@@ -7,28 +8,40 @@ use Rattle.upload.proofs.Deleted.{may_drop, stands, still_there}
 use Rattle.upload.specs.Deleting.{DeletesBytes, DeletesFile, is_deletion}
 use Rattle.upload.proofs.deleting.delete_one.Goals as goal
 
-pub delete-requires-clause-may : goal.delete-requires-clause-may
-delete-requires-clause-may g c = λ shown.
+pub delete-requires : goal.delete-requires
+delete-requires g c =
     let d = c.args.deletion.now in
+    let first = c.requires.first in
     record {
-      deletion = d;
-      at = stands (g.W.Session.now c.args.s.now).site d c.requires.first.0 c.requires.first.1;
+      may = record {
+        ready = first.ready;
+        sort = refl;
+        may = λ shown. record {
+          deletion = d;
+          at = stands (g.W.Session.now c.args.s.now).site d first.rest first.first;
+        };
+      };
     }
 
-pub delete_bytes-requires-clause-at : goal.delete_bytes-requires-clause-at
-delete_bytes-requires-clause-at g c =
+pub delete_bytes-requires : goal.delete_bytes-requires
+delete_bytes-requires g c =
     let d = c.args.deletion.now in
     let now = g.W.Session.now in
-    still_there d (now c.args.s.now) (now c.delete.new.s)
-    (stands (now c.args.s.now).site d c.requires.first.0 c.requires.first.1)
-    c.in_ok-delete.ensures.ends
+    let first = c.requires.first in
+    record {
+      has = record {
+        ready = c.in_ok-delete.ensures.ends.ready;
+        at = still_there d (now c.args.s.now) (now c.delete.new.s)
+            (stands (now c.args.s.now).site d first.rest first.first) c.in_ok-delete.ensures.ends;
+      };
+    }
 
 pub make-requires-clause-may : goal.make-requires-clause-may
 make-requires-clause-may g c =
     let d = c.args.deletion.now in
     let now = g.W.Session.now in
     may_drop d (now c.args.s.now) (now c.delete.new.s) (now c.delete_bytes.new.s)
-    (stands (now c.args.s.now).site d c.requires.first.0 c.requires.first.1)
+    (stands (now c.args.s.now).site d c.requires.first.rest c.requires.first.first)
     c.in_ok-delete.ensures.ends c.in_ok-delete_bytes.ensures.ends
 
 pub returns : goal.returns

@@ -21,12 +21,12 @@ pub returns-then-not-is_folder-clause-ends : goal.returns-then-not-is_folder-cla
 returns-then-not-is_folder-clause-ends g c =
     let row = c.args.row.now in
     clears_nothing row.id (is_folder (item_of row.content)) is_upload _
-    (sym c.is_folder.ensures ∙ c.if-not-is_folder.true) c.requires.ready
+    (sym c.is_folder.ensures ∙ c.if-not-is_folder.true) c.requires.found.ready
 
 pub returns-in_err-moves-clause-ends : goal.returns-in_err-moves-clause-ends
 returns-in_err-moves-clause-ends g c =
     let p = err_from_is_err_and c.from_residual.result c.from_residual.ensures.1 in
-    rw (p.1, p.2) (does_starves (does_nothing is_upload _ c.requires.ready))
+    rw (p.1, p.2) (does_starves (does_nothing is_upload _ c.requires.found.ready))
 
 -- what is made are the moves out of the folder
 pub make_each-requires-clause-allowed : goal.make_each-requires-clause-allowed
@@ -55,7 +55,8 @@ returns-clause-ends g c =
     (λ shown fits.
     subst (λ (cs : List Change). MayMakeAll (view_of shown d) cs) (sym are)
     (moves_may (filter (is_note_in row.id) d.tables.rows) (view_of shown d) row.id row
-    (is_going row d shown c.requires.found folder c.requires.ready.tidy.sound.rows_ordered)
+    (is_going row d shown c.requires.found.found folder
+    c.requires.found.ready.tidy.sound.rows_ordered)
     refl)))))
 
 pub returns-clause-found : goal.returns-clause-found
@@ -67,7 +68,7 @@ returns-clause-found g c =
     let are = c.as_slice.ensures ∙ (c.in_ok-moves.ensures
     ∙ ap (λ (t : Tables). folder_gone_changes t row.id) c.tables.ensures) in
     found_behind_moves row c.as_slice.result.now is_upload (now c.args.s.now) _ c.make_each.result
-    c.requires.found folder c.requires.ready.tidy.sound.rows_ordered are
+    c.requires.found.found folder c.requires.found.ready.tidy.sound.rows_ordered are
     (ends_unknown (ForEach Changes c.as_slice.result.now) is_upload (now c.args.s.now)
     (now c.make_each.new.self) c.make_each.result (g.met.W.Session.unshown c.args.s.now)
     (g.met.W.Session.unshown c.make_each.new.self)
@@ -75,5 +76,6 @@ returns-clause-found g c =
     (λ shown fits.
     subst (λ (cs : List Change). MayMakeAll (view_of shown d) cs) (sym are)
     (moves_may (filter (is_note_in row.id) d.tables.rows) (view_of shown d) row.id row
-    (is_going row d shown c.requires.found folder c.requires.ready.tidy.sound.rows_ordered)
+    (is_going row d shown c.requires.found.found folder
+    c.requires.found.ready.tidy.sound.rows_ordered)
     refl))))

@@ -14,7 +14,7 @@ returns-then-not-is_new_resource g c = record {
       let row = c.args.row.now in
       puts_no_bytes (blobs_of (g.W.Session.now c.args.s.now).site.keeper.kept) row.id
       (is_new_resource row) _ (sym c.is_new_resource.ensures ∙ c.if-not-is_new_resource.true)
-      c.requires.ready;
+      c.requires.seen.ready;
 }
 
 pub returns : goal.returns

@@ -14,29 +14,24 @@ use Rattle.upload.proofs.Loaded.{last_new, read_new, tables_new}
 use Rattle.upload.specs.Uploading.{PutsIfNew, PutsText, blobs_of, is_new_resource, is_upload}
 use Rattle.upload.proofs.putting.put_row.Goals as goal
 
-pub put_text-requires-clause-found : goal.put_text-requires-clause-found
-put_text-requires-clause-found g c =
-    let now = g.W.Session.now in
-    let row = c.args.row.now in
-    let a = now c.args.s.now in
-    let b = now c.put_if_new.new.s in
-    let blobs = blobs_of a.site.keeper.kept in
-    still_found row _ a.site b.site
-    (tables_new blobs row.id (is_new_resource row) is_upload a b c.in_ok-put_if_new.ensures.ends)
-    (last_new row.id blobs row.id (is_new_resource row) is_upload a b
-    c.in_ok-put_if_new.ensures.ends)
-    c.requires.seen.found
-
-pub put_text-requires-clause-readable : goal.put_text-requires-clause-readable
-put_text-requires-clause-readable g c =
+pub put_text-requires : goal.put_text-requires
+put_text-requires g c =
     let now = g.W.Session.now in
     let row = c.args.row.now in
     let a = now c.args.s.now in
     let b = now c.put_if_new.new.s in
     let blobs = blobs_of a.site.keeper.kept in
     let put = c.in_ok-put_if_new.ensures.ends in
-    still_plain a.site b.site (tables_new blobs row.id (is_new_resource row) is_upload a b put)
-    (read_new blobs row.id (is_new_resource row) is_upload a b put) c.requires.seen.readable
+    let tables = tables_new blobs row.id (is_new_resource row) is_upload a b put in
+    record {
+      may = record {
+        ready = put.ready;
+        found = still_found row _ a.site b.site tables
+            (last_new row.id blobs row.id (is_new_resource row) is_upload a b put) c.requires.seen.found;
+        readable = still_plain a.site b.site tables
+            (read_new blobs row.id (is_new_resource row) is_upload a b put) c.requires.seen.readable;
+      };
+    }
 
 pub make-requires-clause-may : goal.make-requires-clause-may
 make-requires-clause-may g c = λ shown.

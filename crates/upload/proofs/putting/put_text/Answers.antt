@@ -18,23 +18,23 @@ pub write_item-requires : goal.write_item-requires
 write_item-requires g c =
     let d = (g.W.Session.now c.args.s.now).site in
     subst IsItem (sym c.item.ensures)
-    (valid_item d.tables c.args.row.now c.requires.ready.tidy.sound c.requires.found.at)
+    (valid_item d.tables c.args.row.now c.requires.may.ready.tidy.sound c.requires.may.found.at)
 
 pub returns-in_err-text-clause-ends : goal.returns-in_err-text-clause-ends
 returns-in_err-text-clause-ends g c =
     let p = err_from_is_err_and c.from_residual.result c.from_residual.ensures.1 in
-    rw (p.1, p.2) (does_starves (does_nothing is_upload _ c.requires.ready))
+    rw (p.1, p.2) (does_starves (does_nothing is_upload _ c.requires.may.ready))
 
 pub returns-in_err-copy-clause-ends : goal.returns-in_err-copy-clause-ends
 returns-in_err-copy-clause-ends g c =
     let p = err_from_is_err_and c.from_residual-in_err-copy.result
     c.from_residual-in_err-copy.ensures.1 in
-    rw (p.1, p.2) (does_starves (does_nothing is_upload _ c.requires.ready))
+    rw (p.1, p.2) (does_starves (does_nothing is_upload _ c.requires.may.ready))
 
 pub ask-requires-clause-may : goal.ask-requires-clause-may
 ask-requires-clause-may g c = λ shown.
-    may_put c.args.row.now (g.W.Session.now c.args.s.now).site _ shown c.requires.found
-    c.requires.readable
+    may_put c.args.row.now (g.W.Session.now c.args.s.now).site _ shown c.requires.may.found
+    c.requires.may.readable
     (c.in_ok-copy.ensures ∙ (c.in_ok-text.ensures.written
     ∙ ap (λ (item : Item). written item) c.item.ensures))
 

@@ -21,5 +21,5 @@ returns-in-Unreadable g c = record {
   ends =
       let a = g.W.Session.now c.args.s.now in
       settles_nothing (blobs_of a.site.keeper.kept) c.args.row.now c.args.finding a
-      c.in-Unreadable.is c.requires.ready;
+      c.in-Unreadable.is c.requires.seen.ready;
 }

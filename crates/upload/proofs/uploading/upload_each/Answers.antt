@@ -22,18 +22,21 @@ loop-index-init g c = record {
   unput = c.requires.uploadable.unput;
   bytes = λ id waits. refl;
   left = c.requires.uploadable.left;
-  does = does_nothing is_upload _ c.requires.ready;
+  does = does_nothing is_upload _ c.requires.uploadable.ready;
 }
 
-pub upload_one-requires-clause-ready : goal.upload_one-requires-clause-ready
-upload_one-requires-clause-ready g c = c.loop-index.invariant.does.ready
-
-pub upload_one-requires-clause-readable : goal.upload_one-requires-clause-readable
-upload_one-requires-clause-readable g c =
+pub upload_one-requires : goal.upload_one-requires
+upload_one-requires g c =
     let a = (g.W.Session.now c.args.s.now).site in
-    plain_as a (g.W.Session.now c.loop-index.s).site c.loop-index.invariant.info
-    c.loop-index.invariant.read
-    (can_put a c.args.ids.now c.loop-index.index (omega arith) c.requires.uploadable.readable)
+    record {
+      can = record {
+        ready = c.loop-index.invariant.does.ready;
+        readable = plain_as a (g.W.Session.now c.loop-index.s).site c.loop-index.invariant.info
+            c.loop-index.invariant.read
+            (can_put a c.args.ids.now c.loop-index.index (omega arith) c.requires.uploadable.readable);
+        unput = c.loop-index.invariant.unput;
+      };
+    }
 
 pub loop-index-preserved : goal.loop-index-preserved
 loop-index-preserved g c =

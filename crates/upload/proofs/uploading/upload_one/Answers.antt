@@ -14,17 +14,19 @@ pub returns-in_err-waiting : goal.returns-in_err-waiting
 returns-in_err-waiting g c = record {
   ends =
       let p = err_from_is_err_and c.from_residual.result c.from_residual.ensures.1 in
-      rw (p.1, p.2) (does_starves (does_nothing is_upload _ c.requires.ready));
+      rw (p.1, p.2) (does_starves (does_nothing is_upload _ c.requires.can.ready));
 }
 
-pub upload_row-uploaded-requires-clause-uploadable : goal.upload_row-uploaded-requires-clause-uploadable
-upload_row-uploaded-requires-clause-uploadable g c =
-    let d = (g.W.Session.now c.args.s.now).site in
-    uploadable_at d c.args.id.now c.in-Some.row
-    (waits d.tables c.args.id.now c.in-Some.row
-    (sym c.in-Some.is ∙ (c.in_ok-waiting.ensures.row
-    ∙ ap (λ (t : Tables). waiting (row_at t c.args.id.now)) c.tables.ensures)))
-    c.requires.readable c.requires.unput
+pub upload_row-uploaded-requires : goal.upload_row-uploaded-requires
+upload_row-uploaded-requires g c =
+    let w = g.W.Session.now c.args.s.now in
+    record {
+      uploadable = uploadable_at w c.args.id.now c.in-Some.row
+          (waits w.site.tables c.args.id.now c.in-Some.row
+          (sym c.in-Some.is ∙ (c.in_ok-waiting.ensures.row
+          ∙ ap (λ (t : Tables). waiting (row_at t c.args.id.now)) c.tables.ensures)))
+          c.requires.can;
+    }
 
 pub returns-in-Some : goal.returns-in-Some
 returns-in-Some g c = record {
@@ -43,5 +45,5 @@ returns-in-None g c = record {
       uploads_found (blobs_of a.site.keeper.kept) c.args.id.now None a a
       (sym c.in-None.is ∙ (c.in_ok-waiting.ensures.row
       ∙ ap (λ (t : Tables). waiting (row_at t c.args.id.now)) c.tables.ensures))
-      (does_nothing is_upload a c.requires.ready);
+      (does_nothing is_upload a c.requires.can.ready);
 }

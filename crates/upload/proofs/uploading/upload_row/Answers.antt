@@ -8,23 +8,22 @@ use Rattle.upload.specs.Uploading.{blobs_of, is_upload}
 use Rattle.std.specs.Prelude.{refl}
 use Rattle.upload.proofs.uploading.upload_row.Goals as goal
 
-pub settle-requires-clause-ready : goal.settle-requires-clause-ready
-settle-requires-clause-ready g c = (c.in_ok-finding.ensures.ends is_upload refl).ready
-
-pub settle-requires-clause-seen : goal.settle-requires-clause-seen
-settle-requires-clause-seen g c =
+pub settle-requires : goal.settle-requires
+settle-requires g c =
     let row = c.args.row.now in
     let can = c.requires.uploadable in
     let found = c.in_ok-finding.ensures.ends is_upload refl in
+    let a = g.W.Session.now c.args.s.now in
+    let b = g.W.Session.now c.find.new.self in
     record {
-      found = found_row row _ is_upload _ _ c.find.ensures.same.tables can.at can.pending found;
-      sound = sound_behind row.id _ is_upload _ _ found;
-      readable =
-          let a = g.W.Session.now c.args.s.now in
-          let b = g.W.Session.now c.find.new.self in
-          still_plain a.site b.site c.find.ensures.same.tables
-          (read_row row.id c.in_ok-finding.finding is_upload a b found) can.readable;
-      unput = λ none. unput_row row.id _ is_upload _ _ found (can.unput none);
+      seen = record {
+        ready = found.ready;
+        found = found_row row _ is_upload _ _ c.find.ensures.same.tables can.at can.pending found;
+        sound = sound_behind row.id _ is_upload _ _ found;
+        readable = still_plain a.site b.site c.find.ensures.same.tables
+            (read_row row.id c.in_ok-finding.finding is_upload a b found) can.readable;
+        unput = λ none. unput_row row.id _ is_upload _ _ found (can.unput none);
+      };
     }
 
 pub returns : goal.returns

@@ -13,17 +13,20 @@ returns-in_err-ids-clause-ends g c =
     let p = err_from_is_err_and c.from_residual.result c.from_residual.ensures.1 in
     rw (p.1, p.2) (does_starves (does_nothing is_upload _ c.requires.can.ready))
 
-pub upload_each-requires-clause-uploadable : goal.upload_each-requires-clause-uploadable
-upload_each-requires-clause-uploadable g c =
-    let d = (g.W.Session.now c.args.s.now).site in
-    subst (λ (ids : List (List ℕ)). AreUploadable ids d)
-    (sym (c.as_slice.ensures ∙ (c.in_ok-ids.ensures
-    ∙ ap (λ (t : Tables). pending_ids t) c.tables.ensures)))
-    (record {
-      readable = c.requires.can.readable;
-      unput = c.requires.can.first;
-      left = left_first d;
-    })
+pub upload_each-requires : goal.upload_each-requires
+upload_each-requires g c =
+    let w = g.W.Session.now c.args.s.now in
+    record {
+      uploadable = subst (λ (ids : List (List ℕ)). AreUploadable ids w)
+          (sym (c.as_slice.ensures ∙ (c.in_ok-ids.ensures
+          ∙ ap (λ (t : Tables). pending_ids t) c.tables.ensures)))
+          (record {
+            ready = c.requires.can.ready;
+            readable = c.requires.can.readable;
+            unput = c.requires.can.first;
+            left = left_first w.site;
+          });
+    }
 
 pub returns-clause-ends : goal.returns-clause-ends
 returns-clause-ends g c =

@@ -12,12 +12,12 @@ use Rattle.upload.proofs.yielding.give_way.Goals as goal
 
 pub make-requires-clause-allowed : goal.make-requires-clause-allowed
 make-requires-clause-allowed g c =
-    subst IsAllowed (sym c.conflict_change.ensures) c.requires.may.sound
+    subst IsAllowed (sym c.conflict_change.ensures) c.requires.may.yields.sound
 
 pub make-requires-clause-may : goal.make-requires-clause-may
 make-requires-clause-may g c = λ shown.
     subst (λ (change : Change). MayChange (view_of shown (g.W.Session.now c.args.s.now).site) change)
-    (sym c.conflict_change.ensures) (c.requires.may.may shown)
+    (sym c.conflict_change.ensures) (c.requires.may.yields.may shown)
 
 pub make-requires-clause-more : goal.make-requires-clause-more
 make-requires-clause-more g c =

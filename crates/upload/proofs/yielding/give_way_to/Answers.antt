@@ -10,21 +10,23 @@ use Rattle.upload.proofs.Licensed.{may_yield, still_found}
 use Rattle.upload.specs.Uploading.{Yields, is_upload}
 use Rattle.upload.proofs.yielding.give_way_to.Goals as goal
 
-pub give_way-requires-clause-ready : goal.give_way-requires-clause-ready
-give_way-requires-clause-ready g c = (c.in_ok-fetch_bytes_of.ensures.ends is_upload refl).ready
-
-pub give_way-requires-clause-may : goal.give_way-requires-clause-may
-give_way-requires-clause-may g c =
+pub give_way-requires : goal.give_way-requires
+give_way-requires g c =
     let now = g.W.Session.now in
     let row = c.args.row.now in
     let remote = c.args.remote in
     let a = now c.args.s.now in
     let b = now c.fetch_bytes_of.new.s in
-    let keeps = got_keeps row.id (is_resource (item_of remote.1)) is_upload a b
-    (c.in_ok-fetch_bytes_of.ensures.ends is_upload refl) in
-    may_yield row remote b.site
-    (still_found row (Other remote) a.site b.site keeps.tables keeps.last c.requires.seen.found)
-    c.requires.seen.sound
+    let got = c.in_ok-fetch_bytes_of.ensures.ends is_upload refl in
+    let keeps = got_keeps row.id (is_resource (item_of remote.1)) is_upload a b got in
+    record {
+      may = record {
+        ready = got.ready;
+        yields = may_yield row remote b.site
+            (still_found row (Other remote) a.site b.site keeps.tables keeps.last c.requires.seen.found)
+            c.requires.seen.sound;
+      };
+    }
 
 pub returns : goal.returns
 returns g c = record {

@@ -4,12 +4,17 @@ use Rattle.upload.proofs.Folders.{may_go}
 use Rattle.upload.specs.Uploading.{Clears, Yields, is_upload}
 use Rattle.upload.proofs.yielding.let_go.Goals as goal
 
-pub give_way-requires-clause-may : goal.give_way-requires-clause-may
-give_way-requires-clause-may g c = record {
-  sound = tt;
-  may = λ shown.
-      may_go c.args.row.now (g.W.Session.now c.clear.new.s).site shown
-      c.in_ok-clear.ensures.found;
+pub give_way-requires : goal.give_way-requires
+give_way-requires g c = record {
+  may = record {
+    ready = c.in_ok-clear.ensures.ends.ready;
+    yields = record {
+      sound = tt;
+      may = λ shown.
+          may_go c.args.row.now (g.W.Session.now c.clear.new.s).site shown
+          c.in_ok-clear.ensures.found;
+    };
+  };
 }
 
 pub returns : goal.returns

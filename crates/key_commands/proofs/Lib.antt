@@ -1,0 +1,5 @@
+pub mod Shown
+pub mod Steps
+pub mod Leaving
+pub mod Counted
+pub mod Unhindered

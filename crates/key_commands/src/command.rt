@@ -1,0 +1,5 @@
+//! The commands: a room for each.
+
+pub(crate) mod blob;
+pub(crate) mod new;
+pub(crate) mod use_key;

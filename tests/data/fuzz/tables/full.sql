@@ -1,0 +1,13 @@
+pragma page_size = 4096;
+pragma application_id = 1785688180;
+pragma user_version = 1;
+create table meta (key TEXT PRIMARY KEY, value BLOB NOT NULL) STRICT;
+create table rows (id TEXT PRIMARY KEY, sealed INTEGER NOT NULL, content BLOB NOT NULL, base BLOB, pending INTEGER NOT NULL) STRICT;
+create table deletions (id TEXT PRIMARY KEY, resource INTEGER NOT NULL) STRICT;
+create table conflicts (number INTEGER PRIMARY KEY, note TEXT NOT NULL, content BLOB NOT NULL) STRICT;
+create table blobs (id TEXT PRIMARY KEY, bytes BLOB NOT NULL) STRICT;
+insert into rows values ('ffffffffffffffffffffffffffffffff', 0, cast('Home' || char(10) || char(10) || 'id: ffffffffffffffffffffffffffffffff' || char(10) || 'parent_id: ' || char(10) || 'type_: 2' as blob), null, 1);
+insert into rows values ('aaaaaaaaaaaaaaaaaaaaaaaaaaaaaaaa', 0, cast('Milk' || char(10) || char(10) || 'two' || char(10) || char(10) || 'id: aaaaaaaaaaaaaaaaaaaaaaaaaaaaaaaa' || char(10) || 'parent_id: ffffffffffffffffffffffffffffffff' || char(10) || 'type_: 1' as blob), null, 1);
+insert into deletions values ('dddddddddddddddddddddddddddddddd', 1);
+insert into conflicts values (1, 'aaaaaaaaaaaaaaaaaaaaaaaaaaaaaaaa', cast('Milk' || char(10) || char(10) || 'id: aaaaaaaaaaaaaaaaaaaaaaaaaaaaaaaa' || char(10) || 'type_: 1' as blob));
+insert into meta values ('client', cast('11111111111111111111111111111111' as blob)), ('next_conflict', cast('2' as blob)), ('moment', cast('5' as blob)), ('seen', cast('aaaaaaaaaaaaaaaaaaaaaaaaaaaaaaaa' as blob)), ('info', cast('{"version":3}' as blob));
