@@ -3,7 +3,7 @@
     sites.py PROGRAM FOLDER days TARGET ROOT    days of two clients on TARGET, whose files are in the folder ROOT, and over a folder
     sites.py PROGRAM FOLDER many TARGET ROOT    a first sync of 400 items
     sites.py PROGRAM FOLDER badly               one sync with each way of answering badly, and one with each of behaving well but oddly
-    sites.py PROGRAM FOLDER cut                 one sync with a listing that is cut behind each of its bytes
+    sites.py PROGRAM FOLDER cut                 syncs with a listing that is cut behind each of its bytes, several at a time
     sites.py PROGRAM FOLDER slowly              one sync with answers that end by the program's own limits alone
 
 Behind each sync with a server that answers badly all rows are there that were there before. The last line is a note of what was tried.
@@ -21,6 +21,7 @@ import subprocess
 import sys
 import threading
 import time
+from concurrent.futures import ThreadPoolExecutor
 
 sys.dont_write_bytecode = True
 
@@ -214,7 +215,7 @@ class Site(socketserver.ThreadingTCPServer):
         self.way = way
         self.calls = 0
         self.target = f"webdav:http://127.0.0.1:{self.server_address[1]}/dav/"
-        threading.Thread(target=self.serve_forever, daemon=True).start()
+        threading.Thread(target=self.serve_forever, args=(0.01,), daemon=True).start()
 
     def handle_error(self, request, client_address):
         pass
@@ -519,7 +520,6 @@ class Evening:
             fail(f"{name}: a row is gone")
         if took > most or memory > MOST_MEMORY:
             fail(f"{name}: {took} s, {memory} KiB")
-        return lines[0]
 
     def is_taken(self, name, way):
         told, outcome, _, _ = self.sync(name, way)
@@ -530,7 +530,7 @@ class Evening:
 def badly():
     evening = Evening()
     for name, way in BAD.items():
-        print(name, "--", evening.is_refused(name, way))
+        evening.is_refused(name, way)
     for name, way in GOOD.items():
         evening.is_taken(name, way)
     print(f"note: {len(BAD)} ways, and {len(GOOD)} that are well")
@@ -545,17 +545,21 @@ def slowly():
 
 def cut():
     evening = Evening()
-    whole = len(Site(copy.deepcopy(evening.files)).answer(b"PROPFIND", ROOT, b"").text())
-    head = whole - len(multistatus(Site(copy.deepcopy(evening.files)).answer(b"PROPFIND", ROOT, b"").entries))
+    listing = multistatus(Site(copy.deepcopy(evening.files)).answer(b"PROPFIND", ROOT, b"").entries)
     framings = ("length", "chunked", "none")
-    for at in range(whole - head):
-        def way(method, path, answer, out, at=at):
+
+    def is_refused_after(at):
+        def way(method, path, answer, out):
             if (method, path) == (b"PROPFIND", ROOT):
                 answer.body, answer.entries = multistatus(answer.entries)[:at], None
                 answer.framing = framings[at % 3]
 
         evening.is_refused(f"cut after {at} bytes", way)
-    print(f"note: after each of {whole - head} bytes")
+
+    with ThreadPoolExecutor(max_workers=os.cpu_count()) as pool:
+        for _ in pool.map(is_refused_after, range(len(listing))):
+            pass
+    print(f"note: after each of {len(listing)} bytes")
 
 
 {"days": days, "many": many, "badly": badly, "cut": cut, "slowly": slowly}[sys.argv[3]](*sys.argv[4:])

@@ -36,8 +36,8 @@ pub record BecomesNamed (client : List ℕ) (before after : OutsideNow) : Type 0
   pub drawn : Draws before.entropy.left (Ok client) after.entropy.left
   pub made : after ≡ with_change (Named client) (record before { entropy = after.entropy })
 
--- Each answer, by its cause. What is refused changes nothing; an id may have been drawn by then. No failure of the keeper
--- or of the random source is told as want of memory.
+-- Each answer, by its cause. What is refused changes nothing; an id may have been drawn by then. No
+-- failure of the keeper or of the random source is told as want of memory.
 abbrev pub Owns : OutsideNow → Result (List ℕ) OwnErr → OutsideNow → Type 0
 Owns before (Ok client) after = WasNamed client before after ⊎ BecomesNamed client before after
 Owns before (Err KeeperFault) after =

@@ -3,8 +3,8 @@ use Rattle.std.specs.Prelude.{ℕ, ◌≡◌, List, Some}
 use Rattle.jop_outside.specs.Plan.{Calls}
 use Rattle.dav_link.specs.Links.{LinkNow}
 
--- what is left to read of a link in memory, what was written to it, how often it was opened, how often it has failed, how
--- often for want of memory alone, and which calls are to fail
+-- what is left to read of a link in memory, what was written to it, how often it was opened, how often
+-- it has failed, how often for want of memory alone, and which calls are to fail
 pub record LinkMemory : Type 0 where
   pub left : List ℕ
   pub written : List ℕ

@@ -191,8 +191,8 @@ abbrev pub is_longer_than : Option ℕ → ℕ → Bool
 is_longer_than (Some length) limit = nat_lt limit length
 is_longer_than None limit = false
 
--- The bytes that were read begin with heads of 1xx and with the head of a response, which tells this, and whose body has
--- a length past the limit. That isn't waited for.
+-- The bytes that were read begin with heads of 1xx and with the head of a response, which tells this,
+-- and whose body has a length past the limit. That isn't waited for.
 pub record HasHeardLength (limits : Limits) (old : LinkNow) (limit : ℕ) (received : Received)
     (new : LinkNow) : Type 0 where
   pub bytes : List ℕ

@@ -1,7 +1,7 @@
 //! Master keys: which keys an info and a password give, and what is sealed and opened with them.
 //!
-//! Begin with [`unlock`], [`open_item`] and [`seal_item`], and with `specs/Rings.antt` and `specs/Opening.antt`. Nothing
-//! is claimed of secrecy.
+//! Begin with [`unlock`], [`open_item`] and [`seal_item`], and with `specs/Rings.antt` and
+//! `specs/Opening.antt`. Nothing is claimed of secrecy.
 #![tactic(auto)]
 
 mod blobs;

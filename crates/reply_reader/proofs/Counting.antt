@@ -1,5 +1,5 @@
 -- What the bytes so far read as, by what is counted of a body.
-use Rattle.std.proofs.Common.{◌≡◌, ℕ, ◌+◌, ◌-◌, ◌<◌, ◌≤◌, List, [], ◌∷◌, ◌++◌, length, take, drop, refl, sym, ap, subst, ◌∙◌, arith, inl, inr, append_assoc, append-nil, Bool, None}
+use Rattle.std.proofs.Common.{◌≡◌, ℕ, ◌+◌, ◌-◌, ◌<◌, ◌≤◌, List, [], ◌++◌, length, take, drop, refl, sym, ap, subst, ◌∙◌, arith, inl, inr, append-nil, Bool, None}
 use Rattle.std.specs.Prelude.{codes}
 use Rattle.std.specs.Char.{is_ascii_digit}
 use Rattle.std.proofs.lemmas.Bool.{cases_lt}
@@ -11,14 +11,13 @@ use Rattle.httparse.specs.Grammar.{ResponseHead, IsField, IsResponseHead, print_
 use Rattle.jop_target.specs.declared.call.Call.{Call}
 use Rattle.jop_target.specs.declared.call.Call.TheVariants as calls
 use Rattle.jop_target.specs.declared.reply.Reply.{Reply}
-use Rattle.jop_target.specs.declared.reply.Reply.TheVariants as replies
 use Rattle.dav_wire.proofs.RequestStream.{take_both}
 use Rattle.dav_wire.proofs.ResponseStream.{begins_append, bad_stays, head_within}
 use Rattle.dav_wire.specs.HeadReading.{HeadTells, LeavesOpen}
 use Rattle.dav_wire.specs.ResponseFrames.{frame_of}
 use Rattle.dav_wire.specs.ResponseReading.{BeginsWith, IsNoReply, IsReplyOf, IsUnfinished, IsUnreadable, ResponseBodyReadsAs, ResponseReadsAs, fields_of}
 use Rattle.dav_wire.specs.declared.frame.Frame.{Frame}
-use Rattle.dav_wire.specs.declared.frame.Frame.TheVariants.{Unreadable, TooLong, Body}
+use Rattle.dav_wire.specs.declared.frame.Frame.TheVariants.{Body}
 use Rattle.dav_wire.specs.declared.outcome.Outcome.{Outcome}
 use Rattle.dav_wire.specs.declared.response_reader.ReadResponse.{ReadResponse}
 use Rattle.dav_wire.specs.declared.response_reader.ReadResponse.TheVariants.{Whole, More, Bad}

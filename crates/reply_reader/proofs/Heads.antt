@@ -1,11 +1,11 @@
 -- What no head tells.
-use Rattle.std.proofs.Common.{◌≡◌, ℕ, List, Bool, true, false, cond, Option, Some, None, sym, subst}
+use Rattle.std.proofs.Common.{ℕ, List, Bool, true, false, cond, Option, Some, None, sym, subst}
 use Rattle.std.specs.Prelude.{nat_lt, ◌||◌, not, codes, length}
 use Rattle.jop_target.specs.declared.call.Call.{Call}
 use Rattle.dav_parts.specs.Fields.{Fields, values_of}
 use Rattle.dav_wire.specs.HeadReading.{HeadTells}
 use Rattle.dav_wire.specs.Requests.{is_none}
-use Rattle.dav_wire.specs.ResponseFrames.{frame_of, frame_from, now_of, outcome_of, body_count, is_too_long}
+use Rattle.dav_wire.specs.ResponseFrames.{frame_of, frame_from, now_of, outcome_of, body_count}
 use Rattle.dav_wire.specs.ResponseReading.{fields_of}
 use Rattle.dav_wire.specs.declared.frame.Frame.{Frame}
 use Rattle.dav_wire.specs.declared.frame.Frame.TheVariants.{Unreadable, TooLong, Body}

@@ -1,5 +1,5 @@
 -- What a reader says, and how little it holds.
-use Rattle.std.proofs.Common.{◌≡◌, ℕ, ◌<◌, Bool, List, [], ◌∷◌, ◌++◌, length, ap, subst, arith, append_assoc}
+use Rattle.std.proofs.Common.{ℕ, ◌<◌, Bool, List, [], ◌∷◌, ◌++◌, length, ap, subst, arith, append_assoc}
 use Rattle.jop_base.specs.declared.dir.Dir.{Dir}
 use Rattle.jop_target.specs.declared.call.Call.{Call}
 use Rattle.dav_wire.specs.ResponseReading.{ResponseReadsAs}

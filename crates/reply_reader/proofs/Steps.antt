@@ -1,9 +1,9 @@
 -- What each line, and each part of one, makes of a reader.
-use Rattle.std.proofs.Common.{◌≡◌, ℕ, ◌+◌, ◌<◌, ◌≤◌, List, [], ◌∷◌, ◌++◌, length, false, Option, Some, None, refl, sym, ap, subst, ◌∙◌, arith, append_assoc, append-nil}
+use Rattle.std.proofs.Common.{◌≡◌, ℕ, ◌+◌, ◌<◌, ◌≤◌, List, [], ◌∷◌, ◌++◌, length, false, Some, None, refl, sym, ap, subst, ◌∙◌, arith, append_assoc, append-nil}
 use Rattle.std.proofs.lemmas.List.{length-append}
 use Rattle.jop_base.specs.declared.dir.Dir.{Dir}
 use Rattle.jop_target.specs.declared.reply.Entry.{Entry}
-use Rattle.dav_parts.specs.Multistatus.{ending, folder_lines, IsLineOf, ComesAfter, ReadsLines, ReadsMultistatus}
+use Rattle.dav_parts.specs.Multistatus.{folder_lines, IsLineOf, ReadsLines, ReadsMultistatus}
 use Rattle.reply_reader.specs.Layouts.{HasNoFront, HasReadLayout, IsFront, IsHalfLine, LineSays, ReadsFrom, ReadsFurther, TakesLines, has_feed}
 use Rattle.reply_reader.specs.declared.layout_reader.LayoutReader.{LayoutReader}
 use Rattle.reply_reader.specs.declared.layout_reader.Place.{Place}

@@ -1,5 +1,5 @@
 -- How far the body that lists a folder was read.
-use Rattle.std.specs.Prelude.{◌≡◌, ℕ, ◌<◌, ◌≤◌, ◌==◌, Bool, false, List, [], ◌∷◌, ◌++◌, length, Option, Some, None}
+use Rattle.std.specs.Prelude.{◌≡◌, ℕ, ◌<◌, ◌≤◌, ◌==◌, Bool, false, List, [], ◌∷◌, ◌++◌, length, Option}
 use Rattle.std.specs.List.{list_any}
 use Rattle.dav_parts.specs.Multistatus.{IsLineOf, ComesAfter, ReadsLines, ReadsMultistatus, ending, folder_lines}
 use Rattle.jop_base.specs.declared.dir.Dir.{Dir}

@@ -156,23 +156,41 @@ impl ReplyReader {
         match frame {
             Frame::Unreadable => Ok(Fed::Bad),
             Frame::TooLong(count) => {
-                self.state = State::Told {
-                    reply: Reply::TooLarge { len: count },
-                    blob: Bytes::new(alloc),
-                };
-                Ok(Fed::Whole {
-                    rest: rest.len() as u64,
-                })
+                let reply = Reply::TooLarge { len: count };
+                let blob = Bytes::new(alloc);
+                self.state = State::Told { reply, blob };
+                let rest = rest.len() as u64;
+                Ok(Fed::Whole { rest })
             }
-            Frame::Body(now, outcome, count) => match outcome {
-                Outcome::Listing(dir) => {
-                    let lines = LayoutReader::new(alloc, dir);
-                    self.feed_lines(alloc, now, count, lines, rest)
-                }
-                // No head tells another outcome with a body.
-                Outcome::Other => Ok(Fed::Bad),
-                _ => self.feed_body(alloc, now, outcome, count, Bytes::new(alloc), rest),
-            },
+            Frame::Body(now, outcome, count) => self.begin_body(alloc, now, outcome, count, rest),
+        }
+    }
+
+    /// Reads on behind a head that tells a body of so many bytes.
+    fn begin_body(
+        &mut self,
+        alloc: Global,
+        now: u64,
+        outcome: Outcome,
+        count: u64,
+        rest: &[u8],
+    ) -> Result<Fed, AllocError>
+        ensures feeds { (call : Asked) (bytes : List ℕ) (len : ℕ) → self.old.call ≡ bare call
+            → HeadTells call bytes rest.now (Counted now outcome count) len
+            → LeavesOpen bytes self.old.lasts
+            → IfOk result (λ fed. Feeds call bytes fed self.new) }
+        ensures stands { IfOk result (λ fed. Stands fed self.new.state) }
+        ensures falls { (room : ℕ) → 2 ^ 64 ≤ room
+            → IfOk result (λ fed. FallsBelow room fed self.new.state) }
+    {
+        match outcome {
+            Outcome::Listing(dir) => {
+                let lines = LayoutReader::new(alloc, dir);
+                self.feed_lines(alloc, now, count, lines, rest)
+            }
+            // No head tells another outcome with a body.
+            Outcome::Other => Ok(Fed::Bad),
+            _ => self.feed_body(alloc, now, outcome, count, Bytes::new(alloc), rest),
         }
     }
 
@@ -245,10 +263,9 @@ impl ReplyReader {
         match lines.finish() {
             None => Ok(Fed::Bad),
             Some(entries) => {
-                self.state = State::Told {
-                    reply: Reply::Listed(Listing { now, entries }),
-                    blob: Bytes::new(alloc),
-                };
+                let reply = Reply::Listed(Listing { now, entries });
+                let blob = Bytes::new(alloc);
+                self.state = State::Told { reply, blob };
                 let rest = came - left;
                 Ok(Fed::Whole { rest })
             }

@@ -4,12 +4,11 @@ use Rattle.std.specs.Prelude.{◌==◌, ◌||◌, nat_le, nat_lt}
 use Rattle.std.proofs.lemmas.Bool.{and_parts}
 use Rattle.std.proofs.lemmas.Bool.Decides.{nat_tests}
 use Rattle.std.proofs.lemmas.List.Sums.{AllPass-from_list_all}
-use Rattle.jop_base.specs.Paths.{IsPath, dir_of}
 use Rattle.jop_base.specs.Times.{last_time}
 use Rattle.jop_base.specs.declared.dir.Dir.{Dir}
 use Rattle.jop_base.specs.declared.path.Path.{Path}
 use Rattle.jop_base.specs.declared.path.Path.TheVariants as paths
-use Rattle.jop_target.specs.Replies.{IsListing, IsReplyTo}
+use Rattle.jop_target.specs.Replies.{IsReplyTo}
 use Rattle.jop_target.specs.Store.{limit_of}
 use Rattle.jop_target.specs.Trail.{moment_of}
 use Rattle.jop_target.specs.declared.call.Call.{Call}
@@ -24,7 +23,7 @@ use Rattle.webdav_calls.specs.Outcomes.{call_outcome, content_outcome, done_if}
 use Rattle.webdav_calls.specs.Replies.{IsListingReply, IsMomentReply, IsOutcomeReply, IsResponseReply, safe_moment}
 use Rattle.webdav_calls.specs.declared.outcome.Outcome.TheVariants as outcomes
 use Rattle.target_webdav.specs.Budgets.{kept_limit}
-use Rattle.target_webdav.specs.Marks.{expects_info, is_before_end, is_entry_true, is_reply_true}
+use Rattle.target_webdav.specs.Marks.{is_before_end, is_entry_true, is_reply_true}
 use Rattle.target_webdav.specs.Serving.{reply_if_true}
 use Rattle.target_webdav.specs.declared.mark.Mark.{Mark}
 

@@ -36,9 +36,9 @@ use webdav_calls::{Site, ask, reply_of};
 /// memory, after a response with `Connection: close`, and after one behind which bytes came that nobody asked for. No
 /// request is sent twice.
 ///
-/// **Memory.** At most 256 MiB of a listing of the root are kept, 64 MiB of a blob, and 16 MiB of any other body. A
-/// file that is announced to be longer than its limit is `TooLarge`; what turns out to be longer, in chunks, is a
-/// fault.
+/// **Memory.** At most 256 MiB of a listing of the root are kept, 8 MiB of one of another folder, 64 MiB of a blob,
+/// and 16 MiB of any other body. A file that is announced to be longer than its limit is `TooLarge`; what turns out to
+/// be longer, in chunks, is a fault.
 #[derive(Drop)]
 pub struct WebDavTarget<L, S> {
     pub link: L,

@@ -1,7 +1,7 @@
-use Rattle.std.proofs.Common.{◌≡◌, sym, subst, ◌∙◌}
+use Rattle.std.proofs.Common.{sym, subst, ◌∙◌}
 use Rattle.std.proofs.lemmas.Bool.{false≢true}
 use Rattle.jop_target.specs.declared.reply.Entry.{Entry}
-use Rattle.dav_parts.specs.Multistatus.{ComesAfter, ending}
+use Rattle.dav_parts.specs.Multistatus.{ComesAfter}
 use Rattle.dav_parts.proofs.BytesLemmas.{bytes_eq_same}
 use Rattle.dav_parts.proofs.LineLemmas.{line_unique}
 use Rattle.reply_reader.proofs.line.read_line.Goals as goal

@@ -1,4 +1,4 @@
-use Rattle.std.proofs.Common.{◌≡◌, ◌∙◌, ◌++◌, List, ℕ, ap, subst, sym, append_assoc}
+use Rattle.std.proofs.Common.{◌∙◌, ◌++◌, List, ℕ, ap, subst, sym, append_assoc}
 use Rattle.reply_reader.specs.Layouts.{HasReadLayout}
 use Rattle.reply_reader.proofs.Steps.{stepped}
 use Rattle.reply_reader.proofs.layout_reader.LayoutReader.feed.Goals as goal

@@ -1,4 +1,4 @@
-use Rattle.std.proofs.Common.{◌≡◌, ◌∙◌, ◌++◌, ◌-◌, ◌<◌, length, sym, subst, take, drop, List, ℕ, arith}
+use Rattle.std.proofs.Common.{◌∙◌, ◌++◌, ◌-◌, ◌<◌, length, sym, subst, drop, List, ℕ, arith}
 use Rattle.std.proofs.lemmas.List.{take_rest}
 use Rattle.dav_wire.specs.HeadReading.{HeadTells}
 use Rattle.reply_reader.proofs.Standing.{bad_in, head_bad, head_goes_on, head_more_to_come, head_told, lasts_in, whole_in, whole_piece, within_piece}

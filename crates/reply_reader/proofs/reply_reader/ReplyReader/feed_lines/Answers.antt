@@ -18,5 +18,6 @@ pub returns-in-Some-clause-feeds : goal.returns-in-Some-clause-feeds
 returns-in-Some-clause-feeds c = λ call bytes body len count asks head stays counts at.
     lines_end call c.args.self.now.call bytes body c.args.piece.now c.args.now c.args.lines
     c.feed-2.new.self c.args.left len count c.args.self.now.lasts asks head stays counts
-    c.in_ok-feed-2.ensures.dir c.if-came-left.false c.in-Some.entries c.new.result c.new.ensures
+    c.in_ok-feed-2.ensures.dir c.if-came-left.false c.in-Some.entries
+    c.new-blob.result c.new-blob.ensures
     (c.in-Some.ensures _ (c.in_ok-feed-2.ensures.come body at))
