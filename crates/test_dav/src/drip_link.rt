@@ -3,10 +3,25 @@ ghost use Rattle.std.specs.Prelude.{None};
 use dav_link::{Link, MemLink};
 use jop_outside::Failed;
 
-/// A link that gives one byte a read, and takes one a write.
+/// A link that gives at most so many bytes a read, and one at least; it takes as many a write. It counts
+/// how often it is read and written.
 #[derive(Drop)]
 pub(crate) struct DripLink {
     pub(crate) link: MemLink,
+    size: usize,
+    pub(crate) reads: u64,
+    pub(crate) writes: u64,
+}
+
+impl DripLink {
+    pub(crate) fn new(link: MemLink, size: usize) -> DripLink {
+        DripLink {
+            link,
+            size,
+            reads: 0,
+            writes: 0,
+        }
+    }
 }
 
 impl Link for DripLink {
@@ -19,16 +34,20 @@ impl Link for DripLink {
     }
 
     fn read(&mut self, into: &mut [u8]) -> Result<usize, Failed> {
-        if into.is_empty() {
+        self.reads = self.reads.saturating_add(1);
+        let size = self.size.max(1);
+        if into.len() <= size {
             return self.link.read(into);
         }
-        self.link.read(&mut into[..1])
+        self.link.read(&mut into[..size])
     }
 
     fn write(&mut self, from: &[u8]) -> Result<usize, Failed> {
-        if from.is_empty() {
+        self.writes = self.writes.saturating_add(1);
+        let size = self.size.max(1);
+        if from.len() <= size {
             return self.link.write(from);
         }
-        self.link.write(&from[..1])
+        self.link.write(&from[..size])
     }
 }

@@ -1,7 +1,9 @@
 use crate::fault::{Fault, FaultKind};
 use crate::place::Place;
 use crate::scene::Scene;
-use crate::scenes::{ALL_KINDS, EDIT, NEW_CLIENT, NEW_TARGET, OLD_TARGET, SEALED, WANTS_KEY};
+use crate::scenes::{
+    ALL_KINDS, EDIT, LOST_INFO, NEW_CLIENT, NEW_TARGET, OLD_TARGET, SEALED, WANTS_KEY,
+};
 use crate::served::tree;
 use crate::standing::standing;
 use jop_base::Bytes;
@@ -140,6 +142,12 @@ fn a_sync_of_a_sealed_target_is_made_again(rt: HostRuntime) -> Result<(), Fail> 
 #[test]
 fn a_sync_that_wants_a_key_is_made_again(rt: HostRuntime) -> Result<(), Fail> {
     assert!(rt; comes_out(rt.alloc(), &WANTS_KEY)?);
+    Ok(())
+}
+
+#[test]
+fn a_sync_that_mends_the_info_is_made_again(rt: HostRuntime) -> Result<(), Fail> {
+    assert!(rt; comes_out(rt.alloc(), &LOST_INFO)?);
     Ok(())
 }
 

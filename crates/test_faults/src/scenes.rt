@@ -182,6 +182,23 @@ pub(crate) const WANTS_KEY: Scene = Scene {
     },
 };
 
+pub(crate) const LOST_INFO: Scene = Scene {
+    name: "a sync of a target whose info has lost what the client knows of it",
+    files: &[SEALED_INFO, FOLDER, NOTE],
+    day: "sync mem:",
+    since: &[INFO],
+    evening: "",
+    command: "sync mem:",
+    exit: 0,
+    asked: 6,
+    breaking: Breaking {
+        lost: 10,
+        landed: 10,
+        kept: 2,
+        passed: 20,
+    },
+};
+
 pub(crate) const NEW_TARGET: Scene = Scene {
     name: "an upgrade of a new target",
     files: &[],

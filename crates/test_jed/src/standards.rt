@@ -108,13 +108,18 @@ impl Example {
         ccm_open(aes, nonce, part(bytes, 0, self.adata), text, tag)
     }
 
-    /// Whether a sealed text isn't opened with another tag, and is with its own.
-    fn opens(&self, aes: &Aes, bytes: &[u8], text: &mut [u8], mut tag: [u8; 16]) -> bool {
+    /// Whether a sealed text isn't opened with another tag, and stays as it is.
+    fn refuses(&self, aes: &Aes, bytes: &[u8], text: &mut [u8], mut tag: [u8; 16]) -> bool {
         tag[3] ^= 1;
-        let other = self.open(aes, bytes, text, split(&tag, self.tag_len).0);
+        let refused = self.open(aes, bytes, text, split(&tag, self.tag_len).0);
         tag[3] ^= 1;
-        let own = self.open(aes, bytes, text, split(&tag, self.tag_len).0);
-        other == Err(CcmErr::BadTag) && own == Ok(()) && &*text == part(bytes, 0x20, self.text)
+        refused == Err(CcmErr::BadTag) && self.is_sealed(text, split(&tag, self.tag_len).0)
+    }
+
+    /// Whether it is opened with its own.
+    fn opens(&self, aes: &Aes, bytes: &[u8], text: &mut [u8], tag: [u8; 16]) -> bool {
+        let opened = self.open(aes, bytes, text, split(&tag, self.tag_len).0);
+        opened == Ok(()) && &*text == part(bytes, 0x20, self.text)
     }
 
     /// Whether its text, which is handed in, is sealed so and opened again.
@@ -123,7 +128,9 @@ impl Example {
         let Ok(tag) = ccm_seal(aes, nonce, adata, text, self.tag_len) else {
             return false;
         };
-        self.is_sealed(text, split(&tag, self.tag_len).0) && self.opens(aes, bytes, text, tag)
+        self.is_sealed(text, split(&tag, self.tag_len).0)
+            && self.refuses(aes, bytes, text, tag)
+            && self.opens(aes, bytes, text, tag)
     }
 
     fn comes_out(&self, alloc: Global, aes: &Aes, bytes: &[u8]) -> Result<bool, AllocError> {
@@ -172,7 +179,7 @@ fn is_sealed(
         &mut text,
         tag,
     );
-    Ok(sealed.is_ok())
+    Ok(sealed != Err(CcmErr::BadParams))
 }
 
 #[test]
@@ -217,14 +224,19 @@ fn hmacs_are_those_of_the_standard(rt: HostRuntime) -> Result<(), Fail> {
     Ok(())
 }
 
-// RFC 7914, section 11, and two of the IETF's draft of vectors for this function.
+// RFC 7914, section 11, and three of the IETF's draft of vectors for this function.
 #[test]
 fn keys_are_those_of_the_standard(rt: HostRuntime) {
     for (own, first, last) in [
         (
+            pbkdf2(b"password", b"salt", 1),
+            0x120fb6cffcf8b32c43e7225256c4f837u128,
+            0xa86548c92ccc35480805987cb70be17bu128,
+        ),
+        (
             pbkdf2(b"passwd", b"salt", 1),
-            0x55ac046e56e3089fec1691c22544b605u128,
-            0xf94185216dde0465e68b9d57c20dacbcu128,
+            0x55ac046e56e3089fec1691c22544b605,
+            0xf94185216dde0465e68b9d57c20dacbc,
         ),
         (
             pbkdf2(b"Password", b"NaCl", 80_000),

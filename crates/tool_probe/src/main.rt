@@ -5,7 +5,8 @@
 //!   them: key, nonce, associated data and text in hexadecimal digits, and the length of the tag. A line is
 //!   printed for each: the sealed text and its tag in hexadecimal digits, and whether both open to the text
 //!   again; or `refused`.
-//! - `tool_probe speed` prints five lines, each with the microseconds of four jobs (`cipher_speed.rt`).
+//! - `tool_probe speed` does each job of `cipher_speed.rt` five times, and prints a line each time: its name, the
+//!   microseconds that it took, and a number that it made.
 //! - `tool_probe requests` prints a line for each request of WebDAV on standard input: the line of the call that
 //!   it asks for and how many bytes it takes, or its status.
 //! - `tool_probe responses` writes a response of each kind, one after another.
@@ -16,8 +17,11 @@
 //!   reading its tables, and how many rows they have.
 //! - `tool_probe upload COUNT` saves so many notes of 1 KiB with a keeper in memory, uploads them to a new target
 //!   in memory, and prints the milliseconds that the upload took.
+//! - `tool_probe answers KIND` prints a line for each input on standard input, what it reads as: a text of
+//!   an item, an info, a sealed text, a lock's name, a response to a listing, or a request (`answers.rt`).
 #![tactic(auto)]
 
+mod answers;
 mod cipher_speed;
 mod ciphers;
 mod keepers;
@@ -30,7 +34,7 @@ use crate::trouble::Trouble;
 use std::env;
 
 const USAGE: &str = "usage: tool_probe seal | speed | requests | responses | listing \
-    | notes FILE COUNT | read FILE | upload COUNT";
+    | notes FILE COUNT | read FILE | upload COUNT | answers KIND";
 
 fn main(rt: HostRuntime) -> anyhow::Result<()> {
     let mut words = env::args(&rt)?.skip(1);
@@ -53,6 +57,7 @@ fn probe(rt: &HostRuntime, verb: &str, first: &str, second: &str) -> anyhow::Res
         "requests" => messages::requests(rt),
         "responses" => messages::responses(rt),
         "listing" => messages::listing(rt),
+        "answers" => answers::answers(rt, first),
         "notes" => measured(keepers::time_keeper(rt, first, Some(number(second)))),
         "read" => measured(keepers::time_keeper(rt, first, None)),
         "upload" => measured(uploads::time_upload(rt, number(first))),

@@ -14,7 +14,7 @@ use std::io::{self, Read, Write};
 /// The most requests that are read.
 const MOST: usize = 1_000;
 
-fn input(rt: &HostRuntime) -> io::Result<Vec<u8>> {
+pub(crate) fn input(rt: &HostRuntime) -> io::Result<Vec<u8>> {
     let mut bytes = Vec::new(rt.alloc());
     rt.stdin().read_to_end(&mut bytes)?;
     Ok(bytes)
@@ -35,7 +35,7 @@ pub(crate) fn requests(rt: &HostRuntime) -> anyhow::Result<()> {
 }
 
 /// Prints what the bytes begin with, and gives how many of them that takes.
-fn request(rt: &HostRuntime, bytes: &[u8]) -> anyhow::Result<usize> {
+pub(crate) fn request(rt: &HostRuntime, bytes: &[u8]) -> anyhow::Result<usize> {
     match read_request(rt.alloc(), bytes)? {
         ReadRequest::Whole { request, used } => {
             tell(rt, &request, used)?;
@@ -141,7 +141,12 @@ fn refusals(rt: &HostRuntime) -> anyhow::Result<()> {
 /// Reads the response to a listing of the root, and prints how many files it has.
 pub(crate) fn listing(rt: &HostRuntime) -> anyhow::Result<()> {
     let bytes = input(rt)?;
-    match read_response(rt.alloc(), &Call::List(Dir::Root), bytes.as_slice())? {
+    listing_in(rt, bytes.as_slice())
+}
+
+/// The same of a response that is given.
+pub(crate) fn listing_in(rt: &HostRuntime, bytes: &[u8]) -> anyhow::Result<()> {
+    match read_response(rt.alloc(), &Call::List(Dir::Root), bytes)? {
         ReadResponse::Whole {
             reply,
             blob: _blob,
